@@ -25,8 +25,7 @@ Without them: CF_NO_MODULE=1 pip install .., and then CF_LIBRARY=/path/of/libcf.
 def of_package(option: str) -> List[str]:
     """What pkg-config tells of the library."""
     try:
-        return subprocess.run(["pkg-config", option, "cf"], stdout=subprocess.PIPE, stderr=subprocess.DEVNULL,
-                              universal_newlines=True).stdout.split()
+        return subprocess.run(["pkg-config", option, "cf"], stdout=subprocess.PIPE, stderr=subprocess.DEVNULL, universal_newlines=True).stdout.split()
     except OSError:
         return []
 

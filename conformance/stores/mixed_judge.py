@@ -7,6 +7,7 @@ function was called with, and so what it had to give. It also checks that:
 - the effect of a transactional function is there once if its finish is, and nowhere else;
 - each value and error was put by somebody who meant it for this stage of this request, by a timer that was set for it, or by a compose;
 - what calls were answered, stages showed and histories told is what the row of the request says;
+- no word stands whose request was dropped;
 - no request was closed with stages left, unless the process that attached was killed before it opened the request again; and no timer was lost;
 - each kind of fault and stage was in some request, as WANTED says.
 """
@@ -47,8 +48,7 @@ KEPT = {  # what keeps the rows of requests that are dropped
         "create trigger keep_word before delete on cf_word for each row execute function keep_word()",
     ],
 }
-# PostgreSQL lets a put that is under way land behind the drop of its request, also at a place whose word was dropped. These aren't judged.
-LEFT_BEHIND = "select request from cf_word where request not in (select id from cf_request)"
+LEFT_BEHIND = "select request, count(*) from cf_word where request not in (select id from cf_request) group by request"
 KINDS = ("transactional", "tried again", "once", "timed", "called back", "opened again", "shared")  # what may stand in one request
 WANTED = [  # what each run has to have had, but for transactions where the engine has none
     *(f"{kind}, {where}" for kind in ("transactional", "tried again", "once") for where in ("first", "in the middle", "last")),
@@ -76,7 +76,7 @@ class MixedJudge(Judge):
         self.sessions, self.calls = {}, collections.defaultdict(collections.Counter)  # of a process; by label and process
         self.meant = collections.defaultdict(set)
         self.notes = collections.defaultdict(list)
-        self.effects, self.beside, self.labels = collections.Counter(), set(), set()
+        self.effects, self.labels = collections.Counter(), set()
 
     # What was written down.
 
@@ -139,7 +139,7 @@ class MixedJudge(Judge):
             return
         self.effects.update(it for it, in tables(self.address, "select name from effect"))
         kept, payloads = collections.defaultdict(dict), collections.defaultdict(dict)
-        self.beside = {it[0] for it in tables(self.address, LEFT_BEHIND)}
+        self.wrong += [f"request {it} was dropped, and {many} of its words stand" for it, many in tables(self.address, LEFT_BEHIND)]
         for request, at, word, token, payload in tables(self.address, "select * from kept_word"):
             kept[request][at] = (word, token)
             if payload is not None:
@@ -162,11 +162,7 @@ class MixedJudge(Judge):
                 self.told[kind, name, number].append(rest)
         with open(f"{self.folder}/histories", "w") as out:
             for key in sorted(set(self.rows) | set(self.said)):
-                if key in self.rows and key[1] in self.beside:
-                    self.count["dropped beside a put"] += 1
-                    labels |= {it for it in self.calls if it.startswith(key[0] + ".")}
-                    self.labels = set()
-                elif key in self.rows:
+                if key in self.rows:
                     try:
                         out.write(self.request(key) + "\n")
                     except UNFIT as error:

@@ -1,9 +1,8 @@
 """What is mutated in each language, and by which rules."""
-import ast
 import re
 import subprocess
 from pathlib import Path
-from typing import Dict, Iterable, Iterator, List, NamedTuple, Sequence, Set
+from typing import Dict, Iterable, List, NamedTuple, Sequence, Set
 
 from mutating import of_python, of_tokens
 from mutating.mutant import Mutant, Place, mutants_of
@@ -25,17 +24,21 @@ class Language(NamedTuple):
         return TOP / "clients" / self.client
 
     def files(self) -> List[str]:
-        found = {path for pattern in self.sources for path in self.folder.glob(pattern)
-                 if "stand-ins" not in path.parts and "target" not in path.parts}
+        found = {
+            path for pattern in self.sources for path in self.folder.glob(pattern) if "stand-ins" not in path.parts and "target" not in path.parts
+        }
         return sorted(str(path.relative_to(self.folder)) for path in found - test_modules(found))
 
 
-LANGUAGES = {it.name: it for it in [
-    Language("python", "python", ["cf/**/*.py"]),
-    Language("c", "python", ["native/*.c"]),
-    Language("java", "java", ["src/cf/**/*.java"]),
-    Language("rust", "rust", ["*/src/**/*.rs"]),
-]}
+LANGUAGES = {
+    it.name: it
+    for it in [
+        Language("python", "python", ["cf/**/*.py"]),
+        Language("c", "python", ["native/*.c"]),
+        Language("java", "java", ["src/cf/**/*.java"]),
+        Language("rust", "rust", ["*/src/**/*.rs"]),
+    ]
+}
 
 
 def test_modules(paths: Iterable[Path]) -> Set[Path]:
@@ -85,35 +88,6 @@ def mutants(language: Language, wanted: Sequence[str] = ()) -> List[Mutant]:
     files = [it for it in every if it in wanted] if wanted else every
     found = places(language.name, language.folder, files, [it for it in every if it not in files])
     return [it for file in files for it in mutants_of(file, (language.folder / file).read_text(encoding="utf-8"), found[file])]
-
-
-def at_import(tree: ast.AST) -> Iterator[ast.AST]:
-    """The nodes that run where a module is imported, without those that are for types alone."""
-    for node in ast.iter_child_nodes(tree):
-        if isinstance(node, (ast.FunctionDef, ast.AsyncFunctionDef)):
-            continue
-        if not (isinstance(node, ast.If) and isinstance(node.test, ast.Name) and node.test.id == "TYPE_CHECKING"):
-            yield node
-            yield from at_import(node)
-
-
-def imported(file: str, text: str) -> List[str]:
-    """The modules of Python that are imported with a file, or by its functions from beside it, as dotted names. Tests start programs and call
-    functions that import more, so all that a file of tests names counts."""
-    package = file[:-3].replace("/", ".").split(".")[:-1]
-    tree, is_test = ast.parse(text), file.startswith("tests/")
-    found = re.findall(r"\bcf(?:\.\w+)+", text) if is_test else []
-    early = list(at_import(tree))
-    for node in ast.walk(tree):
-        if not is_test and node not in early and not (isinstance(node, ast.ImportFrom) and node.level == 1):
-            continue
-        if isinstance(node, ast.Import):
-            found += [it.name for it in node.names]
-        elif isinstance(node, ast.ImportFrom):
-            base = package[: len(package) - node.level + 1] if node.level else []
-            name = ".".join([*base, *([node.module] if node.module else [])])
-            found += [name, *(f"{name}.{it.name}" for it in node.names)]
-    return found
 
 
 def closure(first: Iterable[str], follow: Dict[str, List[str]]) -> List[str]:

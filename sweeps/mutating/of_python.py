@@ -8,14 +8,21 @@ from mutating.mutant import Place, statement_rule
 Function = Union[ast.FunctionDef, ast.AsyncFunctionDef]
 Signatures = Mapping[str, Sequence[str]]  # of each function's name the types of its parameters
 BOUNDS = {ast.Lt: ("<", "<="), ast.LtE: ("<=", "<"), ast.Gt: (">", ">="), ast.GtE: (">=", ">")}
-EQUALS = {ast.Eq: ("==", "!="), ast.NotEq: ("!=", "=="), ast.Is: (r"is", "is not"), ast.IsNot: (r"is\s+not", "is"), ast.In: ("in", "not in"),
-          ast.NotIn: (r"not\s+in", "in")}
+EQUALS = {
+    ast.Eq: ("==", "!="),
+    ast.NotEq: ("!=", "=="),
+    ast.Is: (r"is", "is not"),
+    ast.IsNot: (r"is\s+not", "is"),
+    ast.In: ("in", "not in"),
+    ast.NotIn: (r"not\s+in", "in"),
+}
 
 
 def parameters(function: Function) -> List[str]:
     """The types of what is given by position, without the object itself."""
-    types = [ast.dump(it.annotation) if it.annotation else "" for it in [*function.args.posonlyargs, *function.args.args]
-             if it.arg not in ("self", "cls")]
+    types = [
+        ast.dump(it.annotation) if it.annotation else "" for it in [*function.args.posonlyargs, *function.args.args] if it.arg not in ("self", "cls")
+    ]
     return types
 
 

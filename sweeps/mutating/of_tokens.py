@@ -5,17 +5,51 @@ since the sources are laid out by rustfmt: only an operator that joins two expre
 expression or statement after all can't be built, and then counts for nothing. C's sources are laid out alike.
 """
 import re
-from typing import Dict, List, Mapping, NamedTuple, Optional, Sequence
+from typing import Dict, List, Mapping, NamedTuple, Sequence
 
 from mutating.mutant import Place, statement_rule
 from mutating.tokens import Tokens
 
 Signatures = Mapping[str, Sequence[str]]
-OTHER = {"<": ("bound", "<="), "<=": ("bound", "<"), ">": ("bound", ">="), ">=": ("bound", ">"), "==": ("equal", "!="), "!=": ("equal", "=="),
-         "&&": ("and/or", "||"), "||": ("and/or", "&&")}
+OTHER = {
+    "<": ("bound", "<="),
+    "<=": ("bound", "<"),
+    ">": ("bound", ">="),
+    ">=": ("bound", ">"),
+    "==": ("equal", "!="),
+    "!=": ("equal", "=="),
+    "&&": ("and/or", "||"),
+    "||": ("and/or", "&&"),
+}
 NO_VALUE = {"move", "return", "in", "else", "match", "if", "while", "=", "(", ",", "=>", "{", ";", "&"}  # behind these `||` begins a closure
-NOT_DROPPED = {"use", "fn", "struct", "enum", "impl", "const", "static", "type", "mod", "pub", "macro_rules", "extern", "#", "assert", "assert_eq",
-               "assert_ne", "debug_assert", "debug_assert_eq", "debug_assert_ne", "unsafe", "trait", "case", "default", "goto", "typedef", "register"}
+NOT_DROPPED = {
+    "use",
+    "fn",
+    "struct",
+    "enum",
+    "impl",
+    "const",
+    "static",
+    "type",
+    "mod",
+    "pub",
+    "macro_rules",
+    "extern",
+    "#",
+    "assert",
+    "assert_eq",
+    "assert_ne",
+    "debug_assert",
+    "debug_assert_eq",
+    "debug_assert_ne",
+    "unsafe",
+    "trait",
+    "case",
+    "default",
+    "goto",
+    "typedef",
+    "register",
+}
 BLOCKS = {"if", "while", "for", "loop", "match", "unsafe", "{", "do", "switch"}  # statements that end with a block
 DEFAULTS = r"(?:[ui](?:8|16|32|64|128|size)|f64|String|Duration|Vec<.*>)$"
 
@@ -64,8 +98,9 @@ def functions(tokens: Tokens, is_c: bool) -> List[Function]:
             where = tokens.next_of("where {", closing + 1, opening + 1) or opening
             returns = tokens.said(closing + 2, where - 1) if tokens.word(closing + 1) == "->" else ""
         before = [tokens.word(it) for it in range(max(0, k - 4), k)]
-        found.append(Function(tokens.word(k), [it for it in types if it], returns, opening, "const" in before,
-                              tokens.word(k) == "drop" and types == [""]))
+        found.append(
+            Function(tokens.word(k), [it for it in types if it], returns, opening, "const" in before, tokens.word(k) == "drop" and types == [""])
+        )
     return found
 
 
@@ -224,10 +259,16 @@ class Finder:
             if tokens.word(first + 1).startswith("_"):
                 self.replace("with", first, last, ";")
             return
-        is_declared = self.is_c and tokens[first].kind == "name" and (tokens[first + 1].kind == "name" or tokens.word(first + 1) == "*") \
+        is_declared = (
+            self.is_c
+            and tokens[first].kind == "name"
+            and (tokens[first + 1].kind == "name" or tokens.word(first + 1) == "*")
             and word not in ("return", "break", "continue")
+        )
         if word in NOT_DROPPED or is_declared or word in BLOCKS or first == last:
             return
+        if tokens.said(first, last - 1).startswith("drop(") and last == first + 4 and last + 1 == tokens.other[function.opening]:
+            return  # (it is dropped there anyway)
         calls = [tokens.word(k - 1) for k in range(first + 1, last) if tokens.word(k) == "(" and tokens[k - 1].kind == "name"]
         self.replace(statement_rule(calls[-1] if calls else "", is_last), first, last, ";")
 
@@ -237,7 +278,8 @@ class Finder:
         closing = tokens.other[opening]
         if function.returns == "" and (tokens.next_of(";", opening + 1, closing) or closing) >= closing - 1:
             return  # one statement, which is dropped
-        news = [f" return {it};" for it in defaults(function.returns)] if function.returns else [" return;"]
+        said = tokens.said(opening + 1, closing - 1)  # (where that is all that it does anyway, nothing changes)
+        news = [f" return {it};" for it in defaults(function.returns) if it != said] if function.returns else [" return;"]
         for new in news if closing > opening + 1 else []:
             self.places.append(Place("early", tokens[opening].end, tokens[opening].end, new))
 

@@ -3,8 +3,6 @@ import re
 from pathlib import Path
 from typing import List, NamedTuple, Sequence
 
-from mutating.languages import closure, imported
-
 
 class Program(NamedTuple):
     """A test program: a file of tests in Python, a program of cargo's in Rust."""
@@ -31,37 +29,23 @@ def nearness(program: Program, file: str) -> int:
 
 # Python
 
-
-def modules_of(folder: Path, file: str) -> List[str]:
-    """The files of the modules that a file names, with the packages that they are in."""
-    found = []
-    for name in imported(file, (folder / file).read_text(encoding="utf-8")):
-        parts = name.split(".")
-        for k in range(1, len(parts) + 1):
-            path = "/".join(parts[:k])
-            beside = str(Path(file).parent / path)
-            found += [it for it in [path + ".py", path + "/__init__.py", beside + ".py"] if (folder / it).is_file()]
-    return found
+OF_MODULE = ["service", "tests"]  # folders of tests that are run over the C module
 
 
 def programs_of_python(folder: Path, is_c: bool) -> List[Program]:
-    every = [str(path.relative_to(folder)) for part in ["cf", "tests"] for path in folder.glob(part + "/**/*.py")]
-    follow = {file: modules_of(folder, file) for file in every}
-    found = []
-    for path in sorted((folder / "tests").glob("**/test_*.py")):
-        file = str(path.relative_to(folder))
-        reaches = closure([file], follow)
-        if is_c:
-            reaches = [it for it in ["native/_cf.c"] if "tests/service" in file and "cf/service/_core.py" in reaches]
-        if reaches:
-            found.append(Program(file, ["-B", file], file, path.read_text(encoding="utf-8"), reaches))
-    return found
+    """The files of tests; what each of them reaches is written down elsewhere."""
+    paths = [path for path in sorted((folder / "tests").glob("**/test_*.py")) if not is_c or path.parent.name in OF_MODULE]
+    return [Program(str(path.relative_to(folder)), [], str(path.relative_to(folder)), path.read_text(encoding="utf-8"), []) for path in paths]
 
 
 # Rust
 
-ABOVE = {"cf-sys": ["cf-sys", "cf-graph", "cf", "cf-store"], "cf-graph": ["cf-graph", "cf", "cf-store"], "cf": ["cf", "cf-store"],
-         "cf-store": ["cf-store"]}  # of each crate those whose tests may run it
+ABOVE = {
+    "cf-sys": ["cf-sys", "cf-graph", "cf", "cf-store"],
+    "cf-graph": ["cf-graph", "cf", "cf-store"],
+    "cf": ["cf", "cf-store"],
+    "cf-store": ["cf-store"],
+}  # of each crate those whose tests may run it
 
 
 def program_of_rust(folder: Path, crate: str, name: str, executable: str) -> Program:

@@ -59,18 +59,25 @@ def recorded(alone: Batch, file: Path, run: RunIt, say: Callable[[str], None], l
 def record(programs: Sequence[Program], stores: str, folder: Path, run: RunIt, say: Callable[[str], None], seats: int, longest: float) -> List[Test]:
     """All tests that pass over the code as it is. Those that have a place for rows run once without a database and once over one, if there is one."""
     folder.mkdir()
-    every = [Batch(program, over, [name]) for program in programs for name in tests_in(program, run)
-             for over in (["", stores] if stores and "Place" in program.text else [""])]
+    every = [
+        Batch(program, over, [name])
+        for program in programs
+        for name in tests_in(program, run)
+        for over in (["", stores] if stores and "Place" in program.text else [""])
+    ]
     with ThreadPoolExecutor(seats) as pool:
         found = pool.map(lambda it: recorded(it[1], folder / str(it[0]), run, say, longest), enumerate(every))
         return [it for it in found if it]
 
 
 def batches(tests: Sequence[Test], number: str, programs: Sequence[Program]) -> List[Batch]:
-    """What is run over a mutant: the quick tests that reach it, those of one program together and by the order of the programs; then each slow one."""
+    """What is run over a mutant: the quick tests that reach it, those of a program together, by the order of the programs; then each slow one."""
     reaching = [it.alone for it in tests if it.reaches(number)]
-    together = [[it for it in reaching if (it.program, it.stores) == way and it.seconds < QUICK]
-                for program in programs for way in dict.fromkeys((it.program, it.stores) for it in reaching if it.program == program)]
+    together = [
+        [it for it in reaching if it.program == program and it.stores == stores and it.seconds < QUICK]
+        for program in programs
+        for stores in sorted({it.stores for it in reaching})
+    ]
     quick = [its[0]._replace(tests=[it.tests[0] for it in its], seconds=sum(it.seconds for it in its)) for its in together if its]
     return quick + sorted((it for it in reaching if it.seconds >= QUICK), key=lambda it: it.seconds)
 

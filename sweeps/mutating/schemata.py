@@ -3,8 +3,8 @@
     fn sum(..) -> u64 { if is_mutant(1, 0) { a body } else if is_mutant(2, 1) { another body } else { the body as it is } }
 
 The switch stands in each file, since some are parts of tests, too. It reads the variable CF_MUTANT once, and writes the number of each mutant whose
-function is called to the file that CF_REACHED names. Where rustc refuses one of the bodies, that mutant can't be built. Where it refuses something else
-of a function, as a `const fn` or bodies of several unnamed types, the function's mutants are built one at a time.
+function is called to the file that CF_REACHED names. Where rustc refuses one of the bodies, that mutant can't be built. Where it refuses something
+else of a function, as a `const fn` or bodies of several unnamed types, the function's mutants are built one at a time.
 """
 from typing import Any, Dict, Iterable, List, NamedTuple, Sequence, Tuple
 

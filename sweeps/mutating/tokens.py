@@ -2,14 +2,17 @@
 import re
 from typing import Dict, List, NamedTuple, Optional, Tuple
 
-WORD = re.compile(r"""
+WORD = re.compile(
+    r"""
       (?P<space>\s+|//[^\n]*|/\*.*?\*/)
     | (?P<quoted>b?r(?P<fence>\#*)".*?"(?P=fence)|[bcL]?"(?:\\.|[^"\\])*"|b?'(?:\\[^\n]+?|[^\\'\n])')
     | (?P<lifetime>'\w+)
     | (?P<number>0x[\da-fA-F_]+\w*|\d[\d_]*(?:\.\d[\d_]*)?(?:[eE][+-]?\d+)?\w*)
     | (?P<name>(?:r\#)?[^\W\d]\w*)
     | (?P<mark>\.\.=|\.\.\.|<<=|>>=|::|->|=>|==|!=|<=|>=|&&|\|\||\+=|-=|\*=|/=|%=|\^=|&=|\|=|\+\+|--|\.\.|.)
-""", re.X | re.S)
+""",
+    re.X | re.S,
+)
 OPENING, CLOSING = "([{", ")]}"
 
 

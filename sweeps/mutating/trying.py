@@ -17,7 +17,7 @@ from pathlib import Path
 from typing import Any, Callable, Dict, List, NamedTuple, Optional, Sequence, Set, Tuple
 
 from checking.tools import DEBIAN, junit
-from mutating import reaching_java, reaching_rust, schemata
+from mutating import reached, reaching_java, reaching_rust, schemata
 from mutating.languages import JAVA, RULES_OF_JAVA, TOP, Language
 from mutating.mutant import Mutant
 from mutating.programs import Program, is_of_crate, nearness, program_of_rust, programs_of_python
@@ -25,10 +25,23 @@ from mutating.programs import Program, is_of_crate, nearness, program_of_rust, p
 BUILDING = 1200  # seconds
 FIRST = 60  # seconds for a test program over a mutant, as long as nobody knows what it takes
 LONGEST = 600  # seconds for a test program over the code as it is
+LONG = 1  # seconds of a test in Python that is long
 SQLITE_JDBC = "/usr/share/java/sqlite-jdbc.jar"  # of Debian's libxerial-sqlite-jdbc-java, for tests of stores
-FEATURES = ["cf/testing", "cf/tokio", "cf/rayon", "cf/serde", "cf/tracing", "cf-store/sqlite", "cf-store/postgres", "cf-store/etcd", "cf-store/testing"]
+FEATURES = [
+    "cf/testing",
+    "cf/tokio",
+    "cf/rayon",
+    "cf/serde",
+    "cf/tracing",
+    "cf-store/sqlite",
+    "cf-store/postgres",
+    "cf-store/etcd",
+    "cf-store/testing",
+]
 STARTS = threading.RLock()
 RUNNING: Set[int] = set()  # processes, each of which leads a group
+RUNNER = "sitecustomize.py"  # which each process of a copy finds where it is to write down what it reaches
+SOURCE = "native/_cf.c"
 MADE = ["target", "__pycache__", "*.so", "out"]  # what isn't copied
 
 
@@ -38,11 +51,12 @@ class Missing(Exception):
 
 class Result(NamedTuple):
     mutant: Mutant
-    noticed_by: str  # a test program, or nothing
+    noticed_by: str  # a test, or a program of tests, or nothing
     seconds: float
+    asked: str = ""  # by whom it isn't noticed
 
     def __str__(self) -> str:
-        return f"{self.mutant}: {'noticed by ' + self.noticed_by if self.noticed_by else 'NOT NOTICED'}, {self.seconds:.0f} s"
+        return f"{self.mutant}: {'noticed by ' + self.noticed_by if self.noticed_by else 'NOT NOTICED' + self.asked}, {self.seconds:.1f} s"
 
 
 def end(group: int) -> None:
@@ -64,8 +78,9 @@ def run(command: Sequence[str], folder: Path, environment: Dict[str, str], secon
     """Whether a command ends with status 0 in time, and what it printed. All that it started is ended."""
     with tempfile.TemporaryFile("w+", encoding="utf-8", errors="replace") as said:
         with STARTS:
-            done = subprocess.Popen(command, cwd=str(folder), env=environment, stdin=subprocess.DEVNULL, stdout=said, stderr=subprocess.STDOUT,
-                                    start_new_session=True)
+            done = subprocess.Popen(
+                command, cwd=str(folder), env=environment, stdin=subprocess.DEVNULL, stdout=said, stderr=subprocess.STDOUT, start_new_session=True
+            )
             RUNNING.add(done.pid)
         try:
             is_well = done.wait(seconds) == 0
@@ -174,15 +189,112 @@ class Client:
 
 
 class Python(Client):
-    """Each seat has a copy, in which a mutant stands while it is tried."""
+    """Each seat has a copy, in which a mutant stands while it is tried. It is known of each test which lines it reaches, so only those are run that
+    reach a mutant's: the cheap ones first, and those of one folder in one process."""
 
     def __init__(self, language: Language, made: Path, say: Callable[[str], None], seats: int) -> None:
         super().__init__(language, made, say)
         if not os.environ.get("CF_LIBRARY"):
             raise Missing("no CF_LIBRARY")
-        self.folders = [self.copy(str(seat)) for seat in range(seats)]
+        self.folders = [self.copy(str(seat)).resolve() for seat in range(seats)]
+        for folder in self.folders:
+            shutil.copy2(reached.RUNNING, folder / RUNNER)
+            run([sys.executable, "-m", "compileall", "-q", "cf", "tests"], folder, dict(os.environ), BUILDING)
         self.environment.update(CF_NO_MODULE="1", CF_REQUESTS="2000")
-        self.programs = programs_of_python(language.folder, False)
+        self.etcd = threading.Lock()  # which one process uses at a time
+        self.stores: Dict[str, str] = {}  # of each kind of server the address of one
+        self.get_ready()
+        sources = [*(language.folder / "cf").rglob("*.py"), language.folder / SOURCE]
+        beside = [path for path in (language.folder / "tests").rglob("*.py") if not path.name.startswith("test_")]
+        total = reached.sum_of(str(sys.version_info[:2]), [reached.RUNNING, *sources, *beside])
+        asked = [(it, over) for over in ["", *self.stores] for it in self.programs if not over or re.search(r"\bSTORES\b|\.each\(", it.text)]
+        with ThreadPoolExecutor(seats) as pool:
+            self.tests = [test for tests in pool.map(lambda it: self.recorded(it[0], it[1], total), asked) for test in tests]
+
+    def get_ready(self) -> None:
+        self.programs = programs_of_python(self.language.folder, False)
+        self.stores = {it.partition(":")[0]: it for it in os.environ.get("CF_STORES", "").split()}
+
+    def recorded(self, program: Program, over: str, total: str) -> List[reached.Test]:
+        """What the tests of a file reach."""
+
+        def write(into: Path) -> None:
+            self.say(f"writing down what {name} reaches, which is kept for the next time")
+            more = {"CF_REACHED": str(into / "0"), "PYTHONPATH": str(self.folders[0]), **self.written_down(into)}
+            is_well, said = self.run_tests(["record", program.source, str(into)], over, re.sub(r"\W", "_", name), self.folders[0], more, BUILDING)
+            if not is_well:
+                self.say(f"left out a part of {name}: it fails over the code as it is\n{said[-2000:]}")
+
+        name = f"{program.source} over {over}" if over else program.source
+        total = reached.sum_of(total, [self.language.folder / program.source])
+        return reached.kept(re.sub(r"\W", "_", f"{self.language.name}-{name}"), total, over, write)
+
+    def run_tests(self, words: Sequence[str], over: str, name: str, folder: Path, more: Dict[str, str], seconds: float) -> Tuple[bool, str]:
+        """Runs tests over no server, a database of this name in PostgreSQL, or an etcd."""
+        address = self.stores.get(over, "")
+        store = f"{address.rpartition('/')[0]}/m{name}" if over == "postgresql" else address
+        with self.etcd if over == "etcd" else threading.Lock():
+            return run([sys.executable, RUNNER, *words], folder, {**self.environment, **more, "CF_STORES": store}, seconds)
+
+    def written_down(self, into: Path) -> Dict[str, str]:
+        """What is written down, as a piece of the environment."""
+        return {"CF_REACHED_OF": f"{self.folders[0]}/cf/"}
+
+    def reached_by(self, mutant: Mutant) -> Set[int]:
+        """What has to be reached where a mutant matters."""
+        return reached.lines_of(mutant, self.text(mutant.file))
+
+    def batches(self, mutant: Mutant) -> List[List[reached.Test]]:
+        """The tests that reach a mutant, and then those that may and weren't written down whole, in the order in which they are run."""
+        near = {it.source: nearness(it, mutant.file) for it in self.programs}
+        marks = self.reached_by(mutant)
+        found: Dict[Tuple[str, int, str], List[reached.Test]] = {}
+        for it in self.tests:
+            grade = (it.seconds >= LONG / 10) + (it.seconds >= LONG) if marks & it.reached.get(mutant.file, set()) else 3
+            if grade < 3 or (not it.is_whole and mutant.file in it.reached):
+                found.setdefault((it.over, grade, str(Path(it.file).parent)), []).append(it)
+        for batch in found.values():
+            batch.sort(key=lambda it: (near[it.file] > 1, it.seconds))
+        return [found[key] for key in sorted(found, key=lambda key: (*key[:2], min(near[it.file] for it in found[key])))]
+
+    def failing(self, batch: Sequence[reached.Test], seat: int) -> Optional[reached.Test]:
+        """The first of some tests that fails."""
+        limits = [20 + 4 * it.seconds for it in batch]
+        words = [word for it, limit in zip(batch, limits) for word in (it.name, f"{limit:.0f}")]
+        is_well, said = self.run_tests(["run", *words], batch[0].over, str(seat), self.folders[seat], {}, FIRST + sum(limits))
+        begun = re.findall("^test: (.*)$", said, re.M)[-1:]
+        return None if is_well else next((it for it in batch if begun == [it.name]), batch[-1])
+
+    def is_noticed(self, batch: Sequence[reached.Test], mutant: Mutant, seat: int) -> bool:
+        """Whether the last of some tests, which has failed over a mutant, fails again, since a busy machine may have made it fail, and passes behind
+        the others over the code as it is, which is asked once."""
+        last = batch[-1]
+        if not self.failing([last], seat):
+            return False
+        if str(last) not in self.whole:
+            self.take_back(mutant, seat)
+            self.whole[str(last)] = self.failing(batch, seat) != last
+            self.put(mutant, seat)
+            if not self.whole[str(last)]:
+                self.say(f"left out {last}: it fails over the code as it is")
+        return self.whole[str(last)]
+
+    def tried(self, mutant: Mutant, seat: int) -> Result:
+        began, many = time.monotonic(), 0
+        self.put(mutant, seat)
+        try:
+            for batch in self.batches(mutant):
+                left = [it for it in batch if self.whole.get(str(it), True)]
+                many += len(left)
+                while left:
+                    failing = self.failing(left, seat)
+                    behind = left.index(failing) + 1 if failing else len(left)
+                    if failing and self.is_noticed(left[:behind], mutant, seat):
+                        return Result(mutant, str(failing), time.monotonic() - began)
+                    left = left[behind:]
+            return Result(mutant, "", time.monotonic() - began, f" by the {many} tests that reach it" if many else ", no test reaches it")
+        finally:
+            self.take_back(mutant, seat)
 
     def build(self, mutants: Sequence[Mutant]) -> List[Mutant]:
         return [it for it in mutants if self.is_python(it.put_into(self.text(it.file)))]
@@ -195,9 +307,6 @@ class Python(Client):
             return False
         return True
 
-    def command(self, program: Program, mutant: Optional[Mutant], seat: int) -> Tuple[List[str], Path, Dict[str, str]]:
-        return [sys.executable, *program.words], self.folders[seat], self.environment
-
     def put(self, mutant: Mutant, seat: int) -> None:
         (self.folders[seat] / mutant.file).write_text(mutant.put_into(self.text(mutant.file)), encoding="utf-8")
 
@@ -208,23 +317,48 @@ class Python(Client):
 class CModule(Python):
     """The C module of Python: each mutant is compiled, and its module stands in a seat's copy while it is tried."""
 
-    def __init__(self, language: Language, made: Path, say: Callable[[str], None], seats: int) -> None:
-        super().__init__(language, made, say, seats)
+    def get_ready(self) -> None:
         if not os.environ.get("CF_LIBRARY_DIR"):
             raise Missing("no CF_LIBRARY_DIR")
         self.environment["CF_NO_MODULE"] = ""
-        self.programs = programs_of_python(language.folder, True)
+        self.programs = programs_of_python(self.language.folder, True)
         self.module = "_cf" + sysconfig.get_config_var("EXT_SUFFIX")
-        (made / "modules").mkdir()
-        if not self.compiled("whole", language.folder / "native/_cf.c"):
+        (self.made / "modules").mkdir()
+        source, self.many = reached.marked(self.text(SOURCE))
+        (self.made / "marked.c").write_text(source, encoding="utf-8")
+        if not self.compiled("whole", self.language.folder / SOURCE) or not self.compiled("marked", self.made / "marked.c"):
             raise Missing("a C compiler with Python's headers")
         for folder in self.folders:
-            shutil.copy2(made / "modules/whole", folder / "cf" / self.module)
+            shutil.copy2(self.made / "modules/marked", folder / "cf" / self.module)
+
+    def recorded(self, program: Program, over: str, total: str) -> List[reached.Test]:
+        return [it._replace(is_whole=True) for it in super().recorded(program, over, total)]  # (a process writes down its marks to its end)
+
+    def written_down(self, into: Path) -> Dict[str, str]:
+        (into / "marks").write_bytes(bytes(self.many))
+        return {"CF_MARKS": str(into / "marks"), "CF_REACHED_OF": "nothing"}
+
+    def reached_by(self, mutant: Mutant) -> Set[int]:
+        return reached.block_of(mutant, self.text(mutant.file))
 
     def compiled(self, name: str, source: Path) -> bool:
         folder = os.environ["CF_LIBRARY_DIR"]
-        command = ["cc", "-O1", "-w", "-fPIC", "-shared", f"-I{sysconfig.get_paths()['include']}", f"-I{TOP}/crates/cf_c/include", str(source),
-                   "-Wl,--whole-archive", f"{folder}/libcf.a", "-Wl,--no-whole-archive", "-pthread", "-o", str(self.made / "modules" / name)]
+        command = [
+            "cc",
+            "-O1",
+            "-w",
+            "-fPIC",
+            "-shared",
+            f"-I{sysconfig.get_paths()['include']}",
+            f"-I{TOP}/crates/cf_c/include",
+            str(source),
+            "-Wl,--whole-archive",
+            f"{folder}/libcf.a",
+            "-Wl,--no-whole-archive",
+            "-pthread",
+            "-o",
+            str(self.made / "modules" / name),
+        ]
         return run(command, self.made, self.environment, BUILDING)[0]
 
     def build(self, mutants: Sequence[Mutant]) -> List[Mutant]:
@@ -418,9 +552,14 @@ class Rust(Client):
         self.made = target / "mutants"  # (always the same, so that cargo knows what it has built)
         shutil.rmtree(self.made, ignore_errors=True)
         self.folder = self.copy("rust")
-        self.environment.update(CARGO_TARGET_DIR=str(target), CARGO_PROFILE_DEV_DEBUG="0", RUSTFLAGS="--cap-lints allow",
-                                CF_HEADER=str(TOP / "crates/cf_c/include/cf.h"), CF_TOLD=str(TOP / "conformance/requests/told.json"),
-                                CF_PYTHON=str(TOP / "clients/python"))
+        self.environment.update(
+            CARGO_TARGET_DIR=str(target),
+            CARGO_PROFILE_DEV_DEBUG="0",
+            RUSTFLAGS="--cap-lints allow",
+            CF_HEADER=str(TOP / "crates/cf_c/include/cf.h"),
+            CF_TOLD=str(TOP / "conformance/requests/told.json"),
+            CF_PYTHON=str(TOP / "clients/python"),
+        )
         has_debians = bool(list(DEBIAN.glob("tokio-postgres-[0-9]*")))
         self.words = ["--offline", "--workspace", "--features", ",".join(FEATURES if has_debians else FEATURES[:1])]
         self.seats, self.stores = seats, self.environment.pop("CF_STORES", "")

@@ -51,8 +51,17 @@ class CReply(c.Structure):
 
 
 class CRecord(c.Structure):
-    _fields_ = [("kind", c.c_uint32), ("place", c.c_uint32), ("word", c.c_uint64), ("reply", CReply),
-                ("asked", c.c_uint32), ("stage", c.c_uint16), ("absent", CValue), ("outcome", COutcome), ("now", CNow)]
+    _fields_ = [
+        ("kind", c.c_uint32),
+        ("place", c.c_uint32),
+        ("word", c.c_uint64),
+        ("reply", CReply),
+        ("asked", c.c_uint32),
+        ("stage", c.c_uint16),
+        ("absent", CValue),
+        ("outcome", COutcome),
+        ("now", CNow),
+    ]
 
 
 class CDeskSizes(c.Structure):
@@ -68,8 +77,7 @@ class CNews(c.Structure):
 
 
 class CTask(c.Structure):
-    _fields_ = [("held", c.c_uint32), ("stage", c.c_uint16), ("function", c.c_uint16), ("args", CArgs),
-                ("answer", CAnswer), ("finished", c.c_uint32)]
+    _fields_ = [("held", c.c_uint32), ("stage", c.c_uint16), ("function", c.c_uint16), ("args", CArgs), ("answer", CAnswer), ("finished", c.c_uint32)]
 
 
 class CGiven(c.Structure):
@@ -77,8 +85,7 @@ class CGiven(c.Structure):
 
 
 class CStep(c.Structure):
-    _fields_ = [("who", c.c_uint8), ("first", c.c_uint16), ("place", c.c_size_t), ("finish", c.c_uint64),
-                ("claim", c.c_uint64)]
+    _fields_ = [("who", c.c_uint8), ("first", c.c_uint16), ("place", c.c_size_t), ("finish", c.c_uint64), ("claim", c.c_uint64)]
 
 
 class CTold(c.Structure):
@@ -102,9 +109,20 @@ class CRequestStep(c.Structure):
 
 
 class CEvent(c.Structure):
-    _fields_ = [("call", c.c_uint32), ("who", c.c_uint8), ("stage", c.c_uint16), ("value", CValue),
-                ("code", c.c_uint32), ("answer", CAnswer), ("now", c.c_uint32), ("form", c.c_uint32),
-                ("sources", c.c_uint32), ("first", c.c_uint16), ("second", c.c_uint16), ("function", c.c_uint32)]
+    _fields_ = [
+        ("call", c.c_uint32),
+        ("who", c.c_uint8),
+        ("stage", c.c_uint16),
+        ("value", CValue),
+        ("code", c.c_uint32),
+        ("answer", CAnswer),
+        ("now", c.c_uint32),
+        ("form", c.c_uint32),
+        ("sources", c.c_uint32),
+        ("first", c.c_uint16),
+        ("second", c.c_uint16),
+        ("function", c.c_uint32),
+    ]
 
 
 class CEntry(c.Structure):
@@ -260,12 +278,31 @@ def _checked(call: Callable[..., int], arguments: List[Any]) -> Callable[..., in
 
 
 # The structures by their names in C.
-STRUCTURES = {"cf_handle": CHandle, "cf_value": CValue, "cf_answer": CAnswer, "cf_outcome": COutcome, "cf_args": CArgs,
-              "cf_now": CNow, "cf_reply": CReply, "cf_record": CRecord, "cf_desk_sizes": CDeskSizes, "cf_stage": CStage,
-              "cf_news": CNews, "cf_event": CEvent, "cf_task": CTask, "cf_step": CStep, "cf_given": CGiven,
-              "cf_told": CTold, "cf_request_sizes": CRequestSizes, "cf_applied": CApplied,
-              "cf_request_gathering": CGathering, "cf_request_step": CRequestStep, "cf_entry": CEntry,
-              "cf_row_opening": CRowOpening, "cf_row_claim": CRowClaim}
+STRUCTURES = {
+    "cf_handle": CHandle,
+    "cf_value": CValue,
+    "cf_answer": CAnswer,
+    "cf_outcome": COutcome,
+    "cf_args": CArgs,
+    "cf_now": CNow,
+    "cf_reply": CReply,
+    "cf_record": CRecord,
+    "cf_desk_sizes": CDeskSizes,
+    "cf_stage": CStage,
+    "cf_news": CNews,
+    "cf_event": CEvent,
+    "cf_task": CTask,
+    "cf_step": CStep,
+    "cf_given": CGiven,
+    "cf_told": CTold,
+    "cf_request_sizes": CRequestSizes,
+    "cf_applied": CApplied,
+    "cf_request_gathering": CGathering,
+    "cf_request_step": CRequestStep,
+    "cf_entry": CEntry,
+    "cf_row_opening": CRowOpening,
+    "cf_row_claim": CRowClaim,
+}
 
 
 def fit(loaded: c.CDLL, path: str) -> None:
@@ -284,10 +321,12 @@ def load(path: str) -> SimpleNamespace:
         loaded, calls = c.CDLL(path), SimpleNamespace()
     except OSError as error:
         said = os.environ.get("CF_LIBRARY")
-        raise OSError(f"cf needs its library for C, libcf.so, which can't be loaded: {error}. It is looked for where "
-                      f"CF_LIBRARY says, which is {said or 'not set'}; without that within the C module cf._cf, if it "
-                      "was built, and else where the system looks for libcf.so. Set CF_LIBRARY to its path, or install "
-                      "a wheel that has it within; docs/C.md says how it is built.") from None
+        raise OSError(
+            f"cf needs its library for C, libcf.so, which can't be loaded: {error}. It is looked for where "
+            f"CF_LIBRARY says, which is {said or 'not set'}; without that within the C module cf._cf, if it "
+            "was built, and else where the system looks for libcf.so. Set CF_LIBRARY to its path, or install "
+            "a wheel that has it within; docs/C.md says how it is built."
+        ) from None
     fit(loaded, path)
     for name, arguments in CALLS.items():
         call = getattr(loaded, name)

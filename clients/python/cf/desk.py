@@ -3,13 +3,12 @@ import ctypes as c
 import threading
 from typing import Iterable, Optional, Tuple
 
-from ._library import CDeskSizes, CHandle, CNow, COutcome, in_range, library
+from ._library import CDeskSizes, CHandle, CNow, COutcome, in_range
 from .closed import Closed
 from .graph import there, value_of
 from .handle import Calls, Handle
 from .plan import Plan
-from .values import (Cancelled, Code, Fault, Misfit, Now, NowKind, Outcome, Refused, Value, given_in, now_out,
-                     outcome_out, value_in)
+from .values import Cancelled, Code, Fault, Misfit, Now, NowKind, Outcome, Refused, Value, given_in, now_out, outcome_out, value_in
 
 
 class InUse(RuntimeError):
@@ -141,15 +140,13 @@ class Desk:
     tested, and not proved. It is proved that a caller's calls come after all that it has seen. Notices aren't there in
     Python."""
 
-    def __init__(self, plan: Plan, callers: int, log: int, calls: int, room: int = 0,
-                 functions: Optional[int] = None) -> None:
+    def __init__(self, plan: Plan, callers: int, log: int, calls: int, room: int = 0, functions: Optional[int] = None) -> None:
         handles = (CHandle * callers)()
         if room == 0 and functions is None:
             plan.build()._call("cf_desk_open", handles, callers, log, calls)
         else:
             any_number = 2**16 if functions is None else functions
-            sizes = CDeskSizes(in_range(log, 0xFFFF), in_range(calls, 0xFFFF), in_range(room, 0xFFFF),
-                               in_range(any_number, 0xFFFFFFFF))
+            sizes = CDeskSizes(in_range(log, 0xFFFF), in_range(calls, 0xFFFF), in_range(room, 0xFFFF), in_range(any_number, 0xFFFFFFFF))
             plan.build()._call("cf_desk_open_with", handles, callers, c.byref(sizes))
         desk = object()
         self.callers: Tuple[Caller, ...] = tuple(Caller(handle, desk) for handle in handles)

@@ -5,8 +5,22 @@ from typing import Any, Callable, List, Optional, Tuple, Union
 
 from ._library import NO_FUNCTION, CEvent, CReply, in_range, library
 from .handle import function_in
-from .values import (Answer, Failure, Form, Reply, Value, answer_in, answer_out, check, claim_out, finish_out,
-                     flag_out, number_out, value_in, value_out)
+from .values import (
+    Answer,
+    Failure,
+    Form,
+    Reply,
+    Value,
+    answer_in,
+    answer_out,
+    check,
+    claim_out,
+    finish_out,
+    flag_out,
+    number_out,
+    value_in,
+    value_out,
+)
 
 
 @dataclass(frozen=True)
@@ -119,7 +133,7 @@ def _event_out(event: CEvent) -> Event:
         return Tick(who, event.now)
     if call is Attach:
         function = None if event.function == NO_FUNCTION else event.function
-        return Attach(who, Form(event.form), (event.first, event.second)[:event.sources], function)
+        return Attach(who, Form(event.form), (event.first, event.second)[: event.sources], function)
     made: Event = call(who, stage)
     return made
 
@@ -143,8 +157,7 @@ def _known(word: int) -> CEvent:
     return event
 
 
-_REPLIES: List[Callable[[CReply], Reply]] = [flag_out, flag_out, flag_out, claim_out, finish_out, number_out,
-                                             number_out, flag_out]
+_REPLIES: List[Callable[[CReply], Reply]] = [flag_out, flag_out, flag_out, claim_out, finish_out, number_out, number_out, flag_out]
 
 
 def reply_of(word: int, reply: CReply) -> Reply:

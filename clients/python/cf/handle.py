@@ -4,8 +4,29 @@ import threading
 from typing import TYPE_CHECKING, Any, Callable, ContextManager, Optional, Tuple, TypeVar, Union, cast
 
 from ._library import NO_FUNCTION, CHandle, CReply, in_range, library, numbers
-from .values import (Answer, Args, ClaimReply, Code, Failure, FinishReply, Form, Link, Refused, Task, Thrown, Value,
-                     answer_in, check, claim_out, finish_out, flag_out, number_out, task_in, task_out, value_in)
+from .values import (
+    Answer,
+    Args,
+    ClaimReply,
+    Code,
+    Failure,
+    FinishReply,
+    Form,
+    Link,
+    Refused,
+    Task,
+    Thrown,
+    Value,
+    answer_in,
+    check,
+    claim_out,
+    finish_out,
+    flag_out,
+    number_out,
+    task_in,
+    task_out,
+    value_in,
+)
 
 # The function of a stage. One that raises `Thrown(code)` throws the code.
 Function = Callable[..., Union[Value, Link]]
@@ -16,7 +37,8 @@ if TYPE_CHECKING:
     class Functions(Protocol):
         """The functions of stages, by their numbers."""
 
-        def __getitem__(self, __number: int) -> Function: ...
+        def __getitem__(self, __number: int) -> Function:
+            ...
 
 
 Told = TypeVar("Told")

@@ -7,8 +7,7 @@ from ._library import CNews, CReply, CStage, CStep, in_range, library
 from .events import Event, reply_of, word_of
 from .handle import Handle
 from .plan import Plan
-from .values import (Answer, Code, FinishReply, Misfit, Outcome, Refused, Reply, Task, check, outcome_out, task_in,
-                     task_out)
+from .values import Answer, Code, FinishReply, Misfit, Outcome, Refused, Reply, Task, check, outcome_out, task_in, task_out
 
 _NOBODY = 0xFFFFFFFF
 _MISFITS = (Code.NO_WORD, Code.NO_STAGE, Code.BAD_ATTACH, Code.NO_ROOM)
@@ -63,8 +62,7 @@ class Ledger(Handle):
         Handle.__init__(ledger)
         place = c.c_size_t()
         try:
-            plan.build()._call("cf_ledger_of", room, (c.c_uint64 * len(words))(*words), len(words), ledger._at,
-                               c.byref(place))
+            plan.build()._call("cf_ledger_of", room, (c.c_uint64 * len(words))(*words), len(words), ledger._at, c.byref(place))
         except Refused as refused:
             if refused.code in _MISFITS:
                 raise Misfit(refused.code, place.value) from None
@@ -78,7 +76,7 @@ class Ledger(Handle):
             room = self.stages() + 1
             reply, news, count = CReply(), (CNews * room)(), c.c_size_t()
             self._call("cf_ledger_apply", word, c.byref(reply), news, room, c.byref(count))
-        return Applied(reply_of(word, reply), [_stage_out(told.stage, told.now) for told in news[:count.value]])
+        return Applied(reply_of(word, reply), [_stage_out(told.stage, told.now) for told in news[: count.value]])
 
     def step(self, who: int, task: Optional[Task] = None, answer: Answer = None, first: int = 0) -> Stepped:
         """One step of a caller's loop in one call: finishes the stage of a task with what its function answered, and
@@ -93,8 +91,14 @@ class Ledger(Handle):
             code = library.cf_ledger_step(self._at, c.byref(step), c.byref(told), news, room, c.byref(count))
             if code != Code.NOTHING:
                 check(code)
-        return Stepped(step.place, step.finish or None, step.claim or None, FinishReply(told.finished),
-                       [_stage_out(it.stage, it.now) for it in news[:count.value]], task_out(told))
+        return Stepped(
+            step.place,
+            step.finish or None,
+            step.claim or None,
+            FinishReply(told.finished),
+            [_stage_out(it.stage, it.now) for it in news[: count.value]],
+            task_out(told),
+        )
 
     def apply_all(self, words: Sequence[int]) -> None:
         """Does words one after another in one call. The first that can't be done raises `Misfit` with its place

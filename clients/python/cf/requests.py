@@ -72,14 +72,12 @@ def _parser() -> argparse.ArgumentParser:
     serve.add_argument("--port", type=int, default=0, help="by default one that is free")
     serve.add_argument("--listen", default="127.0.0.1", metavar="HOST", help="by default this machine alone")
     serve.add_argument("--name", action="append", default=[], help="another name that browsers may call it by")
-    serve.add_argument("--public", default="", metavar="URL",
-                       help="at which a proxy serves it to browsers, such as https://ops.example")
+    serve.add_argument("--public", default="", metavar="URL", help="at which a proxy serves it to browsers, such as https://ops.example")
     serve.add_argument("--read-only", action="store_true", help="nothing can be changed")
     serve.add_argument("--who", default="", help="what the history calls who acts, unless they say otherwise")
     serve.add_argument("--token-file", type=Path, help="has the token of the address, in place of one by chance")
     serve.add_argument("--cf-look", metavar="PROGRAM", help="draws the graph; by default cf_look, if it is on the path")
-    serve.add_argument("--lease", type=float, default=10,
-                       help="after how many seconds without a sign of life a process is gone")
+    serve.add_argument("--lease", type=float, default=10, help="after how many seconds without a sign of life a process is gone")
     return parser
 
 
@@ -103,8 +101,19 @@ def _serve(at: argparse.Namespace) -> int:
         if store is None:
             return 0
         title = _without_secrets(at.store)
-        server = Server(store, at.listen, at.port, names=tuple(at.name), public=at.public, token=token,
-                        is_read_only=at.read_only, who=at.who or _user(), cf_look=cf_look, lease=at.lease, title=title)
+        server = Server(
+            store,
+            at.listen,
+            at.port,
+            names=tuple(at.name),
+            public=at.public,
+            token=token,
+            is_read_only=at.read_only,
+            who=at.who or _user(),
+            cf_look=cf_look,
+            lease=at.lease,
+            title=title,
+        )
     except (ValueError, StoreError, OSError, OverflowError) as error:
         print(f"cf.requests: {error}", file=sys.stderr)
         return 2
@@ -160,8 +169,7 @@ def _list(store: Store, at: argparse.Namespace) -> List[str]:
 def _state(view: RowView) -> str:
     """What a request waits for."""
     kinds = {IS_READY: "ready", IS_CLAIMED: "at work", IS_PENDING: "pending"}
-    waits = [(kind, number) for kind in (IS_CLAIMED, IS_READY, IS_PENDING) for number, is_now in enumerate(view.kinds)
-             if is_now == kind]
+    waits = [(kind, number) for kind in (IS_CLAIMED, IS_READY, IS_PENDING) for number, is_now in enumerate(view.kinds) if is_now == kind]
     named = [f"{number} {view.said(number)['name']} {kinds[kind]}" for kind, number in waits[:MOST_NAMED]]
     return f"{len(waits)} of {len(view.kinds)} stages wait{': ' if named else ''}{', '.join(named)}"
 
@@ -180,8 +188,10 @@ def _end(store: Store, at: argparse.Namespace) -> List[str]:
     if at.cancel:
         view = _view(store, at.name)
         for stage in range(len(view.kinds)):
+
             def decide(view: RowView, stage: int = stage) -> Any:
                 return None if view.is_settled(stage) else [(CANCEL << 56 | view.who << 48 | stage << 36, None)]
+
             many += view.act(decide)[0] is not None
         words = view.seen
     store.end(at.name, words, found.number)

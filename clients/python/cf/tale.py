@@ -42,8 +42,7 @@ class Tale(Handle):
         told as JSON writes it."""
         parts = [text.encode("utf-8", "backslashreplace") for text in texts]
         ends = list(itertools.accumulate(map(len, parts)))
-        self._call("cf_history_say", what, b"".join(parts), sum(map(len, parts)), (c.c_size_t * len(ends))(*ends),
-                   len(ends))
+        self._call("cf_history_say", what, b"".join(parts), sum(map(len, parts)), (c.c_size_t * len(ends))(*ends), len(ends))
 
     def text(self, kind: Kind) -> str:
         """All of it."""

@@ -24,7 +24,7 @@ def _told(call: Callable[..., int]) -> Tuple[int, str]:
         text, length = c.create_string_buffer(room), c.c_size_t()
         code = call(text, room, c.byref(length))
         if code not in (0, Code.BAD_SCRIPT) or length.value <= room:
-            return code, text.raw[:length.value].decode()
+            return code, text.raw[: length.value].decode()
         room = length.value
 
 

@@ -4,8 +4,29 @@ from concurrent.futures import CancelledError
 from dataclasses import dataclass
 from typing import Any, Iterable, NamedTuple, Optional, Tuple, Union
 
-from ._library import (BAD_ANSWER, CANCELLED, GIVE, GOT, INT, LINK, NIL, PENDING, THROW, THROWN, TIMED_OUT, VALUE,
-                       CAnswer, CArgs, CGiven, CNow, COutcome, CReply, CTask, CValue, in_range)
+from ._library import (
+    BAD_ANSWER,
+    CANCELLED,
+    GIVE,
+    GOT,
+    INT,
+    LINK,
+    NIL,
+    PENDING,
+    THROW,
+    THROWN,
+    TIMED_OUT,
+    VALUE,
+    CAnswer,
+    CArgs,
+    CGiven,
+    CNow,
+    COutcome,
+    CReply,
+    CTask,
+    CValue,
+    in_range,
+)
 
 Value = Optional[int]
 
@@ -23,8 +44,7 @@ class Code(enum.IntEnum):
 
     TOO_MANY_STAGES, SOURCE_NOT_LOWER, WRONG_SOURCE_COUNT, FUNCTION_MISSING, FUNCTION_UNWANTED = range(1, 6)
     TOO_MANY_EDGES = 6
-    NO_SUCH_STAGE, NO_MEMORY, TOO_MANY_LIMITS, EMPTY, FULL, WRONG_KIND, NO_SUCH_NUMBER, NO_STAGE, BAD_ATTACH = range(7,
-                                                                                                                     16)
+    NO_SUCH_STAGE, NO_MEMORY, TOO_MANY_LIMITS, EMPTY, FULL, WRONG_KIND, NO_SUCH_NUMBER, NO_STAGE, BAD_ATTACH = range(7, 16)
     ROOM, NOTHING, CALLERS, LOG, CALLS, FUNCTIONS, PASS_FULL, LOG_FULL, OTHER_DESK = range(16, 25)
     NOT_ALL, NO_WORD, BAD_SCRIPT = range(25, 28)
     STILL_SHARED = 28
@@ -241,8 +261,7 @@ def outcome_in(outcome: Optional[Outcome]) -> COutcome:
         return COutcome(kind=VALUE, value=value_in(outcome.value))
     if isinstance(fault, Thrown):
         return COutcome(kind=THROWN, wrapped=fault.wrapped, code=in_range(fault.code, 2**32 - 1))
-    return COutcome(kind=next(kind for kind, cause in FAULTS.items() if isinstance(fault, cause)),
-                    wrapped=fault.wrapped)
+    return COutcome(kind=next(kind for kind, cause in FAULTS.items() if isinstance(fault, cause)), wrapped=fault.wrapped)
 
 
 def now_out(now: CNow) -> Now:
@@ -257,7 +276,7 @@ def now_out(now: CNow) -> Now:
 def args_out(args: CArgs) -> Args:
     if args.kind == GOT:
         return (outcome_out(args.outcome),)
-    return (value_out(args.first), value_out(args.second))[:args.kind]
+    return (value_out(args.first), value_out(args.second))[: args.kind]
 
 
 def claim_out(reply: CReply) -> ClaimReply:

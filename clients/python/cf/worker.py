@@ -50,10 +50,8 @@ def main(words: Optional[List[str]] = None) -> int:
     parser = argparse.ArgumentParser(prog="python3 -m cf.worker", description="Works on the requests of a store.")
     parser.add_argument("--store", required=True)
     parser.add_argument("--threads", type=int, default=4)
-    parser.add_argument("--lease", type=float, default=10,
-                        help="after how many seconds without a sign of life a process is gone")
-    parser.add_argument("--grace", type=float, metavar="SECONDS",
-                        help="for how long it waits for functions that run once it is told to end")
+    parser.add_argument("--lease", type=float, default=10, help="after how many seconds without a sign of life a process is gone")
+    parser.add_argument("--grace", type=float, metavar="SECONDS", help="for how long it waits for functions that run once it is told to end")
     parser.add_argument("--codec", metavar="MODULE:NAME", help="makes bytes of values and exceptions")
     parser.add_argument("--spans", metavar="FILE", help="where spans go without OpenTelemetry")
     parser.add_argument("modules", nargs="+")
@@ -70,8 +68,7 @@ def main(words: Optional[List[str]] = None) -> int:
         store = reached(at.store, ends)
         if store is None:
             return 0
-        worker = Worker(store, functions, at.threads, lease=at.lease, contexts=contexts, codec=codec,
-                        on_end=spans_to(at.spans) if at.spans else None)
+        worker = Worker(store, functions, at.threads, lease=at.lease, contexts=contexts, codec=codec, on_end=spans_to(at.spans) if at.spans else None)
     except (ImportError, ValueError, StoreError) as error:
         print(f"cf.worker: {error}", file=sys.stderr)
         return 2

@@ -1,6 +1,5 @@
 """Threads that call the functions of a desk's stages."""
 import threading
-import time
 from typing import Iterable, List, Optional, Sequence, Tuple, Union
 
 from .desk import Caller
@@ -18,8 +17,7 @@ class Workers:
 
     At its end each worker goes on until it finds nothing ready."""
 
-    def __init__(self, callers: Iterable[Caller], functions: Sequence[Function], code: int = 0,
-                 pause: float = 0.001) -> None:
+    def __init__(self, callers: Iterable[Caller], functions: Sequence[Function], code: int = 0, pause: float = 0.001) -> None:
         self.errors: List[Tuple[int, BaseException]] = []
         self._functions = _Caught(functions, code, self.errors)
         self._pause = pause

@@ -88,8 +88,7 @@ def flight_recorder() -> None:
         ready = ledger.ready()
         print("claimed", ledger.do(cf.events.Claim(1, ready)).reply.status.name, "by", ledger.stage(ready).who)
         with cf.Ledger.of_words(plan, ledger.words()) as again:
-            print("made again",
-                  [again.stage(stage) for stage in range(total)] == [ledger.stage(stage) for stage in range(total)])
+            print("made again", [again.stage(stage) for stage in range(total)] == [ledger.stage(stage) for stage in range(total)])
         try:
             cf.Ledger.of_words(plan, ledger.words() + [0])
         except cf.Misfit as misfit:
@@ -97,8 +96,7 @@ def flight_recorder() -> None:
 
 
 def scripts() -> None:
-    script = ('{"cf":1,"stages":[{"form":"source"},{"form":"apply","of":[0],"fn":{"add":5}}],'
-              '"steps":[["complete",0,3],["work"]]}')
+    script = '{"cf":1,"stages":[{"form":"source"},{"form":"apply","of":[0],"fn":{"add":5}}],' '"steps":[["complete",0,3],["work"]]}'
     print(cf.run_script(script), end="")
     try:
         cf.run_script("[]")

@@ -7,7 +7,7 @@ def checkout(world):
     charges, functions = [], Functions()
     charge = functions.function("charge")(lambda order: order in charges or charges.append(order))
     store = world.store(killed=1)
-    one, two = store.worker("one", functions), store.worker("two", functions)
+    one, _ = store.worker("one", functions), store.worker("two", functions)
     one.request("order 17").supply(charge, 17).again()
     world.check(lambda: len(charges) <= 1, "charged at most once")
 

@@ -56,8 +56,7 @@ def order_flow():
 
 def main(address, folder):
     here = str(Path(__file__).resolve().parent)
-    environment = dict(os.environ, ORDER_FOLDER=folder,
-                       PYTHONPATH=os.pathsep.join([here, os.environ.get("PYTHONPATH", "")]))
+    environment = dict(os.environ, ORDER_FOLDER=folder, PYTHONPATH=os.pathsep.join([here, os.environ.get("PYTHONPATH", "")]))
     command = [sys.executable, "-m", "cf.worker", "--store", address, "--lease", "2", "order"]
     workers = [subprocess.Popen(command, env=environment) for _ in range(3)]
     service = DurableService(connect(address), 0, functions=functions, lease=2)

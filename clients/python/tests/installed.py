@@ -35,8 +35,14 @@ def cannot_be_built(client, include):
             if text is not None:
                 Path(other, "libcf.a").write_text(text)
             env = dict(os.environ, CF_INCLUDE=str(include), CF_LIBRARY_DIR=other, PKG_CONFIG_LIBDIR=other)
-            done = subprocess.run([sys.executable, "setup.py", "-q", "build_ext"], cwd=str(client), env=env,
-                                  stdout=subprocess.PIPE, stderr=subprocess.STDOUT, universal_newlines=True)
+            done = subprocess.run(
+                [sys.executable, "setup.py", "-q", "build_ext"],
+                cwd=str(client),
+                env=env,
+                stdout=subprocess.PIPE,
+                stderr=subprocess.STDOUT,
+                universal_newlines=True,
+            )
             if not done.returncode or why not in done.stdout:
                 raise SystemExit(f"installed.py: built over {text or 'nothing'}:\n{done.stdout}")
 
@@ -45,11 +51,9 @@ def main(made):
     made.mkdir(parents=True, exist_ok=True)
     client = made / "client"
     shutil.rmtree(str(client), ignore_errors=True)  # one that an earlier run left
-    shutil.copytree(str(CLIENT), str(client),
-                    ignore=shutil.ignore_patterns("*.so", "build", "*.egg-info", "__pycache__"))
+    shutil.copytree(str(CLIENT), str(client), ignore=shutil.ignore_patterns("*.so", "build", "*.egg-info", "__pycache__"))
     include = CLIENT.parents[1] / "crates/cf_c/include"
-    told(made, sys.executable, "-m", "pip", "wheel", "--no-index", "--no-build-isolation", "--no-deps", "-w", made,
-         client, CF_INCLUDE=str(include))
+    told(made, sys.executable, "-m", "pip", "wheel", "--no-index", "--no-build-isolation", "--no-deps", "-w", made, client, CF_INCLUDE=str(include))
     wheel = next(made.glob("*.whl"))
     cannot_be_built(client, include)
     told(made, sys.executable, "-m", "venv", made / "venv")

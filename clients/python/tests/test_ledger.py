@@ -58,13 +58,13 @@ class Steps(unittest.TestCase):
         for each in (ledger, beside):
             each.do(Complete(0, self.source, 2))
         told = ledger.step(WORKER)
-        self.assertEqual((told.place, told.finish, told.claim, told.news, told.finished),
-                         (1, None, cf.word_of(Claim(WORKER, 1)), [], cf.FinishReply.WON))
+        self.assertEqual(
+            (told.place, told.finish, told.claim, told.news, told.finished), (1, None, cf.word_of(Claim(WORKER, 1)), [], cf.FinishReply.WON)
+        )
         self.assertEqual(told.task, cf.Task(1, 0, (2,)))
         self.assertEqual(ledger.stage(1).who, WORKER)
         told = ledger.step(WORKER, told.task, 3)
-        self.assertEqual((told.place, told.finish, told.claim),
-                         (2, cf.word_of(Finish(WORKER, 1, 3)), cf.word_of(Claim(WORKER, 2))))
+        self.assertEqual((told.place, told.finish, told.claim), (2, cf.word_of(Finish(WORKER, 1, 3)), cf.word_of(Claim(WORKER, 2))))
         self.assertEqual([(stage.number, stage.outcome) for stage in told.news], [(1, cf.Outcome(3, None))])
         self.assertEqual(told.task, cf.Task(2, 0, (2,)))
         for word in ledger.words(1):
@@ -94,17 +94,14 @@ class Steps(unittest.TestCase):
         self.assertEqual(told.news[0].outcome.fault.code, 4)
 
     def test_timed_out_and_with_a_bad_answer(self):
-        for tag, (failure,
-                  fault) in enumerate([(cf.Failure.TIMED_OUT, cf.TimedOut), (cf.Failure.BAD_ANSWER, cf.BadAnswer)]):
+        for tag, (failure, fault) in enumerate([(cf.Failure.TIMED_OUT, cf.TimedOut), (cf.Failure.BAD_ANSWER, cf.BadAnswer)]):
             ledger, event = cf.Ledger(self.plan), FailAs(WORKER, self.source, failure)
             word = FAIL_AS << 56 | WORKER << 48 | self.source << 36 | tag << 32
             self.assertEqual((cf.word_of(event), cf.event_of(word)), (word, event))
             told = ledger.do(event)
             self.assertEqual((told.reply, len(told.news)), (True, ledger.stages()))
-            self.assertEqual([(type(it.outcome.fault), it.outcome.fault.wrapped) for it in told.news],
-                             [(fault, it.number > 0) for it in told.news])
-            self.assertEqual((ledger.do(event), self.stages(cf.Ledger.of_words(self.plan, [word]))),
-                             (cf.Applied(False, []), self.stages(ledger)))
+            self.assertEqual([(type(it.outcome.fault), it.outcome.fault.wrapped) for it in told.news], [(fault, it.number > 0) for it in told.news])
+            self.assertEqual((ledger.do(event), self.stages(cf.Ledger.of_words(self.plan, [word]))), (cf.Applied(False, []), self.stages(ledger)))
         for wrong in (0, 3, 6):
             with self.assertRaises(cf.Refused) as refused:
                 cf.word_of(FailAs(WORKER, 0, wrong))
@@ -119,13 +116,16 @@ class Steps(unittest.TestCase):
     def test_refused_steps_change_nothing(self):
         self.ledger.do(Complete(0, self.source, 1))
         task, words = self.ledger.step(WORKER).task, self.ledger.words()
-        for who, held, code in ((64, None, "NO_WORD"), (WORKER, task._replace(stage=16), "NO_STAGE"),
-                                (4, task, "NOT_HELD"), (WORKER, task._replace(stage=2), "NOT_HELD")):
+        for who, held, code in (
+            (64, None, "NO_WORD"),
+            (WORKER, task._replace(stage=16), "NO_STAGE"),
+            (4, task, "NOT_HELD"),
+            (WORKER, task._replace(stage=2), "NOT_HELD"),
+        ):
             with self.assertRaises(cf.Refused) as refused:
                 self.ledger.step(who, held, 1)
             self.assertEqual((refused.exception.code.name, self.ledger.words()), (code, words))
-        for call in (lambda: self.ledger.step(256), lambda: self.ledger.step(1, first=2**16),
-                     lambda: self.ledger.step(1, answer=2**31)):
+        for call in (lambda: self.ledger.step(256), lambda: self.ledger.step(1, first=2**16), lambda: self.ledger.step(1, answer=2**31)):
             with self.assertRaises(OverflowError):
                 call()
 
@@ -134,9 +134,11 @@ class Steps(unittest.TestCase):
         can't be done."""
         rng = random.Random(7)
         for _ in range(200):
-            ledger, beside, done = cf.Ledger(self.plan), cf.Ledger(self.plan), 0
-            events = [rng.choice([Complete(0, rng.randrange(18), 3), Claim(rng.randrange(3), rng.randrange(16)),
-                                  Finish(1, rng.randrange(16), 1)]) for _ in range(rng.randrange(30))]
+            ledger, beside = cf.Ledger(self.plan), cf.Ledger(self.plan)
+            events = [
+                rng.choice([Complete(0, rng.randrange(18), 3), Claim(rng.randrange(3), rng.randrange(16)), Finish(1, rng.randrange(16), 1)])
+                for _ in range(rng.randrange(30))
+            ]
             words, refused = [cf.word_of(event) for event in events], None
             for place, word in enumerate(words):
                 try:

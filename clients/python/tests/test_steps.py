@@ -151,8 +151,10 @@ class Desks(unittest.TestCase):
         plan.stage(Form.SOURCE)
         with plan.open_desk(2, 8, 8) as desk:
             one, other = desk.callers
-            self.assertEqual((one.fail_as(0, cf.Failure.TIMED_OUT), other.fail_as(2, cf.Failure.BAD_ANSWER),
-                              other.fail_as(0, cf.Failure.BAD_ANSWER)), (True, True, False))
+            self.assertEqual(
+                (one.fail_as(0, cf.Failure.TIMED_OUT), other.fail_as(2, cf.Failure.BAD_ANSWER), other.fail_as(0, cf.Failure.BAD_ANSWER)),
+                (True, True, False),
+            )
             with self.assertRaises(cf.Refused) as refused:
                 one.fail_as(0, 2)
             self.assertEqual(refused.exception.code, Code.NO_SUCH_NUMBER)
@@ -160,15 +162,14 @@ class Desks(unittest.TestCase):
             event = cf.events.FailAs(1, 2, cf.Failure.BAD_ANSWER)
             self.assertEqual((closed.records(1)[0].event, closed.records(1)[0].reply), (event, True))
             graph = closed.graph()
-        self.assertEqual([type(graph.outcome(stage).fault) for stage in range(3)],
-                         [cf.TimedOut, cf.TimedOut, cf.BadAnswer])
+        self.assertEqual([type(graph.outcome(stage).fault) for stage in range(3)], [cf.TimedOut, cf.TimedOut, cf.BadAnswer])
 
     def test_completes_a_row_up_to_what_is_refused(self):
         plan = cf.Plan()
         for _ in range(4):
             plan.stage(Form.SOURCE)
         with plan.open_desk(1, 8, 8) as desk:
-            caller, = desk.callers
+            (caller,) = desk.callers
             caller.complete_all([])
             caller.complete_all([(0, 5), (0, 6), (1, None)])
             for row, place, code in [([(2, 7), (9, 1), (3, 1)], 1, Code.NO_STAGE), ([(3, 8)] * 5, 4, Code.PASS_FULL)]:
@@ -176,8 +177,7 @@ class Desks(unittest.TestCase):
                     caller.complete_all(row)
                 self.assertEqual((misfit.exception.place, misfit.exception.code), (place, code))
             graph = desk.close().graph()
-        self.assertEqual([graph.outcome(stage) for stage in range(4)],
-                         [cf.Outcome(value, None) for value in (5, None, 7, 8)])
+        self.assertEqual([graph.outcome(stage) for stage in range(4)], [cf.Outcome(value, None) for value in (5, None, 7, 8)])
 
     def test_callers_of_two_desks_never_meet(self):
         """The library sees that they are of two only while nobody else has callers of the second, so it isn't asked."""

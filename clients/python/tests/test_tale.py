@@ -12,9 +12,9 @@ from pathlib import Path
 HERE = Path(__file__).resolve().parent
 if not os.environ.get("CF_INSTALLED"):
     sys.path.insert(0, str(HERE.parent))
-from cf import Code, Form, Plan, Refused
-from cf.service.words import FORMS
-from cf.tale import Kind, Said, Tale
+from cf import Code, Form, Plan, Refused  # noqa: E402
+from cf.service.words import FORMS  # noqa: E402
+from cf.tale import Kind, Said, Tale  # noqa: E402
 
 CASES = json.loads((HERE.parents[2] / "conformance/requests/told.json").read_text(encoding="utf-8"))
 TEXT = "r: 0 events, 0 stages\n"

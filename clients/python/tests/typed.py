@@ -17,14 +17,30 @@ from typing import TYPE_CHECKING, Any, Callable, Iterator, List, Optional, Set, 
 
 if TYPE_CHECKING:
     import cf
-    from cf.service import (Flow, History, LoopService, Request, RequestFull, Service, Span, SpanFile, Spans, Stage,
-                            describe_nothing, describe_types, spans_of, spans_to)
+    from cf.service import (
+        Flow,
+        History,
+        LoopService,
+        Request,
+        RequestFull,
+        Service,
+        Span,
+        SpanFile,
+        Spans,
+        Stage,
+        describe_nothing,
+        describe_types,
+        spans_of,
+        spans_to,
+    )
     from cf.store import DurableRequest, DurableStage, Functions
     from cf.testing import Arrival, Failure, Report, World, orders, pure, touches
 
-    def load(number: int) -> str: ...
+    def load(number: int) -> str:
+        ...
 
-    def size(text: str) -> int: ...
+    def size(text: str) -> int:
+        ...
 
     def futures(service: Service, request: Request, other: "concurrent.futures.Future[float]") -> None:
         text: Stage[str] = request.supply(load, 17)
@@ -35,6 +51,7 @@ if TYPE_CHECKING:
         told: Stage[bool] = text.handle(lambda value, error: error is None)
         same: Stage[str] = text.when_done(lambda value, error: None).recover(str).complete_on_timeout("late", 1)
         shown: Stage[str] = same.recover(lambda error: str(error))
+        print(shown)
         composed: Stage[int] = text.compose(lambda it: request.supply(size, it))
         deeper: Stage[int] = composed.recover_compose(lambda error: request.supply(size, ""))
         listed: Stage[List[int]] = request.gather(number, first)
@@ -71,10 +88,12 @@ if TYPE_CHECKING:
 
     def told(loop: asyncio.AbstractEventLoop, typed_flow: Flow) -> None:
         service = Service(2, describe=describe_types)
-        requests: List[Request] = [service.request("r", describe=describe_nothing),
-                                   service.start(typed_flow, 1, describe=lambda value: type(value).__name__),
-                                   LoopService(loop, describe=str).request(describe=repr),
-                                   typed_flow.run(describe=describe_types)]
+        requests: List[Request] = [
+            service.request("r", describe=describe_nothing),
+            service.start(typed_flow, 1, describe=lambda value: type(value).__name__),
+            LoopService(loop, describe=str).request(describe=repr),
+            typed_flow.run(describe=describe_types),
+        ]
         service.request("r", describe=len)  # type: ignore[arg-type]
         service.request("r", describe="types")  # type: ignore[arg-type]
         print(requests)
@@ -111,8 +130,7 @@ if TYPE_CHECKING:
         print(many, touches("cache")(size)("x"))
 
     def traced(loop: asyncio.AbstractEventLoop) -> None:
-        hooks: List[Callable[[History], object]] = [SpanFile(Path("spans")), Spans(), spans_to("spans", "shop"),
-                                                    lambda history: history.line()]
+        hooks: List[Callable[[History], object]] = [SpanFile(Path("spans")), Spans(), spans_to("spans", "shop"), lambda history: history.line()]
         services = [Service(on_end=hook) for hook in hooks]
         LoopService(loop, on_end=SpanFile("spans", service="shop"))
         with Service(contexts=True).request("r") as request:
@@ -148,8 +166,7 @@ def left_out(tree: ast.AST, name: str) -> Iterator[str]:
                 yield from left_out(node, f"{name}.{node.name}")
         elif isinstance(node, (ast.FunctionDef, ast.AsyncFunctionDef)):
             if not node.name.startswith("_") or node.name.startswith("__"):
-                given = [*node.args.posonlyargs, *node.args.args, *node.args.kwonlyargs,
-                         *filter(None, [node.args.vararg, node.args.kwarg])]
+                given = [*node.args.posonlyargs, *node.args.args, *node.args.kwonlyargs, *filter(None, [node.args.vararg, node.args.kwarg])]
                 bare = [it.arg for it in given if it.annotation is None and it.arg not in ("self", "cls")]
                 if bare or node.returns is None:
                     yield f"{name}.{node.name}: {', '.join(bare) or 'what it gives'}"
@@ -158,8 +175,7 @@ def left_out(tree: ast.AST, name: str) -> Iterator[str]:
 def undeclared(cls: ast.ClassDef) -> Iterator[str]:
     """The public attributes that a class sets, whose type is neither told nor that of a constant. What exceptions
     have is their own."""
-    told = {node.target.attr for node in ast.walk(cls) if isinstance(node, ast.AnnAssign)
-            and isinstance(node.target, ast.Attribute)} | {"args"}
+    told = {node.target.attr for node in ast.walk(cls) if isinstance(node, ast.AnnAssign) and isinstance(node.target, ast.Attribute)} | {"args"}
     for node in ast.walk(cls):
         if isinstance(node, ast.Assign) and not isinstance(node.value, ast.Constant):
             for it in [it for target in node.targets for it in getattr(target, "elts", [target])]:
@@ -170,10 +186,13 @@ def undeclared(cls: ast.ClassDef) -> Iterator[str]:
 
 def exported(package: Path) -> Set[str]:
     """What the packages name as theirs."""
-    assigned = [node for file in package.rglob("__init__.py") for node in ast.parse(file.read_text()).body
-                if isinstance(node, ast.Assign)]
-    return {name for node in assigned if isinstance(node.targets[0], ast.Name) and node.targets[0].id == "__all__"
-            for name in ast.literal_eval(node.value)}
+    assigned = [node for file in package.rglob("__init__.py") for node in ast.parse(file.read_text()).body if isinstance(node, ast.Assign)]
+    return {
+        name
+        for node in assigned
+        if isinstance(node.targets[0], ast.Name) and node.targets[0].id == "__all__"
+        for name in ast.literal_eval(node.value)
+    }
 
 
 def main() -> int:

@@ -35,5 +35,22 @@ from .stage import Stage
 from .watch import Watch
 from .words import RequestFull
 
-__all__ = ["Flow", "History", "LoopService", "Request", "RequestFull", "Service", "Span", "SpanFile", "Spans", "Stage",
-           "Step", "Watch", "describe_all", "describe_nothing", "describe_types", "spans_of", "spans_to"]
+__all__ = [
+    "Flow",
+    "History",
+    "LoopService",
+    "Request",
+    "RequestFull",
+    "Service",
+    "Span",
+    "SpanFile",
+    "Spans",
+    "Stage",
+    "Step",
+    "Watch",
+    "describe_all",
+    "describe_nothing",
+    "describe_types",
+    "spans_of",
+    "spans_to",
+]

@@ -17,7 +17,7 @@ else:
         except ImportError:
             pass
     if not IS_MODULE:
-        from ._machine import PlanCore
-        from ._plain import RequestCore, StageCore, be
+        from ._machine import PlanCore  # noqa: F811
+        from ._plain import RequestCore, StageCore, be  # noqa: F811
 
 __all__ = ["IS_MODULE", "PlanCore", "RequestCore", "StageCore", "be"]

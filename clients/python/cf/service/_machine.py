@@ -10,13 +10,12 @@ import threading
 from array import array
 from concurrent.futures import CancelledError
 from types import TracebackType
-from typing import (TYPE_CHECKING, Any, Callable, ClassVar, ContextManager, Dict, List, NoReturn, Optional, Sequence, Tuple,
-                    Type, cast)
+from typing import TYPE_CHECKING, Any, Callable, ClassVar, ContextManager, Dict, List, NoReturn, Optional, Sequence, Tuple, Type, cast
 
 from .._library import _HIGHEST, CALLS, CRequestStep, CTask, CTold, CValue, path
 from ..plan import Plan
 from ..values import BadAnswer, Code, Form, check
-from .words import (ATTACH, CANCELLED, CLOCK, COMPOSE_FORMS, MOST_EDGES, MOST_STAGES, RELAY, TIMED_OUT, RequestFull)
+from .words import ATTACH, CANCELLED, CLOCK, COMPOSE_FORMS, MOST_EDGES, MOST_STAGES, RELAY, TIMED_OUT, RequestFull
 
 if TYPE_CHECKING:
     from .request import Works
@@ -140,14 +139,30 @@ class Calls:
         def _at(self) -> int:
             """The address of the machine's handle."""
 
-        def _code(self, error: BaseException) -> int: ...
-        def _keep(self, value: Any) -> int: ...
-        def _attach_all(self, form: int, of: bytes, name: str) -> "Stage[Any]": ...
-        def _takes(self, stage: int, other: int, code: int) -> None: ...
-        def _link(self, stage: "Stage[Any]", who: int, to: Any) -> bool: ...
-        def _take_told(self) -> None: ...
-        def _take_turn(self) -> bool: ...
-        def _hand_on_chosen(self) -> None: ...
+        def _code(self, error: BaseException) -> int:
+            ...
+
+        def _keep(self, value: Any) -> int:
+            ...
+
+        def _attach_all(self, form: int, of: bytes, name: str) -> "Stage[Any]":
+            ...
+
+        def _takes(self, stage: int, other: int, code: int) -> None:
+            ...
+
+        def _link(self, stage: "Stage[Any]", who: int, to: Any) -> bool:
+            ...
+
+        def _take_told(self) -> None:
+            ...
+
+        def _take_turn(self) -> bool:
+            ...
+
+        def _hand_on_chosen(self) -> None:
+            ...
+
     else:
         __slots__ = ()
 
@@ -289,17 +304,17 @@ class Calls:
         check(_words(self._at, 0, _untold, 0, c.addressof(many)))
         words = array("Q", bytes(8 * max(many.value, 1)))
         check(_words(self._at, 0, words.buffer_info()[0], many.value, c.addressof(many)))
-        return words[:many.value]
+        return words[: many.value]
 
     def _facts(self) -> "Tuple[array[int], array[int], List[str], List[Any], List[BaseException]]":
         """The words, the time of each in nanoseconds, and names, values and errors. What the machine does to a relay by
         itself is told as the relay's."""
         with self._lock:
             words, times = self._words(), array("q", bytes(self._times))
-            del words[len(times):]
+            del words[len(times) :]
             forms = [row[0] for row in (() if self._plan is None else self._plan.rows)]
             forms += [word >> 24 & 0xFF for word in words if word >> 56 == ATTACH]
-            facts = words, times[:len(words)], self._names[:len(forms)], self._values[:], self._errors[:]
+            facts = words, times[: len(words)], self._names[: len(forms)], self._values[:], self._errors[:]
         for place, word in enumerate(words):
             above = (word >> 36 & 0xFFF) + 1
             if word >> 48 & 0xFF == CLOCK and above < len(forms) and forms[above] in COMPOSE_FORMS:

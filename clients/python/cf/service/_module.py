@@ -45,8 +45,7 @@ class RequestCore(_cf.RequestCore, Calls):
     __slots__ = ("_title", "_keeps", "_plan", "__weakref__")
     _lock: ContextManager[Any] = contextlib.nullcontext()
 
-    def __init__(self, works: "Works", title: str, room: int, keeps: object = None,
-                 plan: Optional[PlanCore] = None) -> None:
+    def __init__(self, works: "Works", title: str, room: int, keeps: object = None, plan: Optional[PlanCore] = None) -> None:
         pool, calls, names = (plan or _nothing).kept
         _cf.RequestCore.__init__(self, works, self._stage_class, room, pool, calls, names[:])
         self._title, self._keeps, self._plan = title, keeps, plan
@@ -89,7 +88,8 @@ class StageCore(_cf.StageCore):
 
     if TYPE_CHECKING:
 
-        def _wait(self, timeout: Optional[float]) -> None: ...
+        def _wait(self, timeout: Optional[float]) -> None:
+            ...
 
     def _awaited_result(self, timeout: Optional[float] = None) -> Any:
         """`result`, where its value isn't there yet."""

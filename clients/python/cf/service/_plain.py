@@ -26,9 +26,32 @@ from typing import TYPE_CHECKING, Any, Callable, Dict, List, Optional, Sequence,
 from .._library import CApplied, CGathering, CHandle, CRequestSizes, CRequestStep, CStage, CTask, CTold
 from ..values import Code, Form, Refused, check
 from ._machine import Calls, PlanCore, bound
-from .words import (ANSWER, ARGS, ATTACH, CANCEL, CANCELLED, CLAIM, CLOCK, COMPLETE, COMPOSE_FORMS, FAIL, FAIL_AS,
-                    FAIL_BADLY, FAILURES, FINISH, GIVES, GOT, LINKS, PENDING, THIS_THREAD, THROWN, THROWS, VALUE,
-                    RequestFull, Told)
+from .words import (
+    ANSWER,
+    ARGS,
+    ATTACH,
+    CANCEL,
+    CANCELLED,
+    CLAIM,
+    CLOCK,
+    COMPLETE,
+    COMPOSE_FORMS,
+    FAIL,
+    FAIL_AS,
+    FAIL_BADLY,
+    FAILURES,
+    FINISH,
+    GIVES,
+    GOT,
+    LINKS,
+    PENDING,
+    THIS_THREAD,
+    THROWN,
+    THROWS,
+    VALUE,
+    RequestFull,
+    Told,
+)
 
 if TYPE_CHECKING:
     from .request import Works
@@ -47,9 +70,18 @@ ROWS = 16  # how many stages a call tells at once
 class _Block(c.Structure):
     """A request's handle, and what its calls are given and tell."""
 
-    _fields_ = [("handle", CHandle), ("sizes", CRequestSizes), ("applied", CApplied), ("gathering", CGathering),
-                ("step", CRequestStep), ("task", CTask), ("stage", CStage), ("count", c.c_size_t),
-                ("ready", c.c_uint16), ("told", CTold * ROWS)]
+    _fields_ = [
+        ("handle", CHandle),
+        ("sizes", CRequestSizes),
+        ("applied", CApplied),
+        ("gathering", CGathering),
+        ("step", CRequestStep),
+        ("task", CTask),
+        ("stage", CStage),
+        ("count", c.c_size_t),
+        ("ready", c.c_uint16),
+        ("told", CTold * ROWS),
+    ]
 
 
 def _place(field: str, within: Any = None) -> int:
@@ -59,8 +91,7 @@ def _place(field: str, within: Any = None) -> int:
 
 _SIZES, _REPLY, _APPLIED_TOLD = _place("sizes"), _place("applied"), _place("applied", CApplied.told)
 _GATHERING, _GATHERED_TOLD = _place("gathering"), _place("gathering", CGathering.told)
-_STEP, _TASK, _TASK_STAGE, _TASK_ARGS = (_place("step"), _place("task"), _place("task", CTask.stage),
-                                         _place("task", CTask.args))
+_STEP, _TASK, _TASK_STAGE, _TASK_ARGS = (_place("step"), _place("task"), _place("task", CTask.stage), _place("task", CTask.args))
 _OUTCOME, _TOLD, _TOLD_NUMBERS = _place("stage", CStage.outcome), _place("told"), c.sizeof(CTold) // 4
 _COUNT, _READY = _place("count"), _place("ready")
 _REPLY_ARGS = _REPLY + ARGS
@@ -88,12 +119,14 @@ class _Parents:
     def __enter__(self) -> None:
         raise RuntimeError("this request was being changed as its process forked: it is the parent's alone")
 
-    def __exit__(self, *_cause: object) -> None: ...
+    def __exit__(self, *_cause: object) -> None:
+        ...
 
     def acquire(self, timeout: float = -1) -> bool:
         return False
 
-    def release(self) -> None: ...
+    def release(self) -> None:
+        ...
 
 
 class _Forks:
@@ -163,7 +196,9 @@ if TYPE_CHECKING:
         _waiters: List[Any]
         _done_callbacks: List[Callable[[Any], object]]
 
-        def _log(self, error: BaseException) -> None: ...
+        def _log(self, error: BaseException) -> None:
+            ...
+
 else:
     _Future = object
 
@@ -291,7 +326,7 @@ class _Machine:
     def outcome(self, stage: int) -> Told:
         """What a stage came to."""
         check(_stage(self.at, stage, self.at + 4 * (_OUTCOME - 3)))
-        return Told(*self.numbers[_OUTCOME:_OUTCOME + 5])
+        return Told(*self.numbers[_OUTCOME : _OUTCOME + 5])
 
 
 _Begun = Tuple["Stage[Any]", Callable[..., Any], Tuple[Any, ...], Dict[str, Any]]
@@ -305,11 +340,26 @@ class RequestCore(Calls):
     function is the lowest ready one then. There are as many turns as ready functions, or more. One for which no
     function is left does nothing."""
 
-    __slots__ = ("_works", "_title", "_keeps", "_plan", "_lock", "_machine", "_rows", "_names", "_most", "_values",
-                 "_errors", "_times", "_counts", "_turns", "_chooses", "__weakref__")
+    __slots__ = (
+        "_works",
+        "_title",
+        "_keeps",
+        "_plan",
+        "_lock",
+        "_machine",
+        "_rows",
+        "_names",
+        "_most",
+        "_values",
+        "_errors",
+        "_times",
+        "_counts",
+        "_turns",
+        "_chooses",
+        "__weakref__",
+    )
 
-    def __init__(self, works: "Works", title: str, room: int, keeps: object = None,
-                 plan: Optional[PlanCore] = None) -> None:
+    def __init__(self, works: "Works", title: str, room: int, keeps: object = None, plan: Optional[PlanCore] = None) -> None:
         self._works, self._title, self._keeps, self._plan = works, title, keeps, plan
         self._lock: "threading.Lock | _Parents" = threading.Lock()
         self._rows: List[_Row] = [] if plan is None else [_Row(form, of) for form, of, _, _ in plan.rows]
@@ -355,8 +405,7 @@ class RequestCore(Calls):
             check(code)
         self._stamp(1)
         if machine.numbers[_APPLIED_TOLD]:
-            self._note(machine.numbers[_APPLIED_TOLD], settled, word >> 36 & 4095,
-                       error if machine.numbers[_REPLY + ANSWER] else None)
+            self._note(machine.numbers[_APPLIED_TOLD], settled, word >> 36 & 4095, error if machine.numbers[_REPLY + ANSWER] else None)
         return machine.numbers
 
     def _add(self, row: _Row, name: str, word: int, settled: "List[Stage[Any]]") -> None:
@@ -384,9 +433,9 @@ class RequestCore(Calls):
         first source that has one."""
         machine, rows = self._machine, self._rows
         while many:
-            told = machine.numbers[_TOLD:_TOLD + _TOLD_NUMBERS * min(many, ROWS)].tolist()
+            told = machine.numbers[_TOLD : _TOLD + _TOLD_NUMBERS * min(many, ROWS)].tolist()
             for k in range(0, len(told), _TOLD_NUMBERS):
-                number, outcome = told[k] & 0xFFFF, Told(*told[k + 1:k + 6])
+                number, outcome = told[k] & 0xFFFF, Told(*told[k + 1 : k + 6])
                 row = rows[number]
                 row.kind = outcome.kind
                 if outcome.kind not in FAILURES:
@@ -414,9 +463,16 @@ class RequestCore(Calls):
 
     # What others call.
 
-    def _attach(self, form: int, first: "Optional[Stage[Any]]", second: "Optional[Stage[Any]]",
-                call: Optional[Callable[..., Any]], args: Optional[Tuple[Any, ...]], kwargs: Optional[Dict[str, Any]],
-                name: str) -> "Stage[Any]":
+    def _attach(
+        self,
+        form: int,
+        first: "Optional[Stage[Any]]",
+        second: "Optional[Stage[Any]]",
+        call: Optional[Callable[..., Any]],
+        args: Optional[Tuple[Any, ...]],
+        kwargs: Optional[Dict[str, Any]],
+        name: str,
+    ) -> "Stage[Any]":
         """A stage more, to at most two sources of this request. Below a composing one stands its relay, a source."""
         of = [source.number for source in (first, second) if source is not None]
         if any(source is not None and source.request is not self for source in (first, second)):
@@ -433,8 +489,12 @@ class RequestCore(Calls):
                 self._add(_Row(Form.SOURCE, ()), "relay", ATTACH << 56 | _here.who << 48, settled)
             stage.number = number = len(self._rows)
             sources = (*of, 0, 0)
-            self._add(_Row(form, of, stage), name, ATTACH << 56 | _here.who << 48 | sources[0] << 36 |
-                      len(of) << 32 | form << 24 | sources[1] << 12 | (0 if call is None else number), settled)
+            self._add(
+                _Row(form, of, stage),
+                name,
+                ATTACH << 56 | _here.who << 48 | sources[0] << 36 | len(of) << 32 | form << 24 | sources[1] << 12 | (0 if call is None else number),
+                settled,
+            )
             is_ready = call is not None and (not of or any(self._rows[source].kind for source in of))
         self._tell(settled, is_ready)
         return stage
@@ -452,14 +512,14 @@ class RequestCore(Calls):
             while code == Code.NO_ROOM:
                 if at + many > self._most:
                     self._refuse_stage()
-                code = _gather(machine.at, machine.at + 4 * _GATHERING, (numbers or array("H", [0])).buffer_info()[0],
-                               len(numbers), machine.told, ROWS)
+                code = _gather(
+                    machine.at, machine.at + 4 * _GATHERING, (numbers or array("H", [0])).buffer_info()[0], len(numbers), machine.told, ROWS
+                )
                 if code == Code.NO_ROOM:
                     machine.grow()
             check(code)
             stage.number = at + many - 1
-            self._rows += [_Row(form, numbers[:2] if not k else (at + k - 1, numbers[k + 1]),
-                                stage if k == many - 1 else None) for k in range(many)]
+            self._rows += [_Row(form, numbers[:2] if not k else (at + k - 1, numbers[k + 1]), stage if k == many - 1 else None) for k in range(many)]
             self._names += [name] * many
             self._stamp(many)
             self._note(machine.numbers[_GATHERED_TOLD], settled)
@@ -476,11 +536,9 @@ class RequestCore(Calls):
             if kind == CANCEL and given is True and row.running and row.kind == PENDING:
                 return False
             error = self._code(given) if kind >= FAIL_AS else None
-            low = (self._number(given) if kind == COMPLETE else self._code(given) if kind == FAIL else
-                   int(kind == FAIL_BADLY) << 32)
+            low = self._number(given) if kind == COMPLETE else self._code(given) if kind == FAIL else int(kind == FAIL_BADLY) << 32
             kind = min(kind, FAIL_AS)
-            numbers = self._apply(kind << 56 | (_here.who if who == THIS_THREAD else who) << 48 | number << 36 | low,
-                                  settled, error)
+            numbers = self._apply(kind << 56 | (_here.who if who == THIS_THREAD else who) << 48 | number << 36 | low, settled, error)
             did, is_ready = numbers[_REPLY + ANSWER], bool(numbers[_APPLIED_TOLD])
         self._tell(settled, is_ready)
         return bool(did)
@@ -558,8 +616,7 @@ class RequestCore(Calls):
                 number, at = stage.number, _REPLY_ARGS
             row = self._rows[number]
             self._show_running(row)
-            call, (args, kwargs) = ((self._plan_call(number), ((), {})) if row.stage is None else
-                                    (row.stage._call, row.stage._given))
+            call, (args, kwargs) = (self._plan_call(number), ((), {})) if row.stage is None else (row.stage._call, row.stage._given)
             return None if call is None else (number, call, args or self._args(number, at), kwargs)
 
     def _plan_call(self, number: int) -> Optional[Callable[..., Any]]:
@@ -574,8 +631,7 @@ class RequestCore(Calls):
     def _finish(self, number: int, who: int, kind: int, given: Any) -> bool:
         settled: "List[Stage[Any]]" = []
         with self._lock:
-            low = (self._number(given) if kind == GIVES else THROWS << 32 | self._code(given) if kind == THROWS else
-                   LINKS << 32 | given.number)
+            low = self._number(given) if kind == GIVES else THROWS << 32 | self._code(given) if kind == THROWS else LINKS << 32 | given.number
             if kind == LINKS:
                 self._rows[number].of = (given.number,)  # it takes that one's exception
             numbers = self._apply(FINISH << 56 | who << 48 | number << 36 | low, settled)
@@ -687,7 +743,7 @@ class RequestCore(Calls):
 
     def _args(self, number: int, at: int) -> Tuple[Any, ...]:
         """What a function is called with, as it is told from a place on."""
-        kind, first_some, first, second_some, second, *outcome = self._machine.numbers[at:at + 10]
+        kind, first_some, first, second_some, second, *outcome = self._machine.numbers[at : at + 10]
         if kind == GOT:
             got, row = Told(*outcome), self._rows[number]
             error = None if got.kind == VALUE else self._error(got, self._error_of(row, got.kind))

@@ -27,9 +27,16 @@ class ContextRequest(Request):
         if self._plan is not None:
             self._context = contextvars.copy_context()
 
-    def _attach(self, form: int, first: "Optional[Stage[Any]]", second: "Optional[Stage[Any]]",
-                call: Optional[Callable[..., Any]], args: Optional[Tuple[Any, ...]], kwargs: Optional[Dict[str, Any]],
-                name: str) -> "Stage[Any]":
+    def _attach(
+        self,
+        form: int,
+        first: "Optional[Stage[Any]]",
+        second: "Optional[Stage[Any]]",
+        call: Optional[Callable[..., Any]],
+        args: Optional[Tuple[Any, ...]],
+        kwargs: Optional[Dict[str, Any]],
+        name: str,
+    ) -> "Stage[Any]":
         within = None if call is None else Within(contextvars.copy_context().run, call)
         return RequestCore._attach(self, form, first, second, within, args, kwargs, name)
 

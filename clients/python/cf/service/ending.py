@@ -39,8 +39,10 @@ class Ends:
 
     def tell(self, make: Callable[[], History], context: contextvars.Context) -> None:
         """Has the hook called with the history that this gives, or drops that where too many wait."""
-        self._aside.put(partial(self._call, make, context), lambda: LOGGER.warning(
-            "%d ended requests wait for the hook of %s: further ones aren't told", MOST, self._name))
+        self._aside.put(
+            partial(self._call, make, context),
+            lambda: LOGGER.warning("%d ended requests wait for the hook of %s: further ones aren't told", MOST, self._name),
+        )
 
     def _call(self, make: Callable[[], History], context: contextvars.Context) -> None:
         try:

@@ -157,9 +157,8 @@ class Flow:
             raise ValueError("a list of nothing needs no step")
         row: List[Step[List[T]]] = [step.then(_alone).named("gather") for step in of]
         while len(row) > 1:
-            pairs = [row[k:k + 2] for k in range(0, len(row), 2)]
-            row = [pair[0].combine(pair[1], operator.add).named("gather") if len(pair) == 2 else pair[0]
-                   for pair in pairs]
+            pairs = [row[k : k + 2] for k in range(0, len(row), 2)]
+            row = [pair[0].combine(pair[1], operator.add).named("gather") if len(pair) == 2 else pair[0] for pair in pairs]
         return row[0]
 
     def run(self, *given: Any, name: str = "", describe: Optional[Describe] = None) -> Request:
@@ -181,8 +180,7 @@ class Flow:
         request._work(FIRST_WORKER)
         return request
 
-    def _step(self, form: Form, of: "Sequence[Step[Any]]", fn: Optional[Callable[..., Any]],
-              name: str = "") -> "Step[Any]":
+    def _step(self, form: Form, of: "Sequence[Step[Any]]", fn: Optional[Callable[..., Any]], name: str = "") -> "Step[Any]":
         if any(step.flow is not self for step in of):
             raise ValueError("a step of another flow")
         row = (int(form), tuple(step.number for step in of), fn, name or name_of(fn))

@@ -13,8 +13,7 @@ from ..ledger import Ledger
 from ..plan import Plan
 from ..tale import Kind, Said, Tale
 from ..values import Form
-from .words import (BAD_ANSWER, CANCELLED, CLIENT, CLOCK, FIRST_WORKER, IS_SETTLED, RELAY, REPLY_NUMBERS, THROWN,
-                    TIMED_OUT, Told)
+from .words import BAD_ANSWER, CANCELLED, CLIENT, CLOCK, FIRST_WORKER, IS_SETTLED, RELAY, REPLY_NUMBERS, THROWN, TIMED_OUT, Told
 
 if TYPE_CHECKING:
     from typing import Protocol
@@ -23,7 +22,9 @@ if TYPE_CHECKING:
         """A plan. Of each stage the form, the numbers of its sources, its function or None, and its name."""
 
         @property
-        def rows(self) -> Sequence[Tuple[int, Tuple[int, ...], Optional[Callable[..., Any]], str]]: ...
+        def rows(self) -> Sequence[Tuple[int, Tuple[int, ...], Optional[Callable[..., Any]], str]]:
+            ...
+
 
 LONGEST_TEXT = 60  # characters that are told of a value
 FORGING = ("Cc", "Cf", "Cs", "Zl", "Zp")  # the categories of characters that could make a text look like another line
@@ -58,7 +59,7 @@ def describe_all(value: object) -> str:
         text = repr(value)
     except Exception:
         text = f"a {type(value).__name__}"
-    return text if len(text) <= LONGEST_TEXT else text[:LONGEST_TEXT - 3] + "..."
+    return text if len(text) <= LONGEST_TEXT else text[: LONGEST_TEXT - 3] + "..."
 
 
 def describe_types(value: object) -> str:
@@ -120,8 +121,7 @@ class History:
         words: The word of each event.
         values, errors: What the numbers in the words stand for."""
 
-    def __init__(self, name: str, plan: "Optional[Planned]",
-                 facts: Tuple[Any, Any, List[str], List[Any], List[BaseException]]) -> None:
+    def __init__(self, name: str, plan: "Optional[Planned]", facts: Tuple[Any, Any, List[str], List[Any], List[BaseException]]) -> None:
         words, times, names, values, errors = facts
         self.name: str = name
         self.names: List[str] = names
@@ -130,8 +130,7 @@ class History:
         self._describe: Describe = describe_all
         self.words: List[int] = _numbers("Q", words)
         rows = [] if plan is None else plan.rows
-        self.planned: List[Tuple[int, Tuple[int, ...], bool]] = [
-            (form, of, call is not None) for form, of, call, _ in rows]
+        self.planned: List[Tuple[int, Tuple[int, ...], bool]] = [(form, of, call is not None) for form, of, call, _ in rows]
         self._times = _numbers("q", times)
         self._since = time.time_ns() - time.monotonic_ns()  # when the clock of the times was at 0
         self._opened: Optional[int] = None  # in nanoseconds since 1970, where the first event doesn't tell it
@@ -150,16 +149,17 @@ class History:
         """All events, as named tuples. The library does the words again for these."""
         if self._entries is None:
             first = self._times[0] if self._times else 0
-            self._entries = [Entry(k + 1, (self._times[k] - first) / 1e9, word, event_of(word), reply, told)
-                             for k, (word, (reply, told)) in enumerate(zip(self.words, self._done_again()))]
+            self._entries = [
+                Entry(k + 1, (self._times[k] - first) / 1e9, word, event_of(word), reply, told)
+                for k, (word, (reply, told)) in enumerate(zip(self.words, self._done_again()))
+            ]
         return self._entries
 
     def start(self) -> List[Tuple[int, Told]]:
         """Which stages are settled before the first event, and with what."""
         if self._start is None:
             with Ledger(self._plan()) as ledger:
-                stages = [(number, ledger._tell("cf_ledger_stage", CStage(), number))
-                          for number in range(len(self.planned))]
+                stages = [(number, ledger._tell("cf_ledger_stage", CStage(), number)) for number in range(len(self.planned))]
             self._start = [(number, _outcome(it)) for number, it in stages if it.kind == IS_SETTLED]
         return self._start
 
@@ -171,8 +171,7 @@ class History:
         with Ledger(self._plan(), many - len(self.planned)) as ledger:
             for word in self.words:
                 ledger._call("cf_ledger_apply", word, c.byref(reply), news, many, c.byref(count))
-                told = [(it.stage, _outcome(it.now)) for it in news[:count.value]
-                        if it.now.kind == IS_SETTLED and it.stage not in settled]
+                told = [(it.stage, _outcome(it.now)) for it in news[: count.value] if it.now.kind == IS_SETTLED and it.stage not in settled]
                 settled.update(number for number, _ in told)
                 yield tuple(numbers), told
 
@@ -244,8 +243,7 @@ class History:
         Raises:
             FileNotFoundError: The program isn't there.
             subprocess.CalledProcessError: The program fails."""
-        done = subprocess.run([program, "page"], input=self.account(), stdout=subprocess.PIPE, check=True,
-                              encoding="utf-8")
+        done = subprocess.run([program, "page"], input=self.account(), stdout=subprocess.PIPE, check=True, encoding="utf-8")
         return done.stdout
 
     # What things are called.

@@ -53,8 +53,9 @@ class LoopService:
     Raises:
         ValueError: Both a watch and a hook are given."""
 
-    def __init__(self, loop: asyncio.AbstractEventLoop, *, describe: Describe = describe_all,
-                 watch: Optional[Watch] = None, on_end: Optional[Hook] = None) -> None:
+    def __init__(
+        self, loop: asyncio.AbstractEventLoop, *, describe: Describe = describe_all, watch: Optional[Watch] = None, on_end: Optional[Hook] = None
+    ) -> None:
         if watch is not None and on_end is not None:
             raise ValueError("a watch and on_end aren't given together")
         ends = None if on_end is None else Ends(on_end, "LoopService_ends")
@@ -73,8 +74,7 @@ class LoopService:
 
     def start(self, flow: Flow, *given: Any, name: str = "", describe: Optional[Describe] = None) -> Request:
         """As `Service.start`."""
-        return flow._start(self._kind, self._works, name or f"{flow.name} {next(self._requests)}", self,
-                           given)._describing(describe)
+        return flow._start(self._kind, self._works, name or f"{flow.name} {next(self._requests)}", self, given)._describing(describe)
 
     def submit(self, fn: "Callable[P, T]", /, *args: "P.args", **kwargs: "P.kwargs") -> "Stage[T]":
         """As `Service.submit`: calls a function on the loop, or runs a coroutine, in a request of one stage. Any thread
@@ -152,8 +152,7 @@ class _LoopWorks(LoopWakes):
         else:
             running.task = None
             request = stage.request
-            goes_on = (request._link(stage, FIRST_WORKER, value) if stage._form in COMPOSE_FORMS else
-                       request._end(stage, FIRST_WORKER, GIVES, value))
+            goes_on = request._link(stage, FIRST_WORKER, value) if stage._form in COMPOSE_FORMS else request._end(stage, FIRST_WORKER, GIVES, value)
         if goes_on:
             self.use(stage.request)
 

@@ -108,32 +108,39 @@ if TYPE_CHECKING:
         """Knows the time, and rings each request (`_ring`) at the first of its limits. Moments are nanoseconds of a
         clock that never goes back."""
 
-        def now(self, request: Request) -> int: ...
+        def now(self, request: "Request") -> int:
+            ...
 
-        def ask(self, request: Request, moment: int) -> None:
+        def ask(self, request: "Request", moment: int) -> None:
             """A request that has limits is to be rung at this moment, if it isn't before."""
 
-        def drop(self, request: Request) -> None:
+        def drop(self, request: "Request") -> None:
             """A request that has no limits needn't be rung."""
 
     class Works(Protocol):
         """Runs stages that are ready: threads or an event loop."""
 
         @property
-        def clock(self) -> Clock: ...
+        def clock(self) -> Clock:
+            ...
 
         @property
-        def closed(self) -> bool: ...
+        def closed(self) -> bool:
+            ...
 
         @property
-        def describe(self) -> Describe: ...
+        def describe(self) -> Describe:
+            ...
 
         @property
-        def ends(self) -> Optional[Ends]: ...
+        def ends(self) -> Optional[Ends]:
+            ...
 
-        def refusal(self) -> RuntimeError: ...
+        def refusal(self) -> RuntimeError:
+            ...
 
-        def put(self, request: Request) -> bool: ...
+        def put(self, request: "Request") -> bool:
+            ...
 
         @property
         def is_parents(self) -> bool:
@@ -260,8 +267,7 @@ class Request(RequestCore):
         if self._works.closed:
             raise self._works.refusal()
         here, holds = self._relays_of(of, 1)
-        done: Stage[List[T]] = self._behind(Form.APPLY, self._gather(Form.ALL_OF, here, "all of"), None,
-                                            functools.partial(_results, here))
+        done: Stage[List[T]] = self._behind(Form.APPLY, self._gather(Form.ALL_OF, here, "all of"), None, functools.partial(_results, here))
         _let_go_with(done, holds)
         return done.named("gather")
 
@@ -276,21 +282,19 @@ class Request(RequestCore):
 
     def history(self) -> History:
         """All that happened until now, as a `History` that stays as it is. It takes about a microsecond an event."""
-        return History(self.name, self._plan,
-                       self._facts())._described(getattr(self, "_describe", self._works.describe))
+        return History(self.name, self._plan, self._facts())._described(getattr(self, "_describe", self._works.describe))
 
     def cancel(self) -> None:
-        """Cancels all stages that aren't settled, from the first on, as `abandon` does: also those whose functions run,
-        and those that the ones before them would have settled. What is attached later isn't cancelled. The history has
-        an event for each stage that was cancelled by itself. A function that takes exceptions (`handle`, `recover`) may be
-        called before its own stage is cancelled.
+        """Cancels all stages that aren't settled, as `abandon` does: also those whose functions run. It begins with the last
+        one, so no function that takes exceptions (`handle`, `recover`) is called for it. What is attached later isn't
+        cancelled. The history has an event for each stage.
 
             try:
                 return await answer
             finally:  # also if the client hangs up
                 request.cancel()"""
         first: Optional[BaseException] = None
-        for stage in map(self._stage, range(self._stages)):
+        for stage in map(self._stage, reversed(range(self._stages))):
             try:
                 if not stage.done():
                     stage.abandon()
@@ -321,8 +325,7 @@ class Request(RequestCore):
 
     # Attaching.
 
-    def _behind(self, form: Form, first: "Stage[Any]", second: "Optional[concurrent.futures.Future[Any]]",
-                fn: Callable[..., Any]) -> "Stage[Any]":
+    def _behind(self, form: Form, first: "Stage[Any]", second: "Optional[concurrent.futures.Future[Any]]", fn: Callable[..., Any]) -> "Stage[Any]":
         if self._works.closed:
             raise self._works.refusal()
         name = name_of(fn)
@@ -339,8 +342,7 @@ class Request(RequestCore):
         _let_go_with(stage, holds)
         return stage
 
-    def _relays_of(self, of: "Sequence[concurrent.futures.Future[Any]]",
-                   more: int) -> "Tuple[List[Stage[Any]], List[Hold]]":
+    def _relays_of(self, of: "Sequence[concurrent.futures.Future[Any]]", more: int) -> "Tuple[List[Stage[Any]], List[Hold]]":
         """Stages of this request that end as these futures do, and what lets go of the relays among them. There is
         room to gather them and for so many stages more, else nothing is attached."""
         _check_futures(of)
@@ -416,9 +418,11 @@ def _check_futures(of: Sequence[object]) -> None:
     """Raises where one of these can't be waited for, before anything is attached."""
     for future in of:
         if not hasattr(future, "add_done_callback"):
-            raise TypeError(f"futures of concurrent.futures are wanted, and not a {type(future).__name__}: give those "
-                            "of a list one by one, as gather(*futures), and a coroutine function to a LoopService's "
-                            "supply")
+            raise TypeError(
+                f"futures of concurrent.futures are wanted, and not a {type(future).__name__}: give those "
+                "of a list one by one, as gather(*futures), and a coroutine function to a LoopService's "
+                "supply"
+            )
 
 
 def _results(stages: "List[Stage[T]]", _: None) -> List[T]:

@@ -66,8 +66,7 @@ class Service(concurrent.futures.Executor):
 
     _services = itertools.count()
 
-    def __new__(cls, max_workers: Optional[int] = None, *given: Any, store: "Optional[Store]" = None,
-                **more: Any) -> Any:
+    def __new__(cls, max_workers: Optional[int] = None, *given: Any, store: "Optional[Store]" = None, **more: Any) -> Any:
         """With a `store` of `cf.store` it is a `cf.store.DurableService`, whose requests outlive the process."""
         if store is None:
             return super().__new__(cls)
@@ -75,10 +74,19 @@ class Service(concurrent.futures.Executor):
 
         return DurableService(store, max_workers, *given, **more)
 
-    def __init__(self, max_workers: Optional[int] = None, thread_name_prefix: str = "",
-                 initializer: Optional[Callable[..., object]] = None, initargs: Tuple[Any, ...] = (), *,
-                 store: "Optional[Store]" = None, describe: Describe = describe_all,
-                 watch: Optional[Watch] = None, on_end: Optional[Hook] = None, contexts: bool = False) -> None:
+    def __init__(
+        self,
+        max_workers: Optional[int] = None,
+        thread_name_prefix: str = "",
+        initializer: Optional[Callable[..., object]] = None,
+        initargs: Tuple[Any, ...] = (),
+        *,
+        store: "Optional[Store]" = None,
+        describe: Describe = describe_all,
+        watch: Optional[Watch] = None,
+        on_end: Optional[Hook] = None,
+        contexts: bool = False,
+    ) -> None:
         workers = min(32, (os.cpu_count() or 1) + 4) if max_workers is None else max_workers
         if workers <= 0:
             raise ValueError("max_workers must be greater than 0")
@@ -93,8 +101,7 @@ class Service(concurrent.futures.Executor):
         if watch is not None:
             self._works, self._kind = WatchedWorks(watch, describe), WatchedRequest
             return
-        self._works = Works(workers, prefix, initializer, initargs, describe,
-                            None if on_end is None else Ends(on_end, f"{prefix}_ends"))
+        self._works = Works(workers, prefix, initializer, initargs, describe, None if on_end is None else Ends(on_end, f"{prefix}_ends"))
         self._kind = (ContextRequest if contexts else Request) if on_end is None else EndingRequest
         weakref.finalize(self, self._works.close)
 
@@ -123,8 +130,7 @@ class Service(concurrent.futures.Executor):
 
         Raises:
             ValueError: More values are given than there are promises."""
-        return flow._start(self._kind, self._works, name or f"{flow.name} {next(self._requests)}", self,
-                           given)._describing(describe)
+        return flow._start(self._kind, self._works, name or f"{flow.name} {next(self._requests)}", self, given)._describing(describe)
 
     def submit(self, fn: "Callable[P, T]", /, *args: "P.args", **kwargs: "P.kwargs") -> "Stage[T]":
         """Calls a function on one of the threads, in a request of one stage.

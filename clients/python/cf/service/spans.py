@@ -56,8 +56,7 @@ class _Reading:
     def __init__(self, history: History) -> None:
         self.history = history
         self.moments = [history._since + at for at in history._times]
-        self.shapes: Dict[int, Tuple[int, Sequence[int]]] = {
-            number: (form, of) for number, (form, of, _) in enumerate(history.planned)}
+        self.shapes: Dict[int, Tuple[int, Sequence[int]]] = {number: (form, of) for number, (form, of, _) in enumerate(history.planned)}
         self.claims: Dict[int, Entry] = {}
         self.finishes: Dict[int, Entry] = {}
         self.ends: Dict[int, Told] = dict(history.start())
@@ -105,11 +104,16 @@ class _Reading:
     def _span(self, stage: int) -> Span:
         form, of = self.shapes[stage]
         claim, finish = self.claims[stage], self.finishes.get(stage)
-        attributes: Attributes = {"cf.stage": stage, "cf.caller": self.history.caller(claim.event.who),
-                                  "cf.form": FORMS[form]}
-        return Span(_whole(self.history.names[stage]), self.moments[claim.place - 1],
-                    self.moments[-1 if finish is None else finish.place - 1], attributes,
-                    [source for source in of if source in self.claims], *self._status(stage), self._raised(finish))
+        attributes: Attributes = {"cf.stage": stage, "cf.caller": self.history.caller(claim.event.who), "cf.form": FORMS[form]}
+        return Span(
+            _whole(self.history.names[stage]),
+            self.moments[claim.place - 1],
+            self.moments[-1 if finish is None else finish.place - 1],
+            attributes,
+            [source for source in of if source in self.claims],
+            *self._status(stage),
+            self._raised(finish),
+        )
 
     def _raised(self, finish: Optional[Entry]) -> Optional[Attributes]:
         answer = finish.event.answer if finish is not None and isinstance(finish.event, Finish) else None
@@ -166,8 +170,7 @@ class Spans:
         end = 0
         for span in spans_of(history):
             links = [self._trace.Link(made[stage].get_span_context()) for stage in span.sources]
-            shown = self._tracer.start_span(span.name, within, attributes=span.attributes, links=links,
-                                            start_time=span.start)
+            shown = self._tracer.start_span(span.name, within, attributes=span.attributes, links=links, start_time=span.start)
             if span.raised is not None:
                 shown.add_event("exception", span.raised, span.end)
             if span.status:
@@ -201,14 +204,21 @@ def _line(spans: Sequence[Span], service: str) -> str:
 def _json(trace: str, place: int, span: Span) -> Dict[str, Any]:
     number = int(span.attributes["cf.stage"]) + 1 if place else WHOLE
     status: Attributes = {"code": span.status, **({"message": span.message} if span.message else {})}
-    events = [] if span.raised is None else [
-        {"timeUnixNano": str(span.end), "name": "exception", "attributes": _attributes(span.raised)}]
-    return {"traceId": trace, "spanId": f"{number:016x}", **({"parentSpanId": f"{WHOLE:016x}"} if place else {}),
-            "name": span.name, "kind": INTERNAL, "startTimeUnixNano": str(span.start),
-            "endTimeUnixNano": str(span.end), "attributes": _attributes(span.attributes), "events": events,
-            "links": [{"traceId": trace, "spanId": f"{stage + 1:016x}"} for stage in span.sources], "status": status}
+    events = [] if span.raised is None else [{"timeUnixNano": str(span.end), "name": "exception", "attributes": _attributes(span.raised)}]
+    return {
+        "traceId": trace,
+        "spanId": f"{number:016x}",
+        **({"parentSpanId": f"{WHOLE:016x}"} if place else {}),
+        "name": span.name,
+        "kind": INTERNAL,
+        "startTimeUnixNano": str(span.start),
+        "endTimeUnixNano": str(span.end),
+        "attributes": _attributes(span.attributes),
+        "events": events,
+        "links": [{"traceId": trace, "spanId": f"{stage + 1:016x}"} for stage in span.sources],
+        "status": status,
+    }
 
 
 def _attributes(given: Attributes) -> List[Dict[str, Any]]:
-    return [{"key": key, "value": {"intValue": str(value)} if isinstance(value, int) else {"stringValue": value}}
-            for key, value in given.items()]
+    return [{"key": key, "value": {"intValue": str(value)} if isinstance(value, int) else {"stringValue": value}} for key, value in given.items()]

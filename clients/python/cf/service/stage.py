@@ -20,15 +20,21 @@ V = TypeVar("V")
 LOGGER = logging.getLogger("concurrent.futures")
 # What an `await` raises where futures of threads have an exception of their own.
 ASYNCIOS: Dict[Type[BaseException], Type[BaseException]] = {
-    concurrent.futures.CancelledError: asyncio.CancelledError, concurrent.futures.TimeoutError: asyncio.TimeoutError}
+    concurrent.futures.CancelledError: asyncio.CancelledError,
+    concurrent.futures.TimeoutError: asyncio.TimeoutError,
+}
 
 if TYPE_CHECKING:
 
     class _Future(Waited, StageCore, concurrent.futures.Future[T]):
         request: "Request"
 
-        def result(self, timeout: Optional[float] = None) -> T: ...
-        def add_done_callback(self, fn: Callable[[concurrent.futures.Future[T]], object]) -> None: ...
+        def result(self, timeout: Optional[float] = None) -> T:
+            ...
+
+        def add_done_callback(self, fn: Callable[[concurrent.futures.Future[T]], object]) -> None:
+            ...
+
 else:
 
     class _Future(Waited, StageCore, concurrent.futures.Future, Generic[T]):
@@ -308,4 +314,3 @@ class Stage(_Future[T]):
 
     def _log(self, error: BaseException) -> None:
         LOGGER.error("exception calling callback for %r", self, exc_info=error)
-

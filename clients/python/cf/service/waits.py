@@ -50,6 +50,7 @@ def _begun(run: Callable[[], object], name: str) -> "Tuple[Optional[threading.Th
         with contextlib.suppress(IndexError):
             return mark.pop()
         return False
+
     thread = by.thread(target=lambda: is_first() and run(), name=name, daemon=True)
     try:
         thread.start()
@@ -428,8 +429,11 @@ class Waited:
         _is_cancelled: bool
         _told: int  # how many waiters were told
 
-        def cancel(self) -> bool: ...
-        def add_done_callback(self, fn: Callable[[Any], object]) -> None: ...
+        def cancel(self) -> bool:
+            ...
+
+        def add_done_callback(self, fn: Callable[[Any], object]) -> None:
+            ...
 
     def _wait(self, timeout: Optional[float]) -> None:
         """Waits until it is shown, or so many seconds."""
@@ -467,6 +471,7 @@ class Waited:
             else:
                 with contextlib.suppress(RuntimeError):  # the loop is closed, and nobody waits there
                     loop.call_soon_threadsafe(tell)
+
         self.add_done_callback(settled)
         try:
             yield from end

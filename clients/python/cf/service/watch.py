@@ -238,9 +238,16 @@ class WatchedRequest(Request):
             self.watch.attached(self._stage(number), [self._stage(source) for source in of])
         super()._open()
 
-    def _attach(self, form: int, first: "Optional[Stage[Any]]", second: "Optional[Stage[Any]]",
-                call: Optional[Callable[..., Any]], args: Optional[Tuple[Any, ...]], kwargs: Optional[Dict[str, Any]],
-                name: str) -> "Stage[Any]":
+    def _attach(
+        self,
+        form: int,
+        first: "Optional[Stage[Any]]",
+        second: "Optional[Stage[Any]]",
+        call: Optional[Callable[..., Any]],
+        args: Optional[Tuple[Any, ...]],
+        kwargs: Optional[Dict[str, Any]],
+        name: str,
+    ) -> "Stage[Any]":
         stage = super()._attach(form, first, second, call, args, kwargs, name)
         self._date()
         if form in COMPOSE_FORMS:

@@ -27,9 +27,27 @@ MOST_STAGES, MOST_EDGES = 4096, 16384
 # The callers in a history (docs/FORMATS.md, "Callers"). THIS_THREAD is whichever this thread is.
 THIS_THREAD, CLIENT, CLOCK, RELAY, FIRST_WORKER, MOST_CALLERS = -1, 0, 1, 2, 3, 64
 
-FORMS = ("source", "supply", "runAsync", "apply", "accept", "thenRun", "combine", "acceptBoth", "runBoth",
-         "applyEither", "acceptEither", "runEither", "compose", "handle", "whenComplete", "exceptionally", "allOf",
-         "anyOf", "exceptionallyCompose")
+FORMS = (
+    "source",
+    "supply",
+    "runAsync",
+    "apply",
+    "accept",
+    "thenRun",
+    "combine",
+    "acceptBoth",
+    "runBoth",
+    "applyEither",
+    "acceptEither",
+    "runEither",
+    "compose",
+    "handle",
+    "whenComplete",
+    "exceptionally",
+    "allOf",
+    "anyOf",
+    "exceptionallyCompose",
+)
 
 COMPOSE_FORMS = (int(Form.COMPOSE), int(Form.EXCEPTIONALLY_COMPOSE))  # those whose function gives a future
 FORMS_WITHOUT_FUNCTION = (int(Form.SOURCE), int(Form.ALL_OF), int(Form.ANY_OF))

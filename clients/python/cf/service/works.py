@@ -27,8 +27,15 @@ class Works(Threads):
 
     is_parents = True
 
-    def __init__(self, most: int, prefix: str, initializer: Optional[Callable[..., object]], initargs: Tuple[Any, ...],
-                 describe: Describe = describe_all, ends: Optional[Ends] = None) -> None:
+    def __init__(
+        self,
+        most: int,
+        prefix: str,
+        initializer: Optional[Callable[..., object]],
+        initargs: Tuple[Any, ...],
+        describe: Describe = describe_all,
+        ends: Optional[Ends] = None,
+    ) -> None:
         super().__init__(most, prefix)
         self.describe, self.ends = describe, ends
         self.clock = Clock(f"{prefix}_clock")

@@ -26,6 +26,28 @@ from .stores import connect
 from .view import RowView, Watcher, new_session
 from .worker import Worker
 
-__all__ = ["Abandoned", "Broken", "Carrier", "DurableRequest", "DurableService", "DurableStage", "Functions", "Grouped", "Json", "Memory", "Put",
-           "RemoteError", "RowView", "Store", "StoreError", "Timer", "Trace", "Unknown", "Variables", "Watcher", "Worker", "connect",
-           "new_session"]
+__all__ = [
+    "Abandoned",
+    "Broken",
+    "Carrier",
+    "DurableRequest",
+    "DurableService",
+    "DurableStage",
+    "Functions",
+    "Grouped",
+    "Json",
+    "Memory",
+    "Put",
+    "RemoteError",
+    "RowView",
+    "Store",
+    "StoreError",
+    "Timer",
+    "Trace",
+    "Unknown",
+    "Variables",
+    "Watcher",
+    "Worker",
+    "connect",
+    "new_session",
+]

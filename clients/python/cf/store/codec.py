@@ -39,8 +39,7 @@ class Json:
     exception comes back as a `RemoteError`."""
 
     def __init__(self) -> None:
-        self._kinds: Dict[str, Type[BaseException]] = {"Abandoned": Abandoned, "TimeoutError": TimeoutError,
-                                                       "CancelledError": CancelledError}
+        self._kinds: Dict[str, Type[BaseException]] = {"Abandoned": Abandoned, "TimeoutError": TimeoutError, "CancelledError": CancelledError}
 
     def add(self, kind: Type[BaseException]) -> Type[BaseException]:
         """Lets exceptions of a class come back as this class, and not as `RemoteError`. It returns the class, so that it

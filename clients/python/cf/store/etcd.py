@@ -11,8 +11,28 @@ import weakref
 from typing import Any, Dict, List, Mapping, NamedTuple, Optional, Sequence, Set, Tuple
 from urllib.parse import quote, unquote
 
-from .rows import (FIRST, HEAD, Broken, Changes, Entry, Glance, Gone, Listed, Open, Opened, Pulse, Put, Row, Store,
-                   StoreError, Timer, Unknown, Wanted, flow_of, in_a_row)
+from .rows import (
+    FIRST,
+    HEAD,
+    Broken,
+    Changes,
+    Entry,
+    Glance,
+    Gone,
+    Listed,
+    Open,
+    Opened,
+    Pulse,
+    Put,
+    Row,
+    Store,
+    StoreError,
+    Timer,
+    Unknown,
+    Wanted,
+    flow_of,
+    in_a_row,
+)
 
 MOST_ENTRIES = 40  # in a put: a transaction of etcd has 128 operations at most by default
 MOST_READS = 120  # ranges that a transaction reads
@@ -94,7 +114,7 @@ class Etcd(Store):
         """What stands in each of these ranges. They are read some at a time."""
         told: List[Any] = []
         for k in range(0, len(ranges), MOST_READS):
-            answer = self._txn([], [{"request_range": {**it, **more}} for it in ranges[k:k + MOST_READS]])
+            answer = self._txn([], [{"request_range": {**it, **more}} for it in ranges[k : k + MOST_READS]])
             told += [it["response_range"].get("kvs", []) for it in answer.get("responses", [])]
         return told
 
@@ -168,12 +188,15 @@ class Etcd(Store):
 
     def end(self, name: str, at: int, number: int = 0) -> bool:
         key, timers, revision = _key("o", name), _key("t", name) + b"/", str(number or self._revision(name))
-        told = self._txn([self._is_there(name, revision),
-                          {"key": _b64(key), "target": "VALUE", "value": _b64(b"%d" % at)}],
-                         [{"request_delete_range": {"key": _b64(key)}},
-                          {"request_delete_range": _range(timers, _after(timers))},
-                          {"request_delete_range": _range(_key("g", name))},
-                          _put(_key("c", name), json.dumps([time.time(), at]).encode())])
+        told = self._txn(
+            [self._is_there(name, revision), {"key": _b64(key), "target": "VALUE", "value": _b64(b"%d" % at)}],
+            [
+                {"request_delete_range": {"key": _b64(key)}},
+                {"request_delete_range": _range(timers, _after(timers))},
+                {"request_delete_range": _range(_key("g", name))},
+                _put(_key("c", name), json.dumps([time.time(), at]).encode()),
+            ],
+        )
         closes = bool(told.get("succeeded"))
         if not closes and self._is_dropped(name, revision):
             raise self._gone(name)
@@ -186,16 +209,18 @@ class Etcd(Store):
         # others may put and close it meanwhile: with a count that is too low nobody could close it again
         while not told.get("succeeded"):
             many = len(self._get(row, _after(row), keys_only=True))
-            told = self._txn([self._is_there(name, revision), _absent(_key("o", name)), _absent(_place(row, many))],
-                             [_put(_key("o", name), b"%d" % many)], [{"request_range": _range(_key("o", name))}])
+            told = self._txn(
+                [self._is_there(name, revision), _absent(_key("o", name)), _absent(_place(row, many))],
+                [_put(_key("o", name), b"%d" % many)],
+                [{"request_range": _range(_key("o", name))}],
+            )
             if not told.get("succeeded") and self._is_dropped(name, revision):
                 raise self._gone(name)
             if not told.get("succeeded") and told["responses"][0]["response_range"].get("kvs"):
                 return  # it is open
 
     def drop(self, name: str, at: Optional[int] = None) -> bool:
-        ranges = [_range(key, _after(key))
-                  for key in (_key(kind, name) + b"/" for kind in "wptn")]
+        ranges = [_range(key, _after(key)) for key in (_key(kind, name) + b"/" for kind in "wptn")]
         ranges += [_range(_key(kind, name)) for kind in "rocg"]
         revision = self._revision(name)
         row = self._row("w", name, revision)
@@ -221,8 +246,7 @@ class Etcd(Store):
         puts = [_put(_place(row, put.at + k), b"%x %x" % entry) for k, entry in enumerate(put.entries)]
         puts += [_put(_place(payloads, place), payload) for place, payload in put.payloads.items()]
         puts.append(_put(_key("o", put.request), b"%d" % (put.at + len(put.entries))))
-        told = self._txn([_absent(key), self._is_there(put.request, revision)], puts,
-                         [{"request_range": _range(key, end)}])
+        told = self._txn([_absent(key), self._is_there(put.request, revision)], puts, [{"request_range": _range(key, end)}])
         if told.get("succeeded"):
             return None
         stands = _pairs(told["responses"][0]["response_range"].get("kvs", []))
@@ -234,8 +258,7 @@ class Etcd(Store):
         # Any member's answer will do: a stale one is a shorter prefix.
         revision = str(number or self._revision(name))
         row = self._row("w", name, revision)
-        told = self._txn([self._is_there(name, revision)],
-                         [{"request_range": _range(_place(row, at), _after(row), serializable=True)}])
+        told = self._txn([self._is_there(name, revision)], [{"request_range": _range(_place(row, at), _after(row), serializable=True)}])
         if not told.get("succeeded"):
             if self._is_dropped(name, revision):
                 raise self._gone(name)
@@ -257,8 +280,7 @@ class Etcd(Store):
         return told
 
     def payloads_of(self, wanted: Mapping[Tuple[str, int], Sequence[int]]) -> Dict[str, Dict[int, bytes]]:
-        its = [(name, place, _place(self._row("p", name, str(number)), place))
-               for (name, number), places in wanted.items() for place in places]
+        its = [(name, place, _place(self._row("p", name, str(number)), place)) for (name, number), places in wanted.items() for place in places]
         told: Dict[str, Dict[int, bytes]] = {name: {} for name, _ in wanted}
         for (name, place, _), kvs in zip(its, self._ranges([_range(key) for _, _, key in its], serializable=True)):
             told[name].update((place, value) for _, value in _pairs(kvs))
@@ -334,12 +356,15 @@ class Etcd(Store):
         return _session_names(prefix, self._get(prefix, _after(prefix)))
 
     def pulse(self) -> Pulse:
-        told = self._txn([], [{"request_range": it} for it in (
-            _range(b"cf/b/", b"cf/b0", keys_only=True), _range(b"cf/s/", b"cf/s0"),
-            _range(b"cf/w/", b"cf/w0", count_only=True))])
+        told = self._txn(
+            [],
+            [
+                {"request_range": it}
+                for it in (_range(b"cf/b/", b"cf/b0", keys_only=True), _range(b"cf/s/", b"cf/s0"), _range(b"cf/w/", b"cf/w0", count_only=True))
+            ],
+        )
         beats, names, words = (it["response_range"] for it in told["responses"])
-        return Pulse(_beats(beats.get("kvs", [])), _session_names(b"cf/s/", _pairs(names.get("kvs", []))),
-                     int(words.get("count", 0)), self.now())
+        return Pulse(_beats(beats.get("kvs", [])), _session_names(b"cf/s/", _pairs(names.get("kvs", []))), int(words.get("count", 0)), self.now())
 
     # What lists ask for.
 
@@ -362,8 +387,10 @@ class Etcd(Store):
         if mark is None or mark.watch is None:
             opened, revision, born = self._overview()
             before: Dict[str, str] = {} if mark is None else mark.born
-            return (Changes(opened, {}, [it for it in before if it not in born]),
-                    _Mark(revision, born, self._watching_from(revision), time.monotonic()))
+            return (
+                Changes(opened, {}, [it for it in before if it not in born]),
+                _Mark(revision, born, self._watching_from(revision), time.monotonic()),
+            )
         if mark.watch.is_compacted:
             return self._anew(mark)
         if not mark.watch.is_lost and time.monotonic() < mark.checked + BETWEEN_CHECKS:
@@ -382,8 +409,7 @@ class Etcd(Store):
         ends, many = _ends(told.get("kvs", [])), int(told.get("count", 0))
         if many <= 2 * FIRST:
             return None
-        return (Changes(self._opens(ends, self._glances([name for name, _ in ends])), {}, [], many),
-                _Mark(0, dict(ends.keys()), None, 0.0))
+        return (Changes(self._opens(ends, self._glances([name for name, _ in ends])), {}, [], many), _Mark(0, dict(ends.keys()), None, 0.0))
 
     def _watching_from(self, revision: int) -> "_Watch":
         """A watch that tells what comes behind a revision."""
@@ -418,8 +444,7 @@ class Etcd(Store):
             watch.end()
             self._turn += 1  # (the next member)
             return self._anew(mark)
-        told = self._post("/v3/kv/range", _range(b"cf/o/", b"cf/o0", limit=MOST_KEYS,
-                                                 min_mod_revision=str(mark.revision + 1)))
+        told = self._post("/v3/kv/range", _range(b"cf/o/", b"cf/o0", limit=MOST_KEYS, min_mod_revision=str(mark.revision + 1)))
         later = _ends(told.get("kvs", []))
         changes, born = self._changed(later, set(), mark.born)
         watch.owed = mark.revision + 1 if later or int(told.get("count", 0)) != len(born) else 0
@@ -436,8 +461,7 @@ class Etcd(Store):
         changes, born = self._changed(later, mark.born.keys() - names, mark.born)
         return changes, _Mark(revision, born, self._watching_from(revision), time.monotonic())
 
-    def _changed(self, ends: Dict[Tuple[str, str], int], gone: Set[str],
-                 before: Dict[str, str]) -> Tuple[Changes, Dict[str, str]]:
+    def _changed(self, ends: Dict[Tuple[str, str], int], gone: Set[str], before: Dict[str, str]) -> Tuple[Changes, Dict[str, str]]:
         """What is other if these are open, and those were closed or dropped before; and all that are open then."""
         if not ends and not gone:
             return Changes([], {}, []), before
@@ -445,8 +469,10 @@ class Etcd(Store):
         opened = self._opens({key: words for key, words in ends.items() if before.get(key[0]) != key[1]}, {})
         for name in gone & before.keys():
             self._heads.pop((name, before[name]), None)
-        return Changes(opened, {name: words for (name, _), words in ends.items()},
-                       [name for name in gone if name in before and name not in born]), born
+        return (
+            Changes(opened, {name: words for (name, _), words in ends.items()}, [name for name in gone if name in before and name not in born]),
+            born,
+        )
 
     def _glances(self, names: List[str]) -> Dict[Tuple[str, int], Glance]:
         """The glances at these requests, by their names and numbers."""
@@ -456,10 +482,8 @@ class Etcd(Store):
     def _opens(self, ends: Dict[Tuple[str, str], int], glances: Dict[Tuple[str, int], Glance]) -> List[Open]:
         """What lists tell of these requests, as far as they are there."""
         self._read_heads([key for key in ends if key not in self._heads])
-        opened = [(name, words, *self._heads[name, born]) for (name, born), words in ends.items()
-                  if (name, born) in self._heads]
-        return [Open(name, number, at, words, flow, glances.get((name, number)))
-                for name, words, number, at, flow in opened]
+        opened = [(name, words, *self._heads[name, born]) for (name, born), words in ends.items() if (name, born) in self._heads]
+        return [Open(name, number, at, words, flow, glances.get((name, number))) for name, words, number, at, flow in opened]
 
     def _read_heads(self, keys: List[Tuple[str, str]]) -> None:
         if len(keys) > MOST_KEYS and self._count(b"cf/r/", b"cf/r0") <= 2 * len(keys):
@@ -467,12 +491,11 @@ class Etcd(Store):
             known: Dict[str, List[Any]] = {_name(base64.b64decode(it["key"])): [it] for it in plans}
             found = [known.get(name, []) for name, _ in keys]
         else:
-            found = [kvs for k in range(0, len(keys), MOST_READS) for kvs in self._plans(keys[k:k + MOST_READS])]
+            found = [kvs for k in range(0, len(keys), MOST_READS) for kvs in self._plans(keys[k : k + MOST_READS])]
         for key, kvs in zip(keys, found):
             for it in kvs:
                 said = json.loads(base64.b64decode(it["value"]))
-                self._heads[key] = (int(it["create_revision"]), float(said["opened"]),
-                                    flow_of(str(said["plan"])[:HEAD]))
+                self._heads[key] = (int(it["create_revision"]), float(said["opened"]), flow_of(str(said["plan"])[:HEAD]))
 
     def _plans(self, keys: List[Tuple[str, str]]) -> List[List[Any]]:
         """The keys with the plans of these requests, as one member has them that knows that they are open. A majority
@@ -486,7 +509,7 @@ class Etcd(Store):
 
     def keep_glances(self, glances: Sequence[Glance]) -> None:
         for k in range(0, len(glances), MOST_GLANCES):
-            some, before = list(glances[k:k + MOST_GLANCES]), MOST_GLANCES + 1
+            some, before = list(glances[k : k + MOST_GLANCES]), MOST_GLANCES + 1
             while some and len(some) < before:  # (where all are open by now that weren't, it is for the next time)
                 before, some = len(some), self._keep(some)
 
@@ -498,13 +521,15 @@ class Etcd(Store):
             is_open = {"key": _b64(_key("o", it.request)), "target": "VERSION", "result": "GREATER", "version": 0}
             are_so += [self._is_there(it.request, str(it.number)), is_open]
         puts = [_put(_key("g", it.request), json.dumps([it.number, it.words, it.said]).encode()) for it in glances]
-        told = self._txn(are_so, puts, [{"request_range": _range(_key(kind, it.request), keys_only=True)}
-                                        for it in glances for kind in "ro"])
+        told = self._txn(are_so, puts, [{"request_range": _range(_key(kind, it.request), keys_only=True)} for it in glances for kind in "ro"])
         if told.get("succeeded"):
             return []
         found = [it["response_range"].get("kvs", []) for it in told["responses"]]
-        return [it for it, opened, is_open in zip(glances, found[::2], found[1::2])
-                if is_open and opened and int(opened[0]["create_revision"]) == it.number]
+        return [
+            it
+            for it, opened, is_open in zip(glances, found[::2], found[1::2])
+            if is_open and opened and int(opened[0]["create_revision"]) == it.number
+        ]
 
     def words_put(self) -> Optional[int]:
         return self._count(b"cf/w/", b"cf/w0")
@@ -528,8 +553,7 @@ class Etcd(Store):
             if due <= now:
                 # without a number where an earlier version has set it
                 name, *number, stage = key[5:].decode().split("/")
-                told.append(Timer(unquote(name), int(stage), due, base64.b64decode(payload),
-                                  int(number[0]) if number else 0))
+                told.append(Timer(unquote(name), int(stage), due, base64.b64decode(payload), int(number[0]) if number else 0))
         return sorted(told, key=lambda timer: timer.due)
 
     def drop_timer(self, request: str, stage: int, number: int = 0) -> None:
@@ -662,7 +686,7 @@ def _beats(kvs: Sequence[Any]) -> Dict[int, int]:
 
 
 def _session_names(prefix: bytes, pairs: Sequence[Tuple[bytes, bytes]]) -> Dict[int, str]:
-    return {int(key[len(prefix):], 16): value.decode() for key, value in pairs}
+    return {int(key[len(prefix) :], 16): value.decode() for key, value in pairs}
 
 
 def _glances_of(pairs: Sequence[Tuple[bytes, bytes]]) -> Dict[Tuple[str, int], Glance]:
@@ -675,8 +699,7 @@ def _glances_of(pairs: Sequence[Tuple[bytes, bytes]]) -> Dict[Tuple[str, int], G
 
 def _ends(kvs: Sequence[Any]) -> Dict[Tuple[str, str], int]:
     """How many words open requests have, by their names and the revisions of the keys that say that they are open."""
-    return {(_name(base64.b64decode(it["key"])), it["create_revision"]): int(base64.b64decode(it["value"]))
-            for it in kvs}
+    return {(_name(base64.b64decode(it["key"])), it["create_revision"]): int(base64.b64decode(it["value"])) for it in kvs}
 
 
 def _entries(name: str, at: int, pairs: Sequence[Tuple[bytes, bytes]]) -> List[Entry]:

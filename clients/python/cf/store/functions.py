@@ -54,6 +54,7 @@ class Functions:
 
         Raises:
             ValueError: Another function is registered by this name and version."""
+
         def named(call: F) -> F:
             known = Known(name or call.__name__, version, call, transactional)
             there = self._known.setdefault((known.name, version), known)
@@ -61,6 +62,7 @@ class Functions:
                 raise ValueError(f"{known.name}, version {version}, is another function already")
             self._names[call] = known
             return call
+
         return named
 
     def add(self, other: "Functions") -> None:
@@ -73,8 +75,7 @@ class Functions:
         found = self._names.get(call)
         if found is None:
             name = getattr(call, "__qualname__", repr(call))
-            raise TypeError(f"{name} isn't registered: other processes know functions by the names that "
-                            "@service.function(..) gives")
+            raise TypeError(f"{name} isn't registered: other processes know functions by the names that @service.function(..) gives")
         return found
 
     def named(self, name: str, version: int) -> Optional[Known]:
@@ -91,8 +92,7 @@ class Functions:
         return found
 
 
-def said_of(functions: Functions, call: Optional[Callable[..., Any]], args: Tuple[Any, ...],
-            kwargs: Dict[str, Any]) -> Dict[str, Any]:
+def said_of(functions: Functions, call: Optional[Callable[..., Any]], args: Tuple[Any, ...], kwargs: Dict[str, Any]) -> Dict[str, Any]:
     """What a plan or an attached stage's payload says of its function."""
     if call is None:
         return {}

@@ -77,12 +77,14 @@ def seen_of(view: RowView, now: float, before: Optional[Seen]) -> Seen:
         said = _called(view, stage)
         functions[said] = functions.get(said, 0) + 1
     return Seen(
-        len(view.kinds), sum(kind != IS_SETTLED for kind in view.kinds),
+        len(view.kinds),
+        sum(kind != IS_SETTLED for kind in view.kinds),
         [Wait(number, str(view.said(number)["name"]), NAMED[view.kinds[number]]) for number in order[:MOST_NAMED]],
-        [Claim(stage, str(view.said(stage)["name"]), session, known.get((stage, session), now))
-         for stage, session in claims],
+        [Claim(stage, str(view.said(stage)["name"]), session, known.get((stage, session), now)) for stage, session in claims],
         [Queue(*said, many, lasting.get(said, now)) for said, many in sorted(functions.items())[:MOST_TOLD]],
-        max([0, *(_tries(view, number) for number in order[:1])]), now if view.seen else view.opened.opened)
+        max([0, *(_tries(view, number) for number in order[:1])]),
+        now if view.seen else view.opened.opened,
+    )
 
 
 def told_of(view: RowView) -> Set[int]:
@@ -92,8 +94,7 @@ def told_of(view: RowView) -> Set[int]:
 
 def _order(view: RowView) -> List[int]:
     """The stages that aren't settled, those at work before those that are ready."""
-    return [number for how in (IS_CLAIMED, IS_READY, IS_LINKED, IS_PENDING) for number, kind in enumerate(view.kinds)
-            if kind == how]
+    return [number for how in (IS_CLAIMED, IS_READY, IS_LINKED, IS_PENDING) for number, kind in enumerate(view.kinds) if kind == how]
 
 
 def _claims(view: RowView) -> List[Tuple[int, int]]:
@@ -143,12 +144,14 @@ def _seen_in(text: str) -> Optional[Seen]:
         said: Dict[str, Any] = json.loads(text)
         if said.get("glance") != FORMAT:
             return None
-        return Seen(int(said["stages"]), int(said["open"]),
-                    [Wait(int(stage), str(name), str(how)) for stage, name, how in said["waits"]],
-                    [Claim(int(stage), str(name), int(session), float(since))
-                     for stage, name, session, since in said["claims"]],
-                    [Queue(str(name), int(version), int(many), float(since))
-                     for name, version, many, since in said["ready"]],
-                    int(said["tries"]), float(said.get("since", 0)))
+        return Seen(
+            int(said["stages"]),
+            int(said["open"]),
+            [Wait(int(stage), str(name), str(how)) for stage, name, how in said["waits"]],
+            [Claim(int(stage), str(name), int(session), float(since)) for stage, name, session, since in said["claims"]],
+            [Queue(str(name), int(version), int(many), float(since)) for name, version, many, since in said["ready"]],
+            int(said["tries"]),
+            float(said.get("since", 0)),
+        )
     except (ValueError, KeyError, TypeError, AttributeError):
         return None

@@ -33,7 +33,8 @@ class SharedPlan:
             forms = [FORMS.index(it["form"]) for it in self.said]
             self.rows: List[Tuple[int, Tuple[int, ...], Any, str]] = [
                 (form, tuple(it.get("of", [])), None if form in FORMS_WITHOUT_FUNCTION else _nobody, str(it["name"]))
-                for form, it in zip(forms, self.said)]
+                for form, it in zip(forms, self.said)
+            ]
             self._plan = Plan()
             for number, (form, of, call, _) in enumerate(self.rows):
                 self._plan.stage(Form(form), *of, function=None if call is None else number)
@@ -56,10 +57,8 @@ class SharedPlan:
 def said_in(read: Any, number: int) -> Dict[str, Any]:
     """What was read of a stage of this number, if it is something of the kind: its name, its function's name,
     version and arguments, and the lower stages that it speaks of."""
-    kinds = {"name": str, "fn": str, "version": int, "args": list, "kwargs": dict, "again": int, "to": int, "by": int,
-             "context": dict}
-    if not isinstance(read, dict) or "name" not in read or any(name in read and not isinstance(read[name], kind)
-                                                               for name, kind in kinds.items()):
+    kinds = {"name": str, "fn": str, "version": int, "args": list, "kwargs": dict, "again": int, "to": int, "by": int, "context": dict}
+    if not isinstance(read, dict) or "name" not in read or any(name in read and not isinstance(read[name], kind) for name, kind in kinds.items()):
         raise ValueError(f"it says nothing of a stage: {str(read)[:80]}")
     if any(not 0 <= read.get(name, 0) < max(number, 1) for name in ("again", "to", "by")):
         raise ValueError(f"it names a stage that isn't lower: {str(read)[:80]}")
@@ -79,8 +78,7 @@ def text_of(flow: Optional[Flow], functions: Functions, carriers: Sequence[Carri
         if form in COMPOSE_FORMS:
             raise TypeError(f"{name}: a flow in a store has no compose; a stage of a request has")
         stages.append({"form": FORMS[form], "of": list(of), "name": name, **said_of(functions, call, (), {})})
-    return json_of({"cf": FORMAT, "flow": "" if flow is None else flow.name, "stages": stages, **captured(carriers)},
-                   separators=(",", ":"))
+    return json_of({"cf": FORMAT, "flow": "" if flow is None else flow.name, "stages": stages, **captured(carriers)}, separators=(",", ":"))
 
 
 def are_alike(text: str, other: str) -> bool:

@@ -7,8 +7,7 @@ import threading
 import time
 from typing import Any, Dict, Generator, Iterator, List, Mapping, NoReturn, Optional, Sequence, Set, Tuple
 
-from .rows import (FIRST, Broken, Entry, Glance, Opened, Pulse, Put, Row, StoreError, Timer, Transaction, Unknown,
-                   Wanted, in_a_row)
+from .rows import FIRST, Broken, Entry, Glance, Opened, Pulse, Put, Row, StoreError, Timer, Transaction, Unknown, Wanted, in_a_row
 from .tables import ANEW, COLUMNS, GLANCED, TableStore, _Mark, _opens, _Other
 
 psycopg2: Any = importlib.import_module("psycopg2")  # (its types are installed on some machines only)
@@ -57,25 +56,33 @@ PREPARED = f"""
 """
 PUT_ONE, PUT_TWO = "execute cf_one(%s, %s, %s, %s, %s)", "execute cf_two(%s, %s, %s, %s, %s, %s, %s, %s)"
 HAS = "(select coalesce(max(at) + 1, 0) from cf_word where request = id) = %s"  # so many words
-PUT_ALL = ("insert into cf_word select id, at, word, token, payload from (select v.*, id "
-           "from (values %s) as v(request, at, word, token, payload) join cf_request on id = request "
-           "for key share of cf_request) as there")
+PUT_ALL = (
+    "insert into cf_word select id, at, word, token, payload from (select v.*, id "
+    "from (values %s) as v(request, at, word, token, payload) join cf_request on id = request "
+    "for key share of cf_request) as there"
+)
 SMALL = 512  # bytes of a payload that comes along with its word
-ROWS = ("select r.id, null::int, null::bigint, null::bigint, null::bytea, name, opened, "
-        "case when v.at = 0 then plan end from unnest(%s::bigint[], %s::int[]) as v(id, at) "
-        "join cf_request r on r.id = v.id union all "
-        f"select request, w.at, word, token, case when octet_length(payload) <= {SMALL} then payload end, null, null, "
-        "null from unnest(%s::bigint[], %s::int[]) as v(id, at) join cf_word w on request = v.id and w.at >= v.at")
+ROWS = (
+    "select r.id, null::int, null::bigint, null::bigint, null::bytea, name, opened, "
+    "case when v.at = 0 then plan end from unnest(%s::bigint[], %s::int[]) as v(id, at) "
+    "join cf_request r on r.id = v.id union all "
+    f"select request, w.at, word, token, case when octet_length(payload) <= {SMALL} then payload end, null, null, "
+    "null from unnest(%s::bigint[], %s::int[]) as v(id, at) join cf_word w on request = v.id and w.at >= v.at"
+)
 # What is other in a list since a mark, by what was put since then; and by all that are open. (The mark stands in each
 # place as a number: else whole tables are read, since as many rows are reckoned with as stand there.)
-SOME_OTHER = (f"select ({MARK}), null, null::double precision, null::int, null, null::int, null, 'mark' union all "
-              "select request, null, null, max(at) + 1, null, null, null, 'longer' from cf_word "
-              "where made_by >= %s::xid8 group by request union all "
-              f"select {COLUMNS}, 'told' from {GLANCED} where r.closed is null and r.made_by >= %s::xid8")
-ALL_OTHER = (f"{SOME_OTHER} union all select null, null, null, null, null, null, string_agg(id::text, ','), 'open' "
-             f"from cf_request where closed is null union all select {COLUMNS}, 'told' from (select id "
-             f"from cf_request where closed is null and id > %s order by id limit {ANEW}) as anew, {GLANCED} "
-             "where r.id = anew.id")
+SOME_OTHER = (
+    f"select ({MARK}), null, null::double precision, null::int, null, null::int, null, 'mark' union all "
+    "select request, null, null, max(at) + 1, null, null, null, 'longer' from cf_word "
+    "where made_by >= %s::xid8 group by request union all "
+    f"select {COLUMNS}, 'told' from {GLANCED} where r.closed is null and r.made_by >= %s::xid8"
+)
+ALL_OTHER = (
+    f"{SOME_OTHER} union all select null, null, null, null, null, null, string_agg(id::text, ','), 'open' "
+    f"from cf_request where closed is null union all select {COLUMNS}, 'told' from (select id "
+    f"from cf_request where closed is null and id > %s order by id limit {ANEW}) as anew, {GLANCED} "
+    "where r.id = anew.id"
+)
 SAFE = {"fsync": ("on",), "full_page_writes": ("on",), "transaction_read_only": ("off",)}
 # A network that lets nothing through is told after 20 s: else a call would wait for many minutes.
 NOTICES_SILENCE = {"tcp_user_timeout": 20_000, "keepalives_idle": 10, "keepalives_interval": 5, "keepalives_count": 2}
@@ -94,9 +101,11 @@ class Postgres(TableStore):
     is_transactional = True
     VALUE, HAS_PART = "%s", "position(lower(%s) in lower(name)) > 0"
     # (Materialized, it goes through the open ones alone, and not through all by their names.)
-    FIRST_OPEN = ("with opened as materialized (select id, name from cf_request where closed is null) "
-                  "select id, (select count(*) from opened) as many from opened "
-                  f"order by name collate \"C\" limit {FIRST}")
+    FIRST_OPEN = (
+        "with opened as materialized (select id, name from cf_request where closed is null) "
+        "select id, (select count(*) from opened) as many from opened "
+        f'order by name collate "C" limit {FIRST}'
+    )
 
     def __init__(self, address: str, is_unsafe: bool = False) -> None:
         super().__init__()
@@ -133,8 +142,8 @@ class Postgres(TableStore):
                     if found[name] not in wanted:
                         is_away = self._is_made and name == "transaction_read_only"
                         raise (Unknown if is_away else StoreError)(
-                            f"{db.info.host}:{db.info.port}: {name} is {found[name]}, "
-                            "with which words are lost or can't be put")
+                            f"{db.info.host}:{db.info.port}: {name} is {found[name]}, with which words are lost or can't be put"
+                        )
                 if self._is_unsafe or found["synchronous_commit"] in ("off", "local"):
                     cursor.execute(f"set synchronous_commit = {'off' if self._is_unsafe else 'on'}")
             return db
@@ -182,21 +191,23 @@ class Postgres(TableStore):
     def open(self, name: str, plan: str) -> Opened:
         found = self.find(name)
         while found is None:  # (it may be dropped meanwhile)
-            self._ask(f"insert into cf_request (name, plan, opened) values (%s, %s, {NOW}) on conflict do nothing",
-                      name, plan)
+            self._ask(f"insert into cf_request (name, plan, opened) values (%s, %s, {NOW}) on conflict do nothing", name, plan)
             found = self.find(name)
         return found
 
     def news(self, mark: Any) -> Tuple[Dict[str, int], Any]:
         # All transactions below the mark had ended when it was read, so what they did was told.
         if mark is None:
-            (at,), = self._ask(MARK)
+            ((at,),) = self._ask(MARK)
             return self.ends(), at
-        rows = self._ask(f"select null, ({MARK}) union all "
-                         "select name, 0 from cf_request where closed is null and made_by >= %s::text::xid8 union all "
-                         "select name, case when closed is null then max(at) + 1 else -1 end from cf_word w "
-                         "join cf_request on id = request where w.made_by >= %s::text::xid8 group by name, closed",
-                         str(mark), str(mark))
+        rows = self._ask(
+            f"select null, ({MARK}) union all "
+            "select name, 0 from cf_request where closed is null and made_by >= %s::text::xid8 union all "
+            "select name, case when closed is null then max(at) + 1 else -1 end from cf_word w "
+            "join cf_request on id = request where w.made_by >= %s::text::xid8 group by name, closed",
+            str(mark),
+            str(mark),
+        )
         told: Dict[str, int] = {}
         for name, many in rows:
             if name is None:
@@ -213,7 +224,8 @@ class Postgres(TableStore):
         numbers: Optional[Set[int]] = None
         since = str(mark.words)
         for number, name, opened, many, head, words, said, kind in self._ask(
-                ALL_OTHER if is_all else SOME_OTHER, since, since, *([mark.turn] if is_all else [])):
+            ALL_OTHER if is_all else SOME_OTHER, since, since, *([mark.turn] if is_all else [])
+        ):
             if kind == "mark":
                 at = int(number)
             elif kind == "open":
@@ -230,13 +242,18 @@ class Postgres(TableStore):
 
     def end(self, name: str, at: int, number: int = 0) -> bool:
         number = number or self._id(name)
-        told = self._ask("execute cf_closing(%s); "
-                         f"with closed as (update cf_request set closed = {NOW} "
-                         f"where id = %s and closed is null and {HAS} returning id), "
-                         "timers as (delete from cf_timer where request in (select id from closed)), "
-                         "glances as (delete from cf_glance where request in (select id from closed)) "
-                         "select exists (select 1 from closed) from cf_request where id = %s",
-                         number % 2**31, number, at, number)
+        told = self._ask(
+            "execute cf_closing(%s); "
+            f"with closed as (update cf_request set closed = {NOW} "
+            f"where id = %s and closed is null and {HAS} returning id), "
+            "timers as (delete from cf_timer where request in (select id from closed)), "
+            "glances as (delete from cf_glance where request in (select id from closed)) "
+            "select exists (select 1 from closed) from cf_request where id = %s",
+            number % 2**31,
+            number,
+            at,
+            number,
+        )
         if not told:
             raise self._gone(name)
         return bool(told[0][0])
@@ -249,14 +266,20 @@ class Postgres(TableStore):
     def drop(self, name: str, at: Optional[int] = None) -> bool:
         is_so, number = "" if at is None else f" and closed is not null and {HAS}", self._id(name)
         # (The row is locked by a statement of its own, so that the next one sees all that was put until then.)
-        dropped = bool(self._ask("select 1 from cf_request where id = %s for update; "
-                                 f"with gone as (delete from cf_request where id = %s{is_so} returning id), "
-                                 "words as (delete from cf_word where request in (select id from gone)), "
-                                 "timers as (delete from cf_timer where request in (select id from gone)), "
-                                 "glances as (delete from cf_glance where request in (select id from gone)), "
-                                 "names as (delete from cf_name where request in (select id from gone)) "
-                                 "select id from gone",
-                                 number, number, *(() if at is None else (at,))))
+        dropped = bool(
+            self._ask(
+                "select 1 from cf_request where id = %s for update; "
+                f"with gone as (delete from cf_request where id = %s{is_so} returning id), "
+                "words as (delete from cf_word where request in (select id from gone)), "
+                "timers as (delete from cf_timer where request in (select id from gone)), "
+                "glances as (delete from cf_glance where request in (select id from gone)), "
+                "names as (delete from cf_name where request in (select id from gone)) "
+                "select id from gone",
+                number,
+                number,
+                *(() if at is None else (at,)),
+            )
+        )
         if dropped:
             self._ids.pop(name, None)
         return dropped
@@ -284,8 +307,7 @@ class Postgres(TableStore):
         """All or none, and with that the request is open: where a place is taken nothing of it stands."""
         rows = self._rows_of(put)
         number = rows[0][0]
-        words = (PUT_ONE if len(rows) == 1 else PUT_TWO if len(rows) == 2 else
-                 PUT_ALL % ",".join(["(%s,%s,%s,%s,%s::bytea)"] * len(rows)))
+        words = PUT_ONE if len(rows) == 1 else PUT_TWO if len(rows) == 2 else PUT_ALL % ",".join(["(%s,%s,%s,%s,%s::bytea)"] * len(rows))
         values = (*rows[0], *rows[1][2:]) if len(rows) == 2 else [it for row in rows for it in row]
         try:
             if self._ask(f"execute cf_closing(%s); {words}; execute cf_open(%s)", number % 2**31, *values, number):
@@ -309,8 +331,7 @@ class Postgres(TableStore):
             if len(rows) == 2 and len(puts) == 1:
                 many, _ = self._do(PUT_TWO, (*rows[0], *rows[1][2:]))
             else:
-                many, _ = self._do(PUT_ALL % ",".join(["(%s,%s,%s,%s,%s::bytea)"] * len(rows)),
-                                   [it for row in rows for it in row])
+                many, _ = self._do(PUT_ALL % ",".join(["(%s,%s,%s,%s,%s::bytea)"] * len(rows)), [it for row in rows for it in row])
             if many == len(rows):
                 return [None] * len(puts)
         except errors.UniqueViolation:
@@ -326,9 +347,11 @@ class Postgres(TableStore):
         return in_a_row(name, at, rows if rows[0][0] is not None else [])
 
     def payloads(self, name: str, places: Sequence[int], number: int = 0) -> Dict[int, bytes]:
-        rows = self._ask("select at + 1, payload from cf_request left join cf_word on request = id and at = any(%s) "
-                         "and payload is not null where id = %s",
-                         [place - 1 for place in places], number or self._id(name))
+        rows = self._ask(
+            "select at + 1, payload from cf_request left join cf_word on request = id and at = any(%s) and payload is not null where id = %s",
+            [place - 1 for place in places],
+            number or self._id(name),
+        )
         if not rows:
             raise self._gone(name)
         return {int(place): bytes(payload) for place, payload in rows if place is not None}
@@ -359,19 +382,23 @@ class Postgres(TableStore):
         names = {number: name for name, number in wanted}
         told: Dict[str, Dict[int, bytes]] = {name: {} for name in names.values()}
         for number, place, payload in self._ask(
-                "select request, w.at + 1, payload from unnest(%s::bigint[], %s::int[]) as v(id, at) "
-                "join cf_word w on request = v.id and w.at = v.at where payload is not null",
-                [number for number, _ in its], [at for _, at in its]):
+            "select request, w.at + 1, payload from unnest(%s::bigint[], %s::int[]) as v(id, at) "
+            "join cf_word w on request = v.id and w.at = v.at where payload is not null",
+            [number for number, _ in its],
+            [at for _, at in its],
+        ):
             told[names[number]][int(place)] = bytes(payload)
         return told
 
     def pulse(self) -> Pulse:
-        rows = self._ask("select session, count, null from cf_beat union all "
-                         "select session, null, name from cf_name where request = 0 union all "
-                         f"select null, ({WORDS_PUT}), ({NOW})::text")
+        rows = self._ask(
+            "select session, count, null from cf_beat union all "
+            "select session, null, name from cf_name where request = 0 union all "
+            f"select null, ({WORDS_PUT}), ({NOW})::text"
+        )
         beats = {int(session): int(count) for session, count, _ in rows if session is not None and count is not None}
         names = {int(session): str(name) for session, count, name in rows if session is not None and count is None}
-        (put, now), = [(int(count), float(at)) for session, count, at in rows if session is None]
+        ((put, now),) = [(int(count), float(at)) for session, count, at in rows if session is None]
         return Pulse(beats, names, put, now)
 
     # Waking.
@@ -426,34 +453,34 @@ class Postgres(TableStore):
     # Sessions and timers.
 
     def beat(self, session: int) -> None:
-        self._ask("insert into cf_beat values (%s, 1) on conflict (session) do update set count = cf_beat.count + 1",
-                  session)
+        self._ask("insert into cf_beat values (%s, 1) on conflict (session) do update set count = cf_beat.count + 1", session)
 
     def drop_beat(self, session: int) -> None:
-        self._ask("with names as (delete from cf_name where request = 0 and session = %s) "
-                  "delete from cf_beat where session = %s", session, session)
+        self._ask("with names as (delete from cf_name where request = 0 and session = %s) delete from cf_beat where session = %s", session, session)
 
     def name_session(self, session: int, said: str, request: str = "", number: int = 0) -> None:
-        if not self._do(f"insert into cf_name select {'id' if request else '0'}, %s, %s "
-                        f"{'from ' + THERE.format('%s') if request else ''} "
-                        "on conflict (request, session) do update set name = excluded.name",
-                        (session, said, *([number or self._id(request)] if request else [])))[0]:
+        if not self._do(
+            f"insert into cf_name select {'id' if request else '0'}, %s, %s "
+            f"{'from ' + THERE.format('%s') if request else ''} "
+            "on conflict (request, session) do update set name = excluded.name",
+            (session, said, *([number or self._id(request)] if request else [])),
+        )[0]:
             raise self._gone(request)
 
     def now(self) -> float:
         return float(self._ask(f"select {NOW}")[0][0])
 
     def set_timer(self, timer: Timer) -> None:
-        if not self._do(f"insert into cf_timer select id, %s, %s, %s from {THERE.format('%s')} "
-                        "on conflict (request, stage) do update set due = excluded.due, payload = excluded.payload",
-                        (*timer[1:4], timer.number or self._id(timer.request)))[0]:
+        if not self._do(
+            f"insert into cf_timer select id, %s, %s, %s from {THERE.format('%s')} "
+            "on conflict (request, stage) do update set due = excluded.due, payload = excluded.payload",
+            (*timer[1:4], timer.number or self._id(timer.request)),
+        )[0]:
             raise self._gone(timer.request)
 
     def due(self, now: float) -> List[Timer]:
-        rows = self._ask("select name, stage, due, payload, id from cf_timer join cf_request on id = request "
-                         "where due <= %s order by due", now)
-        return [Timer(str(name), int(stage), float(at), bytes(payload), int(number))
-                for name, stage, at, payload, number in rows]
+        rows = self._ask("select name, stage, due, payload, id from cf_timer join cf_request on id = request where due <= %s order by due", now)
+        return [Timer(str(name), int(stage), float(at), bytes(payload), int(number)) for name, stage, at, payload, number in rows]
 
     def drop_timer(self, request: str, stage: int, number: int = 0) -> None:
         self._ask("delete from cf_timer where request = %s and stage = %s", number or self._id(request), stage)
@@ -463,11 +490,13 @@ class Postgres(TableStore):
     def keep_glances(self, glances: Sequence[Glance]) -> None:
         rows = sorted((it.number, it.words, it.said) for it in glances)  # (two in one order don't wait in a ring)
         if rows:
-            self._ask("insert into cf_glance select id, words, said from (select v.*, id from "
-                      f"(values {','.join(['(%s::bigint, %s, %s)'] * len(rows))}) as v(request, words, said) "
-                      "join cf_request on id = v.request where closed is null for key share of cf_request) as there "
-                      "on conflict (request) do update set words = excluded.words, said = excluded.said",
-                      *(it for row in rows for it in row))
+            self._ask(
+                "insert into cf_glance select id, words, said from (select v.*, id from "
+                f"(values {','.join(['(%s::bigint, %s, %s)'] * len(rows))}) as v(request, words, said) "
+                "join cf_request on id = v.request where closed is null for key share of cf_request) as there "
+                "on conflict (request) do update set words = excluded.words, said = excluded.said",
+                *(it for row in rows for it in row),
+            )
 
     def words_put(self) -> Optional[int]:
         return int(self._ask(f"select {WORDS_PUT}")[0][0])
@@ -580,8 +609,10 @@ class _Transaction(Transaction):
             except (errors.InvalidSavepointSpecification, errors.NoActiveSqlTransaction):
                 raise StoreError("the function has ended its transaction") from None
             for k, entry in enumerate(put.entries):
-                cursor.execute(f"insert into cf_word select id, %s, %s, %s, %s from {THERE.format('%s')} "
-                               "on conflict do nothing", (put.at + k, *entry, put.payloads.get(put.at + 1 + k), number))
+                cursor.execute(
+                    f"insert into cf_word select id, %s, %s, %s, %s from {THERE.format('%s')} on conflict do nothing",
+                    (put.at + k, *entry, put.payloads.get(put.at + 1 + k), number),
+                )
                 if cursor.rowcount != 1:
                     return False
         return True

@@ -97,7 +97,7 @@ class Replica(Handle):
         """This entry stands behind all that was seen. The stages that it changed."""
         self._entry.word, self._entry.token = word, token
         check(_saw(self._to, self._to_entry, self._to_reply, self._news, len(self._news), self._to_changed))
-        return self._news[:self._changed.value]
+        return self._news[: self._changed.value]
 
     def grow(self, more: int) -> None:
         """Makes room for so many more stages."""

@@ -67,14 +67,29 @@ import json
 import logging
 import threading
 from concurrent.futures import CancelledError, InvalidStateError
-from typing import (TYPE_CHECKING, Any, Callable, ContextManager, Dict, Generator, Generic, Iterable, List, Optional,
-                    Sequence, Set, Tuple, TypeVar)
+from typing import TYPE_CHECKING, Any, Callable, ContextManager, Dict, Generator, Generic, Iterable, List, Optional, Sequence, Set, Tuple, TypeVar
 
 from ..service.flow import Again, Step, _alone
 from ..service.history import Describe, History, escaped
 from ..service.stage import ASYNCIOS
-from ..service.words import (ANSWER, ATTACH, CANCEL, CANCELLED, COMPLETE, FAIL, FAIL_AS, FAILURES, GIVES, MOST_STAGES,
-                             NUMBER, THROWN, TIMED_OUT, VALUE, RequestFull, Told)
+from ..service.words import (
+    ANSWER,
+    ATTACH,
+    CANCEL,
+    CANCELLED,
+    COMPLETE,
+    FAIL,
+    FAIL_AS,
+    FAILURES,
+    GIVES,
+    MOST_STAGES,
+    NUMBER,
+    THROWN,
+    TIMED_OUT,
+    VALUE,
+    RequestFull,
+    Told,
+)
 from ..values import BadAnswer, Form
 from .view import Done, RowView
 from .codec import Abandoned, json_of
@@ -103,6 +118,7 @@ if TYPE_CHECKING:
         _state: str
         _condition: threading.Condition
         _done_callbacks: "List[Callable[[Any], object]]"
+
 else:
 
     class _Future(concurrent.futures.Future, Generic[T]):
@@ -264,6 +280,7 @@ class DurableStage(_Future[T]):
         def wake(_: object) -> None:
             with contextlib.suppress(RuntimeError):  # the loop is closed
                 loop.call_soon_threadsafe(lambda: None if shown.done() else shown.set_result(None))
+
         self.add_done_callback(wake)
         try:
             yield from shown
@@ -329,8 +346,9 @@ class Composing:
         if self.first == self.stage:
             return []
         wanted = alike_in(json.loads(json.dumps(said)))
-        return [number for number in view.attached if view.forms[number] == form and number not in self.taken
-                and alike_in(view.said(number)) == wanted]
+        return [
+            number for number in view.attached if view.forms[number] == form and number not in self.taken and alike_in(view.said(number)) == wanted
+        ]
 
 
 class DurableRequest:
@@ -401,9 +419,8 @@ class DurableRequest:
         assert add is not None
         row: List[DurableStage[Any]] = [self._attach(Form.APPLY, (stage,), _alone, name="gather") for stage in of]
         while len(row) > 1:
-            pairs = [row[k:k + 2] for k in range(0, len(row), 2)]
-            row = [self._attach(Form.COMBINE, tuple(it), add.call, name="gather") if len(it) == 2 else it[0]
-                   for it in pairs]
+            pairs = [row[k : k + 2] for k in range(0, len(row), 2)]
+            row = [self._attach(Form.COMBINE, tuple(it), add.call, name="gather") if len(it) == 2 else it[0] for it in pairs]
         return row[0]
 
     def __getitem__(self, which: "Step[T] | int | str") -> "DurableStage[T]":
@@ -442,8 +459,7 @@ class DurableRequest:
 
     def _act(self, decide: Callable[[RowView], Any], opens: bool = False) -> Optional[List[Done]]:
         if threading.get_ident() in self._transacts:
-            raise StoreError(f"request {self.name!r}: its transactional function can't put to it: "
-                             "that takes the place of its finish")
+            raise StoreError(f"request {self.name!r}: its transactional function can't put to it: that takes the place of its finish")
         try:
             with self._writes, self._lock:
                 done, others = self._view.act(decide, opens)
@@ -462,9 +478,15 @@ class DurableRequest:
             raise
         self._show(news)
 
-    def _attach(self, form: Form, of: "Sequence[DurableStage[Any]]", call: Optional[Callable[..., Any]],
-                args: Tuple[Any, ...] = (), kwargs: Optional[Dict[str, Any]] = None,
-                name: str = "") -> "DurableStage[Any]":
+    def _attach(
+        self,
+        form: Form,
+        of: "Sequence[DurableStage[Any]]",
+        call: Optional[Callable[..., Any]],
+        args: Tuple[Any, ...] = (),
+        kwargs: Optional[Dict[str, Any]] = None,
+        name: str = "",
+    ) -> "DurableStage[Any]":
         if any(stage.request._view is not self._view for stage in of):
             raise TypeError("no stage of this request")
         said = self._said_of(call, args, kwargs or {})
@@ -477,6 +499,7 @@ class DurableRequest:
             number, (first, second) = len(view.forms), (*sources, 0, 0)[:2]
             low = form << 24 | second << 12 | (0 if call is None else number)
             return [(ATTACH << 56 | view.who << 48 | first << 36 | len(sources) << 32 | low, payload)]
+
         return self._attached(form, sources, said, words)
 
     def _compose(self, source: "DurableStage[Any]", call: Callable[..., Any], name: str = "") -> "DurableStage[Any]":
@@ -491,12 +514,14 @@ class DurableRequest:
             view.make_room(2)
             number, head = len(view.forms), ATTACH << 56 | view.who << 48
             promise = json.dumps({"name": f"what {said['name']} gives"}).encode()
-            return [(head | Form.SOURCE << 24, promise), (head | source.number << 36 | 1 << 32 | form << 24 | number + 1,
-                                                          json_of({**said, "to": number}).encode())]
+            return [
+                (head | Form.SOURCE << 24, promise),
+                (head | source.number << 36 | 1 << 32 | form << 24 | number + 1, json_of({**said, "to": number}).encode()),
+            ]
+
         return self._attached(form, (source.number,), said, words)
 
-    def _said_of(self, call: Optional[Callable[..., Any]], args: Tuple[Any, ...],
-                 kwargs: Dict[str, Any]) -> Dict[str, Any]:
+    def _said_of(self, call: Optional[Callable[..., Any]], args: Tuple[Any, ...], kwargs: Dict[str, Any]) -> Dict[str, Any]:
         """What is said of a stage that is attached: its function, and which function of a stage attaches it."""
         said = said_of(self._service.functions, call, args, kwargs)
         said.update(captured(self._service.contexts) if call is not None else {})
@@ -516,8 +541,7 @@ class DurableRequest:
         finally:
             del self._composed_by[threading.get_ident()]
 
-    def _attached(self, form: Form, sources: Tuple[int, ...], said: Dict[str, Any],
-                  words: Callable[[RowView], Any]) -> "DurableStage[Any]":
+    def _attached(self, form: Form, sources: Tuple[int, ...], said: Dict[str, Any], words: Callable[[RowView], Any]) -> "DurableStage[Any]":
         """Puts words that attach stages, and gives the last of these, which is of this form, or gives the one that an
         earlier try of the function has attached. A request that is closed in the store is opened again with that."""
         composing = self._composes()
@@ -528,6 +552,7 @@ class DurableRequest:
                 composing.goes_on(view)
                 found[:] = composing.attached(view, (int(form), sources), said)[:1]
             return None if found else words(view)
+
         try:
             done = self._act(decide, opens=True)
         except Unknown:  # it may stand
@@ -551,6 +576,7 @@ class DurableRequest:
             if not 0 <= given < len(view.forms):
                 raise ValueError(f"there is no stage {given}")
             return given
+
         for stage in list(view.unlinked):
             promise = int(view.said(stage).get("to", stage))
             if promise not in view.links and not view.is_settled(promise):
@@ -583,20 +609,21 @@ class DurableRequest:
             raise RequestFull("a request has at most 4,096 stages")
         row = list(of)
         while len(row) > 2:
-            row = [self._attach(form, row[k:k + 2], None, name=name) if k + 1 < len(row) else row[k]
-                   for k in range(0, len(row), 2)]
+            row = [self._attach(form, row[k : k + 2], None, name=name) if k + 1 < len(row) else row[k] for k in range(0, len(row), 2)]
         return self._attach(form, row, None, name=name)
 
-    def _settle(self, kind: int, stage: int, payload: Optional[bytes], waits: bool = False,
-                failure: int = TIMED_OUT) -> bool:
+    def _settle(self, kind: int, stage: int, payload: Optional[bytes], waits: bool = False, failure: int = TIMED_OUT) -> bool:
         """Completes, fails or cancels a stage, and says whether that did it. `waits`: not while its function runs.
         `failure`: what it ends in by FAIL_AS, whose word doesn't name the payload."""
+
         def decide(view: RowView) -> Any:
             if view.is_settled(stage) or waits and view.holder(stage) is not None:
                 return None
-            low = (FAILURES.index(failure) << 32 if kind == FAIL_AS else 0 if payload is None else
-                   (GIVES << 32 if kind == COMPLETE else 0) | view.place)
+            low = (
+                FAILURES.index(failure) << 32 if kind == FAIL_AS else 0 if payload is None else (GIVES << 32 if kind == COMPLETE else 0) | view.place
+            )
             return [(kind << 56 | view.who << 48 | stage << 36 | low, payload)]
+
         try:
             done = self._act(decide)
         finally:
@@ -612,16 +639,17 @@ class DurableRequest:
 
         def decide(view: RowView) -> Any:
             left = [(stage, payload) for stage, payload in given[:32] if not view.is_settled(stage)]
-            return [(COMPLETE << 56 | view.who << 48 | stage << 36 |
-                     (0 if payload is None else GIVES << 32 | view.place + k), payload)
-                    for k, (stage, payload) in enumerate(left)]
+            return [
+                (COMPLETE << 56 | view.who << 48 | stage << 36 | (0 if payload is None else GIVES << 32 | view.place + k), payload)
+                for k, (stage, payload) in enumerate(left)
+            ]
+
         self._act(decide)
 
     def _later(self, stage: "DurableStage[T]", seconds: float, payload: bytes) -> "DurableStage[T]":
         if not stage.done():
             store = self._service.store
-            self._view.sure(lambda: store.set_timer(Timer(self.name, stage.number, store.now() + seconds, payload,
-                                                          self.number)))
+            self._view.sure(lambda: store.set_timer(Timer(self.name, stage.number, store.now() + seconds, payload, self.number)))
         return stage
 
     def _fire(self, timer: Timer) -> None:

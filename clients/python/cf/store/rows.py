@@ -11,8 +11,7 @@ import json
 import re
 import threading
 import time
-from typing import (Any, Callable, ContextManager, Dict, Iterable, List, Mapping, NamedTuple, Optional, Sequence,
-                    Tuple, TypeVar)
+from typing import Any, Callable, ContextManager, Dict, Iterable, List, Mapping, NamedTuple, Optional, Sequence, Tuple, TypeVar
 
 from .host import HOST, Host
 
@@ -71,8 +70,7 @@ class Gone(Broken):
         super().__init__(request, 0, "the store has no such request")
 
 
-def sure(call: Callable[[], T], name: str, place: int, patience: float, note: Callable[[], None] = lambda: None,
-         host: Host = HOST) -> T:
+def sure(call: Callable[[], T], name: str, place: int, patience: float, note: Callable[[], None] = lambda: None, host: Host = HOST) -> T:
     """What a call is answered that may be made again, whatever became of it before. `note` is told of each time
     without an answer."""
     until, pause = host.monotonic() + patience, 0.01
@@ -330,8 +328,7 @@ class Store(abc.ABC):
     def overview(self) -> List[Open]:
         """All open requests, each with the last glance at it. No row is read."""
         found = [(it, self.find(it.name)) for it in self.listing() if it.closed is None]
-        return [Open(it.name, at.number, it.opened, it.words, flow_of(at.plan[:HEAD]), None)
-                for it, at in found if at is not None]
+        return [Open(it.name, at.number, it.opened, it.words, flow_of(at.plan[:HEAD]), None) for it, at in found if at is not None]
 
     def changes(self, mark: Any) -> Tuple[Changes, Any]:
         """What is other in the list of open requests since a mark, and the next mark; since None, all of them are new,
@@ -371,8 +368,7 @@ class Store(abc.ABC):
     def closed(self, behind: str, most: int, part: str = "") -> List[Listed]:
         """Up to so many closed requests whose names come behind this one and have this part, in small letters or
         large ones, by name."""
-        found = [it for it in self.listing()
-                 if it.closed is not None and it.name > behind and part.lower() in it.name.lower()]
+        found = [it for it in self.listing() if it.closed is not None and it.name > behind and part.lower() in it.name.lower()]
         return found[:most]
 
     def name_session(self, session: int, said: str, request: str = "", number: int = 0) -> None:
@@ -458,7 +454,7 @@ class Memory(Store):
         self._is_there(put.request, put.number)
         row = self._rows.setdefault(put.request, [])
         if len(row) > put.at:
-            return row[put.at:]
+            return row[put.at :]
         row.extend(put.entries)
         if put.opens:
             self._closed.pop(put.request, None)
@@ -482,8 +478,7 @@ class Memory(Store):
     def news(self, mark: Any) -> Tuple[Dict[str, int], Any]:
         with self._change:
             ends = self.ends()
-            news = ends if mark is None else {name: ends.get(name, -1) for name in self._opened
-                                              if self._last.get(name, 0) > mark}
+            news = ends if mark is None else {name: ends.get(name, -1) for name in self._opened if self._last.get(name, 0) > mark}
             return news, self._puts
 
     def changed(self, seconds: float) -> None:
@@ -494,8 +489,7 @@ class Memory(Store):
 
     def listing(self) -> List[Listed]:
         with self._change:
-            return [Listed(name, it.opened, self._closed.get(name), len(self._rows.get(name, [])))
-                    for name, it in sorted(self._opened.items())]
+            return [Listed(name, it.opened, self._closed.get(name), len(self._rows.get(name, []))) for name, it in sorted(self._opened.items())]
 
     def end(self, name: str, at: int, number: int = 0) -> bool:
         with self._change:
@@ -514,8 +508,7 @@ class Memory(Store):
 
     def drop(self, name: str, at: Optional[int] = None) -> bool:
         with self._change:
-            if name not in self._opened or at is not None and (name not in self._closed
-                                                               or len(self._rows.get(name, [])) != at):
+            if name not in self._opened or at is not None and (name not in self._closed or len(self._rows.get(name, [])) != at):
                 return False
             number = self._opened[name].number
             for kept in (self._opened, self._closed, self._rows, self._glances):
@@ -557,13 +550,21 @@ class Memory(Store):
 
     def overview(self) -> List[Open]:
         with self._change:
-            return [Open(name, it.number, it.opened, len(self._rows.get(name, [])), flow_of(it.plan[:HEAD]),
-                         self._glances.get(name)) for name, it in self._opened.items() if name not in self._closed]
+            return [
+                Open(name, it.number, it.opened, len(self._rows.get(name, [])), flow_of(it.plan[:HEAD]), self._glances.get(name))
+                for name, it in self._opened.items()
+                if name not in self._closed
+            ]
 
     def keep_glances(self, glances: Sequence[Glance]) -> None:
         with self._change:
-            self._glances.update({it.request: it for it in glances if it.request not in self._closed and
-                                  it.request in self._opened and self._opened[it.request].number == it.number})
+            self._glances.update(
+                {
+                    it.request: it
+                    for it in glances
+                    if it.request not in self._closed and it.request in self._opened and self._opened[it.request].number == it.number
+                }
+            )
 
     def name_session(self, session: int, said: str, request: str = "", number: int = 0) -> None:
         with self._change:

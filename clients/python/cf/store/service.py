@@ -14,8 +14,25 @@ from typing import TYPE_CHECKING, Any, Callable, Dict, List, NamedTuple, Optiona
 from ..service.ending import Ends, Hook
 from ..service.flow import Flow
 from ..service.history import Describe, describe_all
-from ..service.words import (ANSWER, ARGS, CLAIM, COMPOSE_FORMS, FIRST, FIRST_SOME, GIVES, GOT, LINKS,
-                             ONE, OUTCOME, SECOND, SECOND_SOME, THROWS, TWO, VALUE, Told)
+from ..service.words import (
+    ANSWER,
+    ARGS,
+    CLAIM,
+    COMPOSE_FORMS,
+    FIRST,
+    FIRST_SOME,
+    GIVES,
+    GOT,
+    LINKS,
+    ONE,
+    OUTCOME,
+    SECOND,
+    SECOND_SOME,
+    THROWS,
+    TWO,
+    VALUE,
+    Told,
+)
 from ..values import Form
 from .codec import Abandoned, Json, RemoteError
 from .contexts import Carrier, within
@@ -25,8 +42,7 @@ from .functions import F, Functions, Known
 from .host import HOST, Host
 from .plans import are_alike, text_of
 from .request import Composing, DurableRequest, DurableStage
-from .rows import (COUNT_BITS, Broken, Glance, Gone, Grouped, Opened, Store, StoreError, Timer, Transaction, Unknown,
-                   sure)
+from .rows import COUNT_BITS, Broken, Glance, Gone, Grouped, Opened, Store, StoreError, Timer, Transaction, Unknown, sure
 
 if TYPE_CHECKING:
     from typing_extensions import ParamSpec
@@ -128,10 +144,22 @@ class DurableService(concurrent.futures.Executor):
 
     _numbers = itertools.count()
 
-    def __init__(self, store: Store, max_workers: Optional[int] = None, *, functions: Optional[Functions] = None,
-                 codec: Optional[Json] = None, lease: float = 10, takes_all: bool = False, groups: bool = False,
-                 note: Optional[Callable[..., None]] = None, describe: Describe = describe_all,
-                 host: Host = HOST, on_end: Optional[Hook] = None, contexts: Sequence[Carrier] = ()) -> None:
+    def __init__(
+        self,
+        store: Store,
+        max_workers: Optional[int] = None,
+        *,
+        functions: Optional[Functions] = None,
+        codec: Optional[Json] = None,
+        lease: float = 10,
+        takes_all: bool = False,
+        groups: bool = False,
+        note: Optional[Callable[..., None]] = None,
+        describe: Describe = describe_all,
+        host: Host = HOST,
+        on_end: Optional[Hook] = None,
+        contexts: Sequence[Carrier] = (),
+    ) -> None:
         workers = min(32, (os.cpu_count() or 1) + 4) if max_workers is None else max_workers
         if workers < 0:
             raise ValueError("max_workers must not be below 0")
@@ -263,8 +291,9 @@ class DurableService(concurrent.futures.Executor):
     def running(self) -> List[Running]:
         """The functions that run in this process now, the one that has run for longest first."""
         now = self._host.monotonic()
-        return sorted((Running(name, stage, function, now - since)
-                       for (name, stage), (function, since) in list(self._runs.items())), key=lambda it: -it.seconds)
+        return sorted(
+            (Running(name, stage, function, now - since) for (name, stage), (function, since) in list(self._runs.items())), key=lambda it: -it.seconds
+        )
 
     def shutdown(self, wait: bool = True, *, cancel_futures: bool = False) -> None:
         """Begins no more functions. Those that run are finished. What is open stays in the store, and others go on with
@@ -315,8 +344,7 @@ class DurableService(concurrent.futures.Executor):
         return sure(call, name, 0, PATIENCE, host=self._host)
 
     def _made(self, found: Opened) -> DurableRequest:
-        return DurableRequest(self, RowView(self.store, found, self.session, PATIENCE, self._note, self._host,
-                                            is_timed=self._ends is not None))
+        return DurableRequest(self, RowView(self.store, found, self.session, PATIENCE, self._note, self._host, is_timed=self._ends is not None))
 
     def _kept(self, request: DurableRequest) -> DurableRequest:
         """The one object of a request that this service has: this one, or the one that was there before."""
@@ -423,8 +451,7 @@ class DurableService(concurrent.futures.Executor):
             if end < 0:
                 continue
             taken = self._taken(name) if self._takes_all else self._known_again(name)
-            if taken is not None and (end > taken.seen or (looks or not end)
-                                      and (end < taken.seen or self._needs(taken))):
+            if taken is not None and (end > taken.seen or (looks or not end) and (end < taken.seen or self._needs(taken))):
                 self._serve(taken)  # (a row gets no shorter: where it has, it is another's of the name)
             self._beat()  # (rows that are read for the first time may be many and long)
         self._mark = mark
@@ -472,8 +499,7 @@ class DurableService(concurrent.futures.Executor):
         if long:
             self._next_told = now + LONG
             said = ", ".join(map(str, long[:MOST_TOLD])) + (", .." if long[MOST_TOLD:] else "")
-            LOGGER.warning("%d of %d threads run a function for longer than %s s: %s", len(long), self._workers, LONG,
-                           said)
+            LOGGER.warning("%d of %d threads run a function for longer than %s s: %s", len(long), self._workers, LONG, said)
 
     def _needs(self, request: DurableRequest) -> bool:
         """Whether something is to do in a request without a new word."""
@@ -583,6 +609,7 @@ class DurableService(concurrent.futures.Executor):
                 def decide(view: RowView, stage: int = stage, session: int = session, payload: bytes = payload) -> Any:
                     word = view.abandoned(session, stage)
                     return None if word is None else [(word, payload)]
+
                 request._act(decide)
 
     def _next(self, request: DurableRequest, finish: Optional[Finish]) -> Optional[Claimed]:
@@ -592,14 +619,16 @@ class DurableService(concurrent.futures.Executor):
         chosen: List[int] = []
         told = finish
         if finish is not None and finish.raised is not None:
-            self._host.fails(f"request {request.name!r}, stage {finish.stage}: "
-                             f"{request._view.calls(finish.stage).get('fn')} has raised", finish.raised)
+            self._host.fails(
+                f"request {request.name!r}, stage {finish.stage}: {request._view.calls(finish.stage).get('fn')} has raised", finish.raised
+            )
 
         def decide(view: RowView) -> Any:
             made = None if told is None else told.word(view)
             chosen[:] = self._choice(request, view, told if made is not None else None)
             words: List[Tuple[int, Optional[bytes]]] = [] if made is None else [made]
             return words + [(CLAIM << 56 | view.who << 48 | stage << 36, None) for stage in chosen[:1]]
+
         refused = 0  # times in a row that the value was, while the store took something else
         while True:
             try:
@@ -610,8 +639,7 @@ class DurableService(concurrent.futures.Executor):
             except Exception as error:
                 if finish is None or self._host.monotonic() > self._last_put:
                     if finish is not None:
-                        LOGGER.error("request %r, stage %d: what its function came to is lost: %s", request.name,
-                                     finish.stage, error)
+                        LOGGER.error("request %r, stage %d: what its function came to is lost: %s", request.name, finish.stage, error)
                     raise
                 if isinstance(error, Unknown):
                     self._host.warns(str(error), request.name)
@@ -619,11 +647,9 @@ class DurableService(concurrent.futures.Executor):
                 refused = refused + 1 if told is finish and self._takes_beats() else 0
                 told = finish
                 if refused > 1:  # it is too large, say
-                    told = Finish(finish.stage, THROWS,
-                                  self._error(RemoteError(type(error).__name__, str(error)[:LONGEST_WHY])))
+                    told = Finish(finish.stage, THROWS, self._error(RemoteError(type(error).__name__, str(error)[:LONGEST_WHY])))
                 elif not refused:  # nothing is taken now, so that it wasn't the value
-                    self._host.warns(f"request {request.name!r}, stage {finish.stage}: nothing can be put: {error}",
-                                     request.name)
+                    self._host.warns(f"request {request.name!r}, stage {finish.stage}: nothing can be put: {error}", request.name)
                     self._host.sleep(0.5)
         if len(chosen) > 1:
             self._serve(request)
@@ -668,12 +694,12 @@ class DurableService(concurrent.futures.Executor):
         known = self.functions.named(str(said.get("fn")), int(said.get("version", 0)))
         composes = request._view.forms[stage][0] in COMPOSE_FORMS
         if known is not None and composes and "to" not in request._view.said(stage):
-            raise Broken(request.name, request._view.attached.get(stage, 0),
-                         f"stage {stage} composes, and no promise is named for what comes")
+            raise Broken(request.name, request._view.attached.get(stage, 0), f"stage {stage} composes, and no promise is named for what comes")
         if known is None and request.name not in self._unknown:
             self._unknown[request.name] = (str(said.get("fn")), stage)
-            self._host.warns(f"request {request.name!r}, stage {stage}: function {said.get('fn')}, version "
-                             f"{said.get('version')} isn't known here", "")
+            self._host.warns(
+                f"request {request.name!r}, stage {stage}: function {said.get('fn')}, version {said.get('version')} isn't known here", ""
+            )
         return known
 
     def _claimed(self, request: DurableRequest, stage: int, done: Done) -> Claimed:
@@ -698,8 +724,7 @@ class DurableService(concurrent.futures.Executor):
             if not isinstance(error, Abandoned) or told.wrapped:
                 return Claimed(stage, known, (), {}, error, {})
             said, args = view.said(again), self._args_again(request, again)
-        return Claimed(stage, known, tuple(said.get("args", ())) or args, said.get("kwargs", {}), None,
-                       view.carried(stage))
+        return Claimed(stage, known, tuple(said.get("args", ())) or args, said.get("kwargs", {}), None, view.carried(stage))
 
     def _args(self, request: DurableRequest, stage: int, reply: Sequence[int]) -> Tuple[Any, ...]:
         """What a claim says that the function is called with."""
@@ -788,8 +813,7 @@ class DurableService(concurrent.futures.Executor):
         try:
             return self.codec.write_error(error)
         except BaseException as fault:
-            return Json().write_error(RemoteError(type(error).__name__,
-                                                  f"(it can't be written: {type(fault).__name__})"))
+            return Json().write_error(RemoteError(type(error).__name__, f"(it can't be written: {type(fault).__name__})"))
 
     def _in_transaction(self, request: DurableRequest, claimed: Claimed) -> Optional[Claimed]:
         """The function's effect and the word of its finish stand or fall together. Where the finish's place was

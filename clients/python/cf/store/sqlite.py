@@ -27,10 +27,8 @@ SCHEMA = """
     create table if not exists cf_name (request integer, session integer, name text not null,
         primary key (request, session)) without rowid
 """
-PUT = ("insert or ignore into cf_word (request, at, word, token, payload) "
-       "select id, ?, ?, ?, ? from cf_request where id = ?")
-PUT_GROUP = ("insert into cf_word (request, at, word, token, payload) "
-             "select id, v.* from cf_request, (values %s) v where id = ?")
+PUT = "insert or ignore into cf_word (request, at, word, token, payload) select id, ?, ?, ?, ? from cf_request where id = ?"
+PUT_GROUP = "insert into cf_word (request, at, word, token, payload) select id, v.* from cf_request, (values %s) v where id = ?"
 OPEN_AGAIN = "update cf_request set closed = null where id = ? and closed is not null"
 READ = "select at, word, token from cf_request left join cf_word on request = id and at >= ? where id = ? order by at"
 HAS = "(select coalesce(max(at) + 1, 0) from cf_word where request = id) = ?"  # so many words
@@ -52,8 +50,10 @@ class SQLite(TableStore):
     is_transactional = locks_out = True
     VALUE, HAS_PART = "?", "instr(cf_lower(name), cf_lower(?)) > 0"
     # (The limit has it go through the open ones alone, and not through all by their names.)
-    FIRST_OPEN = ("select id, (select count(*) from cf_request where closed is null) as many from "
-                  f"(select id, name from cf_request where closed is null limit -1) order by name limit {FIRST}")
+    FIRST_OPEN = (
+        "select id, (select count(*) from cf_request where closed is null) as many from "
+        f"(select id, name from cf_request where closed is null limit -1) order by name limit {FIRST}"
+    )
 
     def __init__(self, path: str, is_unsafe: bool = False, may_create: bool = True) -> None:
         super().__init__()
@@ -133,22 +133,23 @@ class SQLite(TableStore):
         found = self.find(name)
         while found is None:  # (it may be dropped meanwhile)
             now = time.time()
-            self._in_turn(lambda db: db.execute("insert or ignore into cf_request (name, plan, opened) "
-                                                "values (?, ?, ?)", (name, plan, now)))
+            self._in_turn(lambda db: db.execute("insert or ignore into cf_request (name, plan, opened) values (?, ?, ?)", (name, plan, now)))
             found = self.find(name)
         return found
 
     def news(self, mark: Any) -> Tuple[Dict[str, int], Any]:
         # Rows are numbered in the order of their commits, since SQLite has one writer. Where the last ones were dropped
         # numbers come again, and what was put by then is told since None.
-        at = self._ask("select (select coalesce(max(n), 0) from cf_word), "
-                       "(select coalesce(max(id), 0) from cf_request)")[0]
+        at = self._ask("select (select coalesce(max(n), 0) from cf_word), (select coalesce(max(id), 0) from cf_request)")[0]
         if mark is None or at[0] < mark[0]:
             return self.ends(), at
         opened = self._ask("select name from cf_request where id > ? and closed is null", mark[1])
         # (`+` keeps SQLite from going through all words by the index of requests)
-        longer = self._ask("select name, case when closed is null then max(at) + 1 else -1 end from cf_word "
-                           "join cf_request on id = request where n > ? group by +request", mark[0])
+        longer = self._ask(
+            "select name, case when closed is null then max(at) + 1 else -1 end from cf_word "
+            "join cf_request on id = request where n > ? group by +request",
+            mark[0],
+        )
         return {**{str(name): 0 for name, in opened}, **{str(name): int(many) for name, many in longer}}, at
 
     def _mark(self) -> int:
@@ -173,11 +174,13 @@ class SQLite(TableStore):
         number = number or self._id(name)
 
         def act(db: sqlite3.Connection) -> Tuple[bool, bool]:
-            closes = db.execute(f"update cf_request set closed = ? where id = ? and closed is null and {HAS}",
-                                (time.time(), number, at)).rowcount == 1
+            closes = (
+                db.execute(f"update cf_request set closed = ? where id = ? and closed is null and {HAS}", (time.time(), number, at)).rowcount == 1
+            )
             for table in ("cf_timer", "cf_glance") if closes else ():
                 db.execute(f"delete from {table} where request = ?", (number,))
             return closes, _is_there(db, number)
+
         closes, is_there = self._in_turn(act)
         if not is_there:
             raise self._gone(name)
@@ -189,6 +192,7 @@ class SQLite(TableStore):
         def act(db: sqlite3.Connection) -> bool:
             db.execute(OPEN_AGAIN, (number,))
             return _is_there(db, number)
+
         if not self._in_turn(act):
             raise self._gone(name)
 
@@ -202,6 +206,7 @@ class SQLite(TableStore):
             for table in ("cf_word", "cf_large", "cf_timer", "cf_glance", "cf_name"):
                 db.execute(f"delete from {table} where request = ?", (number,))
             return db.execute("delete from cf_request where id = ?", (number,)).rowcount == 1
+
         dropped = self._in_turn(act)
         if dropped:
             self._ids.pop(name, None)
@@ -211,8 +216,12 @@ class SQLite(TableStore):
 
     def append_groups(self, puts: Sequence[Put]) -> List[Optional[List[Entry]]]:
         ids = [self._id_of(put) for put in puts]
-        if len(puts) == 1 and not puts[0].opens and len(puts[0].entries) <= MOST_AT_ONCE and all(
-                len(it) <= SMALL for it in puts[0].payloads.values()):
+        if (
+            len(puts) == 1
+            and not puts[0].opens
+            and len(puts[0].entries) <= MOST_AT_ONCE
+            and all(len(it) <= SMALL for it in puts[0].payloads.values())
+        ):
             landed = [self._put_at_once(ids[0], puts[0])]
         else:
             landed = self._in_turn(lambda db: [_put(db, number, put) for number, put in zip(ids, puts)])
@@ -224,8 +233,7 @@ class SQLite(TableStore):
         if many == 1:
             with self._in_line:
                 return db.execute(PUT, (at, *put.entries[0], payloads.get(at + 1), number)).rowcount == 1
-        values = [it for k, (word, token) in enumerate(put.entries)
-                  for it in (at + k, word, token, payloads.get(at + 1 + k))]
+        values = [it for k, (word, token) in enumerate(put.entries) for it in (at + k, word, token, payloads.get(at + 1 + k))]
         statement = PUT_GROUP % ",".join(["(?,?,?,?)"] * many)
         with self._in_line:
             try:
@@ -272,13 +280,13 @@ class SQLite(TableStore):
     # Sessions and timers.
 
     def beat(self, session: int) -> None:
-        self._in_turn(lambda db: db.execute("insert into cf_beat values (?, 1) "
-                                            "on conflict do update set count = count + 1", (session,)))
+        self._in_turn(lambda db: db.execute("insert into cf_beat values (?, 1) on conflict do update set count = count + 1", (session,)))
 
     def drop_beat(self, session: int) -> None:
         def act(db: sqlite3.Connection) -> None:
             db.execute("delete from cf_beat where session = ?", (session,))
             db.execute("delete from cf_name where request = 0 and session = ?", (session,))
+
         self._in_turn(act)
 
     def name_session(self, session: int, said: str, request: str = "", number: int = 0) -> None:
@@ -289,6 +297,7 @@ class SQLite(TableStore):
                 return False
             db.execute("insert or replace into cf_name values (?, ?, ?)", (number, session, said))
             return True
+
         if not self._in_turn(act):
             raise self._gone(request)
 
@@ -297,15 +306,14 @@ class SQLite(TableStore):
 
     def set_timer(self, timer: Timer) -> None:
         values = (timer.stage, timer.due, timer.payload, timer.number or self._id(timer.request))
-        if not self._in_turn(lambda db: db.execute("insert or replace into cf_timer "
-                                                   "select id, ?, ?, ? from cf_request where id = ?", values).rowcount):
+        if not self._in_turn(
+            lambda db: db.execute("insert or replace into cf_timer select id, ?, ?, ? from cf_request where id = ?", values).rowcount
+        ):
             raise self._gone(timer.request)
 
     def due(self, now: float) -> List[Timer]:
-        rows = self._ask("select name, stage, due, payload, id from cf_timer join cf_request on id = request "
-                         "where due <= ? order by due", now)
-        return [Timer(str(name), int(stage), float(at), _bytes(payload), int(number))
-                for name, stage, at, payload, number in rows]
+        rows = self._ask("select name, stage, due, payload, id from cf_timer join cf_request on id = request where due <= ? order by due", now)
+        return [Timer(str(name), int(stage), float(at), _bytes(payload), int(number)) for name, stage, at, payload, number in rows]
 
     def drop_timer(self, request: str, stage: int, number: int = 0) -> None:
         number = number or self._id(request)
@@ -315,8 +323,9 @@ class SQLite(TableStore):
 
     def keep_glances(self, glances: Sequence[Glance]) -> None:
         rows = [(it.words, it.said, it.number) for it in glances]
-        self._in_turn(lambda db: db.executemany("insert or replace into cf_glance select id, ?, ? from cf_request "
-                                                "where id = ? and closed is null", rows))
+        self._in_turn(
+            lambda db: db.executemany("insert or replace into cf_glance select id, ?, ? from cf_request where id = ? and closed is null", rows)
+        )
 
     def words_put(self) -> Optional[int]:
         return self._mark()
@@ -438,8 +447,7 @@ class _Line:
                 try:
                     waiter.start()
                 except RuntimeError as error:
-                    raise Unknown(f"{self._path}: another process has the file, "
-                                  f"and no thread can wait for it: {error}") from None
+                    raise Unknown(f"{self._path}: another process has the file, and no thread can wait for it: {error}") from None
                 self._waiter = waiter
             self._waits = self._is_wanted = True
             self._change.notify_all()
@@ -506,7 +514,8 @@ class _Telling:
     def __init__(self, store: SQLite) -> None:
         self._store = store
 
-    def __enter__(self) -> None: ...
+    def __enter__(self) -> None:
+        ...
 
     def __exit__(self, _kind: object, error: Optional[BaseException], _trace: object) -> None:
         if error is not None:

@@ -40,5 +40,4 @@ def connect(address: str, may_create: bool = True) -> Store:
         from .etcd import Etcd
 
         return Etcd(parts.netloc)
-    raise ValueError(f"{address!r} is no address of a store: "
-                     "memory://, sqlite:///FILE, postgresql://.., etcd://HOST:PORT,..")
+    raise ValueError(f"{address!r} is no address of a store: memory://, sqlite:///FILE, postgresql://.., etcd://HOST:PORT,..")

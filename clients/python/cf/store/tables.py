@@ -9,8 +9,7 @@ from .rows import FIRST, HEAD, Changes, Glance, Gone, Listed, Open, Opened, Put,
 ANEW = 100  # requests that are told anew with each look at all that are open
 BETWEEN_ALL = 0.5  # seconds between two such looks: what is closed is told by them alone
 MOST_VALUES = 500  # in a statement
-COLUMNS = ("r.id, r.name, r.opened, (select max(at) + 1 from cf_word where request = r.id), "
-           f"substr(r.plan, 1, {HEAD}), g.words, g.said")
+COLUMNS = f"r.id, r.name, r.opened, (select max(at) + 1 from cf_word where request = r.id), substr(r.plan, 1, {HEAD}), g.words, g.said"
 GLANCED = "cf_request r left join cf_glance g on g.request = r.id"
 OVERVIEW = f"select {COLUMNS} from {GLANCED} where r.closed is null"
 FIRST_OPENED = f"select {COLUMNS}, f.many from ({{}}) f, {GLANCED} where r.id = f.id"
@@ -84,12 +83,13 @@ class TableStore(Store):
         return Opened(name, str(rows[0][1]), float(rows[0][2]), number)
 
     def ends(self) -> Dict[str, int]:
-        return {str(name): int(many or 0) for name, many in self._ask(
-            "select name, (select max(at) + 1 from cf_word where request = id) from cf_request where closed is null")}
+        return {
+            str(name): int(many or 0)
+            for name, many in self._ask("select name, (select max(at) + 1 from cf_word where request = id) from cf_request where closed is null")
+        }
 
     def listing(self) -> List[Listed]:
-        rows = self._ask("select name, opened, closed, (select max(at) + 1 from cf_word where request = id) "
-                         "from cf_request order by name")
+        rows = self._ask("select name, opened, closed, (select max(at) + 1 from cf_word where request = id) from cf_request order by name")
         return [Listed(str(name), float(opened), closed, int(many or 0)) for name, opened, closed, many in rows]
 
     def beats(self) -> Dict[int, int]:
@@ -103,8 +103,7 @@ class TableStore(Store):
             first = self._ask(FIRST_OPENED.format(self.FIRST_OPEN))
             if first and int(first[0][-1]) > 2 * FIRST:
                 opened = _opens(row[:-1] for row in first)
-                return (Changes(opened, {}, [], int(first[0][-1])),
-                        _Mark(None, {it.number: it.name for it in opened}, 0, 0.0))
+                return (Changes(opened, {}, [], int(first[0][-1])), _Mark(None, {it.number: it.name for it in opened}, 0, 0.0))
         before: Mapping[int, str] = {} if mark is None else mark.names
         is_all = mark is not None and time.monotonic() >= mark.due
         other = None if mark is None or mark.words is None else self._other(mark, is_all)
@@ -112,15 +111,14 @@ class TableStore(Store):
             words = self._mark()  # (first: what comes between is told once more)
             opened = self.overview()
             now = {it.number: it.name for it in opened}
-            return (Changes(opened, {}, _gone(before, before.keys() - now, now)),
-                    _Mark(words, now, 0, time.monotonic() + BETWEEN_ALL))
+            return (Changes(opened, {}, _gone(before, before.keys() - now, now)), _Mark(words, now, 0, time.monotonic() + BETWEEN_ALL))
         new = {it.number: it.name for it in other.opened if before.get(it.number) != it.name}
-        names = _with(before, new) if other.numbers is None else {
-            **{number: name for number, name in before.items() if number in other.numbers}, **new}
+        names = (
+            _with(before, new) if other.numbers is None else {**{number: name for number, name in before.items() if number in other.numbers}, **new}
+        )
         gone = [] if other.numbers is None else _gone(before, before.keys() - other.numbers, names)
         many = {names[number]: words for number, words in other.longer.items() if number in names}
-        return (Changes(other.opened, many, gone),
-                _Mark(other.words, names, other.turn, time.monotonic() + BETWEEN_ALL if is_all else mark.due))
+        return (Changes(other.opened, many, gone), _Mark(other.words, names, other.turn, time.monotonic() + BETWEEN_ALL if is_all else mark.due))
 
     @staticmethod
     def _anew(numbers: Iterable[int], turn: int) -> Tuple[List[int], int]:
@@ -142,20 +140,23 @@ class TableStore(Store):
         """Those of these requests that are open."""
         told = []
         for k in range(0, len(numbers), MOST_VALUES):
-            some = numbers[k:k + MOST_VALUES]
+            some = numbers[k : k + MOST_VALUES]
             told += self._ask(f"{OVERVIEW} and r.id in ({','.join([self.VALUE] * len(some))})", *some)
         return _opens(told)
 
     def closed(self, behind: str, most: int, part: str = "") -> List[Listed]:
-        rows = self._ask("select name, opened, closed, (select max(at) + 1 from cf_word where request = id) "
-                         f"from cf_request where closed is not null and name > {self.VALUE} and {self.HAS_PART} "
-                         f"order by name limit {int(most)}", behind, part)
+        rows = self._ask(
+            "select name, opened, closed, (select max(at) + 1 from cf_word where request = id) "
+            f"from cf_request where closed is not null and name > {self.VALUE} and {self.HAS_PART} "
+            f"order by name limit {int(most)}",
+            behind,
+            part,
+        )
         return [Listed(str(name), float(opened), float(closed), int(many or 0)) for name, opened, closed, many in rows]
 
     def session_names(self, request: str = "", number: int = 0) -> Dict[int, str]:
         number = (number or self._id(request)) if request else 0
-        return {int(session): str(said) for session, said in self._ask(
-            f"select session, name from cf_name where request = {self.VALUE}", number)}
+        return {int(session): str(said) for session, said in self._ask(f"select session, name from cf_name where request = {self.VALUE}", number)}
 
 
 def _opens(rows: Iterable[Tuple[Any, ...]]) -> List[Open]:

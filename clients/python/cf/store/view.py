@@ -3,15 +3,33 @@ and where it loses replays and decides again."""
 import contextlib
 import json
 from array import array
-from typing import (Any, Callable, ContextManager, Dict, Iterable, Iterator, List, Mapping, NamedTuple, Optional,
-                    Sequence, Set, Tuple, TypeVar)
+from typing import Any, Callable, ContextManager, Dict, Iterable, Iterator, List, Mapping, NamedTuple, Optional, Sequence, Set, Tuple, TypeVar
 
 from .. import values
 from .._library import CNews
 from ..service.history import History
-from ..service.words import (ANSWER, ATTACH, CLAIM, COMPLETE, COMPOSE_FORMS, FAIL, FAIL_AS, FAILURES, FINISH, GIVES,
-                             IS_PENDING, IS_READY, IS_SETTLED, LINKS, MOST_STAGES, NOT_YET, NUMBER, THROWS,
-                             RequestFull, Told)
+from ..service.words import (
+    ANSWER,
+    ATTACH,
+    CLAIM,
+    COMPLETE,
+    COMPOSE_FORMS,
+    FAIL,
+    FAIL_AS,
+    FAILURES,
+    FINISH,
+    GIVES,
+    IS_PENDING,
+    IS_READY,
+    IS_SETTLED,
+    LINKS,
+    MOST_STAGES,
+    NOT_YET,
+    NUMBER,
+    THROWS,
+    RequestFull,
+    Told,
+)
 from .codec import Json
 from .host import HOST, Host
 from .plans import SharedPlan, said_in
@@ -44,8 +62,15 @@ class RowHistory(History):
     """A row's history: it has no times that it tells, and numbers that sessions had as callers. `sessions` are those
     of its words, and `named` what some of them are called in the request."""
 
-    def __init__(self, name: str, plan: SharedPlan, facts: Any, sessions: Sequence[int],
-                 named: Optional[Mapping[int, str]] = None, opened: Optional[float] = None) -> None:
+    def __init__(
+        self,
+        name: str,
+        plan: SharedPlan,
+        facts: Any,
+        sessions: Sequence[int],
+        named: Optional[Mapping[int, str]] = None,
+        opened: Optional[float] = None,
+    ) -> None:
         super().__init__(name, plan, facts)
         self._sessions, self._named = sessions, named or {}
         self._opened = None if opened is None else int(opened * 1e9)
@@ -92,8 +117,16 @@ class RowView:
         host: Has the clock and what comes by chance.
         is_timed: Whether it remembers when it noticed each word."""
 
-    def __init__(self, store: Store, opened: Opened, session: int, patience: float = 60,
-                 note: Optional[Callable[..., None]] = None, host: Host = HOST, is_timed: bool = False) -> None:
+    def __init__(
+        self,
+        store: Store,
+        opened: Opened,
+        session: int,
+        patience: float = 60,
+        note: Optional[Callable[..., None]] = None,
+        host: Host = HOST,
+        is_timed: bool = False,
+    ) -> None:
         self.store: Store = store
         self.name: str = opened.name
         self.session: int = session
@@ -190,8 +223,7 @@ class RowView:
             entries = self.sure(lambda: self.store.read(self.name, self.seen, self.opened.number))
         return [self._take(*entry) for entry in entries]
 
-    def act(self, decide: "Callable[[RowView], Optional[Wanted]]",
-            opens: bool = False) -> Tuple[Optional[List[Done]], List[Done]]:
+    def act(self, decide: "Callable[[RowView], Optional[Wanted]]", opens: bool = False) -> Tuple[Optional[List[Done]], List[Done]]:
         """Puts words at the end of what is seen, and does them.
 
         Args:
@@ -214,7 +246,7 @@ class RowView:
             put = self.put_of(wanted)._replace(opens=opens)
             stands = self._append(put) or put.entries
             done = self.landed(put, stands)
-            others += [self._take(*entry) for entry in stands[len(done or []):]]
+            others += [self._take(*entry) for entry in stands[len(done or []) :]]
             if done is not None:
                 return done, others
             self.lost += 1
@@ -236,6 +268,7 @@ class RowView:
                 if not stands:
                     raise Unknown(str(error)) from error
                 return stands
+
         try:
             stands: Optional[List[Entry]] = self.sure(append)
             if stands == []:
@@ -265,8 +298,10 @@ class RowView:
         except (values.Refused, OverflowError) as error:
             if isinstance(error, values.Refused) and error.code != values.Code.NO_WORD:
                 raise
-            raise ValueError(f"request {self.name!r}, place {self.place}: one of the words {words} is no event's, or "
-                             "another caller's, or names a stage that isn't there") from None
+            raise ValueError(
+                f"request {self.name!r}, place {self.place}: one of the words {words} is no event's, or "
+                "another caller's, or names a stage that isn't there"
+            ) from None
         entries = [(word, first + k) for k, word in enumerate(words)]
         payloads = {self.place + k: it for k, (_, it) in enumerate(wanted) if it is not None}
         return Put(self.name, self.seen, entries, payloads, self.opened.number)
@@ -276,7 +311,7 @@ class RowView:
         if not self._replica.met(*stands[0]) or not _has_words_of(stands, put):
             return None
         self._own.update(put.payloads)
-        done = [self._take(*entry) for entry in stands[:len(put.entries)]]
+        done = [self._take(*entry) for entry in stands[: len(put.entries)]]
         for it in done:
             self._note("did", self.name, it.place, it.word, it.reply)
         return done
@@ -326,7 +361,7 @@ class RowView:
 
     def _add(self, number: int, word: int, place: int) -> None:
         low = word & 0xFFFFFFFF
-        of = (word >> 36 & 0xFFF, low >> 12 & 0xFFF)[:word >> 32 & 0xF]
+        of = (word >> 36 & 0xFFF, low >> 12 & 0xFFF)[: word >> 32 & 0xF]
         self.kinds.append(IS_PENDING)
         self.told.append(NOT_YET)
         self.places.append(0)
@@ -398,8 +433,7 @@ class RowView:
         if stage < len(self.plan.said):
             return self.plan.said[stage]
         if stage not in self._said:
-            self._said[stage] = self.read(self.attached[stage],
-                                          lambda given: said_in(json.loads(given.decode()), stage))
+            self._said[stage] = self.read(self.attached[stage], lambda given: said_in(json.loads(given.decode()), stage))
         return self._said[stage]
 
     def tried_again(self, stage: int) -> Optional[int]:
@@ -482,10 +516,10 @@ class RowView:
         """The session that put the last word that is seen."""
         return self._sessions[-1] if self._sessions else None
 
-    def history(self, codec: Json, lock: ContextManager[Any] = contextlib.nullcontext(),
-                unread: Optional[Callable[[Broken], Any]] = None) -> History:
+    def history(self, codec: Json, lock: ContextManager[Any] = contextlib.nullcontext(), unread: Optional[Callable[[Broken], Any]] = None) -> History:
         """All that is seen, as it was done. What others may change is read under the lock, and the codec is called
         without it. `unread` gives what is told in place of what can't be read; else `Broken` is raised."""
+
         def told_by(call: Callable[[], Any]) -> Any:
             try:
                 return call()
@@ -493,6 +527,7 @@ class RowView:
                 if unread is None:
                     raise
                 return unread(error)
+
         with lock:
             words, sessions, many = self.words[:], self._sessions[:], len(self.forms)
             times = array("q", [0] * len(words)) if self._times is None else self._times[:]
@@ -516,7 +551,7 @@ class RowView:
 
 def _has_words_of(stands: Sequence[Entry], put: Put) -> bool:
     """Whether what stands are a put's words: another's may have a token of the same number."""
-    return [word for word, _ in stands[:len(put.entries)]] == [word for word, _ in put.entries]
+    return [word for word, _ in stands[: len(put.entries)]] == [word for word, _ in put.entries]
 
 
 def _names(word: int) -> bool:
@@ -579,8 +614,7 @@ class Watcher:
 
     def silences(self) -> Dict[int, float]:
         """For how many seconds the beat of each session has stood still, as far as this one has looked."""
-        return {session: max(self._time - since, 0.0)
-                for session, (count, since) in self._seen.items() if count is not None}
+        return {session: max(self._time - since, 0.0) for session, (count, since) in self._seen.items() if count is not None}
 
     def is_gone(self, session: int) -> bool:
         """Whether no sign of life of a session came for so long."""

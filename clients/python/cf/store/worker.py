@@ -26,11 +26,21 @@ class Worker(DurableService):
         store, max_workers, codec, lease, groups, on_end, contexts: As of `DurableService`.
         functions: The registered functions. A stage whose function isn't among them waits for another worker."""
 
-    def __init__(self, store: Store, functions: Functions, max_workers: Optional[int] = None, *,
-                 codec: Optional[Json] = None, lease: float = 10, groups: bool = False,
-                 on_end: Optional[Hook] = None, contexts: Sequence[Carrier] = ()) -> None:
-        super().__init__(store, max_workers, functions=functions, codec=codec, lease=lease, takes_all=True,
-                         groups=groups, on_end=on_end, contexts=contexts)
+    def __init__(
+        self,
+        store: Store,
+        functions: Functions,
+        max_workers: Optional[int] = None,
+        *,
+        codec: Optional[Json] = None,
+        lease: float = 10,
+        groups: bool = False,
+        on_end: Optional[Hook] = None,
+        contexts: Sequence[Carrier] = (),
+    ) -> None:
+        super().__init__(
+            store, max_workers, functions=functions, codec=codec, lease=lease, takes_all=True, groups=groups, on_end=on_end, contexts=contexts
+        )
 
     def run(self, ends: Optional[threading.Event] = None, grace: Optional[float] = None) -> bool:
         """Works until the process gets SIGTERM or SIGINT, and finishes what runs by then. It is for the main thread.

@@ -30,5 +30,4 @@ from .report import Failure, Pair, Report, Told
 from .runner import NotDeterministic
 from .world import World
 
-__all__ = ["Arrival", "Failure", "NotDeterministic", "Pair", "Report", "Told", "World", "every_order", "orders", "pure",
-           "touches"]
+__all__ = ["Arrival", "Failure", "NotDeterministic", "Pair", "Report", "Told", "World", "every_order", "orders", "pure", "touches"]

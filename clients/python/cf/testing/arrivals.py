@@ -9,8 +9,12 @@ if TYPE_CHECKING:
 T = TypeVar("T")
 
 if TYPE_CHECKING:
-    class _Future(concurrent.futures.Future[T]): ...
+
+    class _Future(concurrent.futures.Future[T]):
+        ...
+
 else:
+
     class _Future(concurrent.futures.Future, Generic[T]):
         """Python 3.8 has futures without a parameter."""
 

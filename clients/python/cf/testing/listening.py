@@ -10,9 +10,9 @@ from ..service.stage import Stage
 from ..service.watch import Callback, Task, WatchedStage, is_settled
 from ..service.words import name_of
 from .arrivals import Arrival
-from .carriers import CARRIERS, Carrier, CarrierThread
+from .carriers import CarrierThread
 from .footprints import CHANGES, READS, Place, Thing
-from .state import Failed, Flight, NeedsThreads, State, Tail, Timer, Wait
+from .state import Flight, NeedsThreads, State, Tail, Timer, Wait
 
 
 class Listening(State):
@@ -122,8 +122,11 @@ class Listening(State):
         if isinstance(future, WatchedStage) and future.request is relay.request:  # (which needs no callback)
             self._behind.add(self._place(relay), [self._place(future)])
             return
-        thing: Thing = ("outside", future.number) if isinstance(future, Arrival) else (
-            self._place(future) if isinstance(future, WatchedStage) else ("elsewhere",))
+        thing: Thing = (
+            ("outside", future.number)
+            if isinstance(future, Arrival)
+            else (self._place(future) if isinstance(future, WatchedStage) else ("elsewhere",))
+        )
         self._relays.setdefault(thing, []).append(self._place(relay))
 
     def looked(self, request: Request) -> None:
@@ -137,11 +140,9 @@ class Listening(State):
 
     def limit(self, stage: "Stage[Any]", seconds: float, act: Callable[[], object]) -> None:
         """As `Watch.limit`."""
-        self._add_timer(self._place(stage), seconds, act, lambda: is_settled(stage),
-                        f"the limit of {stage.name} passes")
+        self._add_timer(self._place(stage), seconds, act, lambda: is_settled(stage), f"the limit of {stage.name} passes")
 
-    def _add_timer(self, place: Place, seconds: float, act: Callable[[], object], is_lost: Callable[[], bool],
-                   text: str) -> None:
+    def _add_timer(self, place: Place, seconds: float, act: Callable[[], object], is_lost: Callable[[], bool], text: str) -> None:
         request = place[0]
         self.touch(("clock", request), CHANGES)
         number = self._timers_made[request] = self._timers_made.get(request, 0) + 1
@@ -150,8 +151,7 @@ class Listening(State):
     def _happened(self) -> None:
         """An event was told whole: what it led to is touched, and its callbacks wait."""
         if threading.get_ident() != self._home and not isinstance(threading.current_thread(), CarrierThread):
-            self.why = self.why or (f"the thread {threading.current_thread().name} changed a request: threads of your "
-                                    "own are outside the world")
+            self.why = self.why or (f"the thread {threading.current_thread().name} changed a request: threads of your own are outside the world")
         news, self._news = self._news, []
         for place in news:
             self.touch(place, CHANGES)
@@ -191,8 +191,15 @@ class Listening(State):
         name = " or ".join(stage.name for stage in stages) or "the functions that go on"
         self.wait_for(name, [self._place(stage) for stage in stages], is_over, timeout)
 
-    def wait_for(self, name: str, things: Sequence[Thing], is_over: Callable[[], bool], timeout: Optional[float],
-                 ways: Sequence[Any] = (), possible: Optional[Callable[[], Sequence[int]]] = None) -> Any:
+    def wait_for(
+        self,
+        name: str,
+        things: Sequence[Thing],
+        is_over: Callable[[], bool],
+        timeout: Optional[float],
+        ways: Sequence[Any] = (),
+        possible: Optional[Callable[[], Sequence[int]]] = None,
+    ) -> Any:
         """Lets others go on until something is so, or one of several ways is chosen, which is given then."""
         if self._is_over:
             self.fail(f"{name} is never settled")
@@ -218,5 +225,6 @@ class Listening(State):
             flight.is_late = True
 
         place: Place = next(((thing[0], thing[1]) for thing in wait.things if isinstance(thing[0], int)), (-1, 0))
-        self._add_timer(place, seconds, act, lambda: flight.wait is not wait or wait.is_over(),
-                        f"{flight.name} has waited {seconds} s for {wait.name}")
+        self._add_timer(
+            place, seconds, act, lambda: flight.wait is not wait or wait.is_over(), f"{flight.name} has waited {seconds} s for {wait.name}"
+        )

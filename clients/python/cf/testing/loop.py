@@ -5,7 +5,7 @@ import contextvars
 import heapq
 import itertools
 from collections import deque
-from typing import TYPE_CHECKING, Any, Callable, Coroutine, Deque, Dict, List, Optional, Tuple
+from typing import TYPE_CHECKING, Any, Callable, Deque, Dict, List, Optional, Tuple
 
 from .footprints import CHANGES, Move
 
@@ -26,8 +26,7 @@ class WorldLoop(asyncio.AbstractEventLoop):
     def time(self) -> float:
         return self._now
 
-    def call_soon(self, callback: Callable[..., object], *args: Any,
-                  context: Optional[contextvars.Context] = None) -> asyncio.Handle:
+    def call_soon(self, callback: Callable[..., object], *args: Any, context: Optional[contextvars.Context] = None) -> asyncio.Handle:
         handle = asyncio.Handle(callback, args, self, context)
         self._run.touch(("loop",), CHANGES)
         self._ready.append(handle)
@@ -35,12 +34,12 @@ class WorldLoop(asyncio.AbstractEventLoop):
 
     call_soon_threadsafe = call_soon
 
-    def call_later(self, delay: float, callback: Callable[..., object], *args: Any,
-                   context: Optional[contextvars.Context] = None) -> asyncio.TimerHandle:
+    def call_later(
+        self, delay: float, callback: Callable[..., object], *args: Any, context: Optional[contextvars.Context] = None
+    ) -> asyncio.TimerHandle:
         return self.call_at(self._now + delay, callback, *args, context=context)
 
-    def call_at(self, when: float, callback: Callable[..., object], *args: Any,
-                context: Optional[contextvars.Context] = None) -> asyncio.TimerHandle:
+    def call_at(self, when: float, callback: Callable[..., object], *args: Any, context: Optional[contextvars.Context] = None) -> asyncio.TimerHandle:
         handle = asyncio.TimerHandle(when, callback, args, self, context)
         self._run.touch(("loop",), CHANGES)
         heapq.heappush(self._later, (when, next(self._numbers), handle))
@@ -52,8 +51,7 @@ class WorldLoop(asyncio.AbstractEventLoop):
     def create_future(self) -> "asyncio.Future[Any]":
         return asyncio.Future(loop=self)
 
-    def create_task(self, coro: Any, *, name: Optional[str] = None,
-                    context: Optional[contextvars.Context] = None) -> "asyncio.Task[Any]":
+    def create_task(self, coro: Any, *, name: Optional[str] = None, context: Optional[contextvars.Context] = None) -> "asyncio.Task[Any]":
         given: Dict[str, Any] = {} if context is None else {"context": context}
         return asyncio.Task(coro, loop=self, name=name or f"task {next(self._numbers)}", **given)
 

@@ -19,6 +19,7 @@ def touches(*names: str) -> Callable[[F], F]:
 
     Functions without a mark are taken to share everything among one another, and nothing with what has a mark. So all
     functions that share a thing have to name it, or none may have a mark."""
+
     def marks(fn: F) -> F:
         made: F = _marked(fn, names)
         return made

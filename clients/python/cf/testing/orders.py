@@ -19,10 +19,22 @@ MOST_TOLD = 20  # failures that are made smaller
 Test = Callable[[World], Any]
 
 
-def orders(test: Test, *, most: int = 100_000, seconds: float = 10.0, row: Optional[str] = None, chance: int = 0,
-           seed: int = 0, failures: int = 1, workers: int = 0, fine: bool = False, reduce: bool = True,
-           smaller: bool = True, free_clock: bool = False,
-           ends: Optional[Callable[[World], Hashable]] = None) -> Report:
+def orders(
+    test: Test,
+    *,
+    most: int = 100_000,
+    seconds: float = 10.0,
+    row: Optional[str] = None,
+    chance: int = 0,
+    seed: int = 0,
+    failures: int = 1,
+    workers: int = 0,
+    fine: bool = False,
+    reduce: bool = True,
+    smaller: bool = True,
+    free_clock: bool = False,
+    ends: Optional[Callable[[World], Hashable]] = None,
+) -> Report:
     """Runs a test in every order, until one fails.
 
         def checkout(world):
@@ -58,8 +70,7 @@ def orders(test: Test, *, most: int = 100_000, seconds: float = 10.0, row: Optio
     settings = Settings(workers, free_clock, fine, reduce, fine)
     began = time.perf_counter()
     try:
-        report = _searched(Runner(test, settings), most, began + seconds, row, chance, seed, failures, reduce, smaller,
-                           ends)
+        report = _searched(Runner(test, settings), most, began + seconds, row, chance, seed, failures, reduce, smaller, ends)
     except NeedsThreads:
         runner = Runner(test, settings._replace(has_threads=True))
         report = _searched(runner, most, began + seconds, row, chance, seed, failures, reduce, smaller, ends)
@@ -67,8 +78,18 @@ def orders(test: Test, *, most: int = 100_000, seconds: float = 10.0, row: Optio
     return report
 
 
-def _searched(runner: Runner, most: int, until: float, row: Optional[str], chance: int, seed: int, failures: int,
-              reduce: bool, smaller: bool, ends: Optional[Callable[[World], Hashable]]) -> Report:
+def _searched(
+    runner: Runner,
+    most: int,
+    until: float,
+    row: Optional[str],
+    chance: int,
+    seed: int,
+    failures: int,
+    reduce: bool,
+    smaller: bool,
+    ends: Optional[Callable[[World], Hashable]],
+) -> Report:
     report = Report()
     if row is not None:
         ran = runner.again(moves_of(row))

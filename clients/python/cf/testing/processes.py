@@ -18,7 +18,7 @@ from .answers import OF_CALLS
 from .footprints import CHANGES, CHECKED, READS, USER, Thing
 from .marks import names_of
 from .rows import ProcessStore
-from .state import LEAVES, Flight
+from .state import LEAVES
 
 if TYPE_CHECKING:
     from .sharing import WorldStore
@@ -41,8 +41,9 @@ class Process(DurableService):
     What a test itself asks of it, is a part of the first move, and always answered. What `calls` are given, and what
     its own threads do, is a move for each call of the store."""
 
-    def __init__(self, world: "WorldStore", number: int, name: str, functions: Optional[Functions], workers: int,
-                 takes_all: bool, lease: float, ahead: float) -> None:
+    def __init__(
+        self, world: "WorldStore", number: int, name: str, functions: Optional[Functions], workers: int, takes_all: bool, lease: float, ahead: float
+    ) -> None:
         self.name: str = name
         self.number: int = number
         self.thing: Thing = ("process", number)
@@ -55,8 +56,7 @@ class Process(DurableService):
         self.due_now: List[Timer] = []  # what it is told of limits that have passed
         self.stuck: Set[str] = set()  # the requests in which it couldn't do something
         self.takes_all: bool = takes_all
-        super().__init__(ProcessStore(world, self), workers, functions=functions, lease=lease, takes_all=takes_all,
-                         note=self._noted, host=self.host)
+        super().__init__(ProcessStore(world, self), workers, functions=functions, lease=lease, takes_all=takes_all, note=self._noted, host=self.host)
         self._world = world
         self.lease: float = lease
 

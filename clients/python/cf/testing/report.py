@@ -13,8 +13,7 @@ def row_of(moves: Sequence[Move]) -> str:
 
 def moves_of(row: str) -> List[Move]:
     """The moves of such a text."""
-    return [tuple(int(part) if part.lstrip("-").isdigit() else part for part in move.split("."))
-            for move in row.split()]
+    return [tuple(int(part) if part.lstrip("-").isdigit() else part for part in move.split(".")) for move in row.split()]
 
 
 class Told(NamedTuple):
@@ -70,8 +69,7 @@ class Failure:
         lines = [f"{self.why}: not so in this order of {len(self.moves)} moves"]
         lines += [f"{number:5}. {'; '.join([text, *settled])}" for number, (text, settled) in enumerate(self.told, 1)]
         for first, second in self.pairs:
-            lines.append(f"It is so if {second + 1} ({self.told[second].text}) comes before {first + 1} "
-                         f"({self.told[first].text}).")
+            lines.append(f"It is so if {second + 1} ({self.told[second].text}) comes before {first + 1} ({self.told[first].text}).")
         return "\n".join(lines + [f'This order alone: row="{self.row}"'])
 
 

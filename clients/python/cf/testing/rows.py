@@ -4,8 +4,7 @@ import contextlib
 from typing import TYPE_CHECKING, Any, Callable, ContextManager, Dict, List, Optional, Sequence, Tuple, TypeVar
 
 from ..service.history import describe_all
-from ..service.words import (ATTACH, CANCEL, CANCELLED, CLAIM, COMPLETE, FAIL, FAIL_AS, FINISH, LINKS, THROWN, THROWS,
-                             TIMED_OUT, VALUE)
+from ..service.words import ATTACH, CANCEL, CANCELLED, CLAIM, COMPLETE, FAIL, FAIL_AS, FINISH, LINKS, THROWN, THROWS, TIMED_OUT, VALUE
 from ..store.codec import Json
 from ..store.rows import Entry, Glance, Listed, Memory, Opened, Put, Store, Timer, Transaction
 from ..store.view import RowView
@@ -18,8 +17,7 @@ if TYPE_CHECKING:
 
 T = TypeVar("T")
 ROWS: Thing = ("rows",)  # which requests there are
-DONE = {CLAIM: "is claimed", COMPLETE: "is completed", FAIL: "is failed", CANCEL: "is cancelled",
-        FAIL_AS: "is failed"}
+DONE = {CLAIM: "is claimed", COMPLETE: "is completed", FAIL: "is failed", CANCEL: "is cancelled", FAIL_AS: "is failed"}
 FINISHED = {THROWS: "has raised", LINKS: "is linked"}
 
 
@@ -166,8 +164,9 @@ class ProcessStore(Store):
         return self._world.ask(self._process, OF_WRITES, f"closes {name}", lambda: self.rows.end(name, at, number))
 
     def reopen(self, name: str, number: int = 0) -> None:
-        self._world.ask(self._process, OF_WRITES, f"opens {name} again",
-                        lambda: self.rows.change(name, lambda: self.rows.memory.reopen(name, number)))
+        self._world.ask(
+            self._process, OF_WRITES, f"opens {name} again", lambda: self.rows.change(name, lambda: self.rows.memory.reopen(name, number))
+        )
 
     def drop(self, name: str, at: Optional[int] = None) -> bool:
         return self._world.ask(self._process, OF_WRITES, f"drops {name}", lambda: self.rows.drop(name, at))
@@ -185,15 +184,20 @@ class ProcessStore(Store):
         return self._process.host.monotonic()
 
     def set_timer(self, timer: Timer) -> None:
-        self._world.ask(self._process, OF_WRITES, f"sets the limit of {self.rows.name_of(timer.request, timer.stage)}",
-                        lambda: self.rows.set_timer(timer))
+        self._world.ask(
+            self._process, OF_WRITES, f"sets the limit of {self.rows.name_of(timer.request, timer.stage)}", lambda: self.rows.set_timer(timer)
+        )
 
     def due(self, now: float) -> List[Timer]:
         return list(self._process.due_now)
 
     def drop_timer(self, request: str, stage: int, number: int = 0) -> None:
-        self._world.ask(self._process, OF_WRITES, f"forgets the limit of {self.rows.name_of(request, stage)}",
-                        lambda: self.rows.drop_timer(request, stage, number))
+        self._world.ask(
+            self._process,
+            OF_WRITES,
+            f"forgets the limit of {self.rows.name_of(request, stage)}",
+            lambda: self.rows.drop_timer(request, stage, number),
+        )
 
     def keep_glances(self, glances: Sequence[Glance]) -> None:
         """Nobody looks at lists."""

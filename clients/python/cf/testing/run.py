@@ -27,14 +27,25 @@ from ..service.stage import Stage
 from ..service.watch import is_settled
 from ..service.words import FIRST_WORKER, name_of
 from .carriers import CARRIERS, Carrier
-from .footprints import CHANGES, CHECKED, READS, USER, WORKERS, Footprint, Move, Thing, touch
+from .footprints import CHANGES, CHECKED, READS, USER, WORKERS, Footprint, Move, Thing
 from .listening import Listening
 from .marks import names_of
 from .state import LEAVES, Failed, Flight, Settings, Timer
 
 MAIN: Thing = ("main", 0)
-OF_STAGE = ("complete", "fail", "cancel", "abandon", "set_result", "set_exception", "or_timeout", "complete_on_timeout",
-            "done", "cancelled", "running")
+OF_STAGE = (
+    "complete",
+    "fail",
+    "cancel",
+    "abandon",
+    "set_result",
+    "set_exception",
+    "or_timeout",
+    "complete_on_timeout",
+    "done",
+    "cancelled",
+    "running",
+)
 OF_STORES = ("job", "ask", "look", "due", "gone", "kill", "land", "spare")  # moves, which sharing.py has
 FREE_NUMBERS = 60  # of workers, that histories tell apart
 
@@ -62,10 +73,12 @@ class Run(Listening):
             del self.ready_tasks[place]
         if self.workers_free():
             keys += [("begin", *place) for place in self.ready_tasks if self.turns[place[0]]]
-        keys += [("come", arrival.number, k) for arrival in self.outside if arrival.is_open
-                 for k in range(len(arrival.ways))]
-        keys += [("by", number, self.called[number]) for number, (_, calls) in enumerate(self.callers)
-                 if self.called[number] < len(calls) and ("caller", number) not in self.flights]
+        keys += [("come", arrival.number, k) for arrival in self.outside if arrival.is_open for k in range(len(arrival.ways))]
+        keys += [
+            ("by", number, self.called[number])
+            for number, (_, calls) in enumerate(self.callers)
+            if self.called[number] < len(calls) and ("caller", number) not in self.flights
+        ]
         keys += self._limits()
         if self.loop is not None:
             keys += self.loop.moves()
@@ -100,9 +113,7 @@ class Run(Listening):
         busy = [tail.clock for tail in self.tails]
         for timer in sorted(self.timers, key=lambda timer: timer[:2]):
             first.setdefault(timer.place[0], timer)
-        return [("limit", *timer.place, timer.number) for request, timer in sorted(first.items())
-                if request not in busy]
-
+        return [("limit", *timer.place, timer.number) for request, timer in sorted(first.items()) if request not in busy]
 
     # Moves.
 
@@ -296,8 +307,7 @@ class Run(Listening):
     def finish(self) -> None:
         """Nothing may come any more: looks whether all that must hold at the end does."""
         self._is_over = True
-        waiting = [f"{flight.name} waits for {flight.wait.name}" for flight in self.flights.values()
-                   if flight.wait is not None]
+        waiting = [f"{flight.name} waits for {flight.wait.name}" for flight in self.flights.values() if flight.wait is not None]
         if waiting:
             self.fail("deadlock: " + ", ".join(waiting))
         for future in self.returned if isinstance(self.returned, (list, tuple)) else [self.returned]:
@@ -349,8 +359,7 @@ class Run(Listening):
             name = self.outside[key[1]].name
             if way.is_never:
                 return f"{name} never comes"
-            return f"{name} comes: {describe_all(way.value)}" if way.error is None else \
-                f"{name} fails: {describe_all(way.error)}"
+            return f"{name} comes: {describe_all(way.value)}" if way.error is None else f"{name} fails: {describe_all(way.error)}"
         if word == "by":
             name, calls = self.callers[key[1]]
             return name if len(calls) == 1 else f"{name}, call {key[2] + 1}"
@@ -370,8 +379,11 @@ class Run(Listening):
             call = next(call for tail in self.tails for move, call in tail.calls if move == key)
             return f"{name} calls back {'its relays' if call.is_relay else name_of(call.fn)}"
         task = self.flights[key[1:]].task if word == "end" else None
-        return {"begin": f"{name} is claimed", "call": f"{name} is called",
-                "end": f"{name} returns" if task is None or task.error is None else f"{name} raises"}[word]
+        return {
+            "begin": f"{name} is claimed",
+            "call": f"{name} is called",
+            "end": f"{name} returns" if task is None or task.error is None else f"{name} raises",
+        }[word]
 
 
 def _end_of(stage: "Stage[Any]") -> str:

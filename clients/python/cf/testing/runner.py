@@ -104,8 +104,10 @@ class Runner:
         row = ran.row
         again = self.go(lambda place, keys: row[place] if place < len(row) and row[place] in keys else None)
         if (again.row, again.how, again.why) != (row, ran.how, ran.why) or _words(again.run) != _words(ran.run):
-            raise NotDeterministic(f"done again, the order\n    {row_of(row)}\nwas\n    {row_of(again.row)}\nand came "
-                                   f"to {again.why or again.how}, before to {ran.why or ran.how}")
+            raise NotDeterministic(
+                f"done again, the order\n    {row_of(row)}\nwas\n    {row_of(again.row)}\nand came "
+                f"to {again.why or again.how}, before to {ran.why or ran.how}"
+            )
 
 
 def failure_of(ran: Ran) -> Failure:

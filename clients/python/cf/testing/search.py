@@ -36,8 +36,7 @@ class _Node:
 class Tree:
     """A search that can be stopped and gone on with."""
 
-    def __init__(self, runner: Runner, report: Report, ends: Optional[Callable[[Any], Hashable]],
-                 reduces: bool) -> None:
+    def __init__(self, runner: Runner, report: Report, ends: Optional[Callable[[Any], Hashable]], reduces: bool) -> None:
         self.runner, self.report, self._ends, self._reduces = runner, report, ends, reduces
         self._races = reduces and not runner.settings.workers
         self._stack: List[_Node] = []
@@ -70,8 +69,7 @@ class Tree:
             report.cut += 1
             return
         if len(ran.row) < len(self._stack):
-            raise NotDeterministic(f"after the moves\n    {row_of(ran.row)}\nit fails now, and didn't before: "
-                                   f"{ran.why}")
+            raise NotDeterministic(f"after the moves\n    {row_of(ran.row)}\nit fails now, and didn't before: {ran.why}")
         report.orders += 1
         self._runs += 1
         if self._runs & (self._runs - 1) == 0:  # the first, second, fourth, eighth ..
@@ -99,8 +97,10 @@ class Tree:
             last.todo.update(key for key in last.keys if key != last.chosen and key not in keys)
         if depth < len(stack):
             if stack[depth].keys != keys:
-                raise NotDeterministic(f"after the moves\n    {row_of([node.chosen for node in stack[:depth]])}\nthere "
-                                       f"were\n    {row_of(stack[depth].keys)}\nbefore, and now\n    {row_of(keys)}")
+                raise NotDeterministic(
+                    f"after the moves\n    {row_of([node.chosen for node in stack[:depth]])}\nthere "
+                    f"were\n    {row_of(stack[depth].keys)}\nbefore, and now\n    {row_of(keys)}"
+                )
             return stack[depth].chosen
         chosen = next((key for key in keys if key not in self._sleep), None)
         if chosen is not None:
@@ -113,16 +113,17 @@ class Tree:
         if self._place < len(self._stack):
             # (Checks may look at more by now.)
             if {**(node.footprint or {}), CHECKED: ""} != {**footprint, CHECKED: ""}:
-                raise NotDeterministic(f"at the end of\n    {row_of([it.chosen for it in self._stack[:self._place]])}\n"
-                                       f"it touched {node.footprint} before, and now {footprint}")
+                raise NotDeterministic(
+                    f"at the end of\n    {row_of([it.chosen for it in self._stack[:self._place]])}\n"
+                    f"it touched {node.footprint} before, and now {footprint}"
+                )
             return
         if self._races:
             self._race(footprint)
         node.footprint = footprint
         if self._reduces:
             known = (*node.sleep.items(), *node.done.items())
-            self._sleep = {other: touched for other, touched in known
-                           if other != key and independent(touched, footprint)}
+            self._sleep = {other: touched for other, touched in known if other != key and independent(touched, footprint)}
 
     def _race(self, footprint: Footprint) -> None:
         """Finds with which moves before the last one races, and has the other orders tried, too."""

@@ -17,7 +17,7 @@ changed; all that one process does stands there as a change of that process, so 
 """
 import contextlib
 import json
-from typing import TYPE_CHECKING, Any, Callable, Dict, List, Optional, Sequence, Tuple, TypeVar
+from typing import TYPE_CHECKING, Any, Callable, List, Optional, Sequence, Tuple, TypeVar
 
 from ..service.history import History
 from ..store.codec import Json
@@ -26,7 +26,7 @@ from ..store.rows import Put, Timer, Unknown
 from ..store.service import PATIENCE
 from ..store.view import RowView
 from .answers import OF_CALLS, OF_READS, Answer, Bounds
-from .carriers import CARRIERS, Carrier, Gone
+from .carriers import CARRIERS, Gone
 from .footprints import CHANGES, READS, USER, Move, Thing
 from .processes import Job, Process, WorldStage
 from .rows import Rows, ended, outcome
@@ -61,8 +61,9 @@ class WorldStore:
 
     # What a test calls.
 
-    def process(self, name: str, functions: Optional[Functions] = None, *, workers: int = 1, takes_all: bool = False,
-                lease: float = 10, ahead: float = 0) -> Process:
+    def process(
+        self, name: str, functions: Optional[Functions] = None, *, workers: int = 1, takes_all: bool = False, lease: float = 10, ahead: float = 0
+    ) -> Process:
         """A process with a service over this store, which works on the requests that it has begun or opened.
 
         Args:
@@ -144,8 +145,7 @@ class WorldStore:
         flight = self.current()
         return flight if flight is not None and flight.process is process else None
 
-    def ask(self, process: Process, answers: Sequence[Answer], text: str, act: Callable[[], T],
-            put: Optional[Put] = None) -> T:
+    def ask(self, process: Process, answers: Sequence[Answer], text: str, act: Callable[[], T], put: Optional[Put] = None) -> T:
         """Asks the store for something, which is a move of its own, and is answered as the search says."""
         flight = self.flight_of(process)
         if process.is_dead:
@@ -221,8 +221,7 @@ class WorldStore:
 
     def _may_land(self, number: int, put: Put) -> bool:
         view = self.rows.view(put.request)
-        return (number not in self._landed and view is not None and view.opened.number == put.number
-                and view.seen == put.at)
+        return number not in self._landed and view is not None and view.opened.number == put.number and view.seen == put.at
 
     def _flights(self, process: Process) -> List[Flight]:
         return [flight for flight in self.run.flights.values() if flight.process is process]
@@ -233,8 +232,7 @@ class WorldStore:
         return busy < max(process.workers, 1) and not process._stops.is_set()
 
     def _next_job(self, process: Process) -> Optional[Job]:
-        return next((job for job in process.queue if job.word == "_fire" or job.word == "_work"
-                     and self._matters(process, job.request)), None)
+        return next((job for job in process.queue if job.word == "_fire" or job.word == "_work" and self._matters(process, job.request)), None)
 
     def _matters(self, process: Process, name: str) -> bool:
         """Whether a process that looks at a request finds something to do in it, or to tell somebody of."""
@@ -246,8 +244,9 @@ class WorldStore:
             return True
         if request is None:
             return False
-        shows = any(isinstance(stage, WorldStage) and not stage.is_shown() and view.is_settled(number)
-                    for number, stage in list(request._stages.items()))
+        shows = any(
+            isinstance(stage, WorldStage) and not stage.is_shown() and view.is_settled(number) for number, stage in list(request._stages.items())
+        )
         closes = is_open and bool(view.plan.rows) and view.is_done()
         return shows or closes or is_open and self._relays(view) or bool(request._view.found)
 
@@ -271,13 +270,11 @@ class WorldStore:
 
     def _is_due(self, process: Process, timer: Timer) -> bool:
         view = self.rows.view(timer.request)
-        return (process.works_on(timer.request) and view is not None and timer[:3] not in process._firing
-                and not view.is_settled(timer.stage))
+        return process.works_on(timer.request) and view is not None and timer[:3] not in process._firing and not view.is_settled(timer.stage)
 
     def _has_claim(self, process: Process, other: Process) -> bool:
         """Whether a process works on a request in which the other one has claimed something."""
-        return any(other.session in view.open_claims().values() and process.works_on(name)
-                   for name, view in self.rows.views.items())
+        return any(other.session in view.open_claims().values() and process.works_on(name) for name, view in self.rows.views.items())
 
     def do(self, key: Move) -> None:
         """Does a move."""

@@ -28,7 +28,7 @@ class Smaller:
         while length:
             place = 0
             while place < len(self._given) and self._left:
-                if self._is_better(self._given[:place] + self._given[place + length:]):
+                if self._is_better(self._given[:place] + self._given[place + length :]):
                     found = True
                 else:
                     place += length
@@ -42,7 +42,7 @@ class Smaller:
             for early in range(late - 1):
                 row = self._given
                 if late < len(row) and self._left and actor_of(row[early]) == actor_of(row[late]):
-                    found |= self._is_better(row[:early + 1] + [row[late]] + row[early + 1:late] + row[late + 1:])
+                    found |= self._is_better(row[: early + 1] + [row[late]] + row[early + 1 : late] + row[late + 1 :])
         return found
 
     def _is_better(self, row: List[Move]) -> bool:
@@ -74,7 +74,7 @@ def pairs_of(runner: Runner, failure: Failure) -> List[Pair]:
             places = [*range(first), *others, second, first, *late, *range(second + 1, len(row))]
             ran = runner.in_order([row[k] for k in places])
             did = ran.row
-            is_second = row[second] in did and row[first] not in did[:did.index(row[second])]
+            is_second = row[second] in did and row[first] not in did[: did.index(row[second])]
             if ran.how == END and is_second:
                 pairs.append(Pair(first, second))
     return pairs

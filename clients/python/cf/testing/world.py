@@ -96,8 +96,7 @@ class World:
         chosen: T = self._run.wait_for("a choice", (), lambda: True, None, values)
         return chosen
 
-    def store(self, *, lost: int = 0, unanswered: int = 0, late: int = 0, silent: int = 0, killed: int = 0,
-              slow: int = 0) -> "WorldStore":
+    def store(self, *, lost: int = 0, unanswered: int = 0, late: int = 0, silent: int = 0, killed: int = 0, slow: int = 0) -> "WorldStore":
         """A store that processes share, as `cf.store` has them. What may go wrong in it is bounded for each order.
 
         Args:
@@ -118,8 +117,7 @@ class World:
 
     def outcomes(self) -> List[str]:
         """What each stage of each request ended in, as texts of `cf run`, for comparing the ends of orders."""
-        told = [line for request in self._run.requests for line in request.history().report().splitlines()
-                if line.startswith("stage ")]
+        told = [line for request in self._run.requests for line in request.history().report().splitlines() if line.startswith("stage ")]
         return told if self._run.store is None else told + self._run.store.outcomes()
 
     def _outside(self, ways: Sequence[Way], name: str) -> "Arrival[Any]":

@@ -72,6 +72,7 @@ def starting(start):
             start(thread, real)
         else:
             real(thread)
+
     with unittest.mock.patch.object(threading.Thread, "start", chosen):
         yield
 
@@ -90,9 +91,14 @@ class Thing:
 def program(text, timeout=100, head=HEAD, **environment):
     """What a program of its own prints, which finds the package. One that doesn't end in time raises."""
     path = "" if os.environ.get("CF_INSTALLED") else f"import sys; sys.path.insert(0, {str(CLIENT)!r})\n"
-    done = subprocess.run([sys.executable, "-X", "faulthandler", "-c", path + head + textwrap.dedent(text)],
-                          stdout=subprocess.PIPE, stderr=subprocess.PIPE, timeout=timeout, universal_newlines=True,
-                          env=dict(os.environ, **environment))
+    done = subprocess.run(
+        [sys.executable, "-X", "faulthandler", "-c", path + head + textwrap.dedent(text)],
+        stdout=subprocess.PIPE,
+        stderr=subprocess.PIPE,
+        timeout=timeout,
+        universal_newlines=True,
+        env=dict(os.environ, **environment),
+    )
     return done.stdout, done.stderr, done.returncode
 
 

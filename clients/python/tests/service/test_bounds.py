@@ -18,15 +18,17 @@ class Bounds(Case):
         for _ in range(4094):
             last = last.then(inc)
         before = len(full.history().words)
-        for attach in (lambda: first.compose(full.supply), lambda: full.all_of(*[first] * 4),
-                       lambda: first.combine(concurrent.futures.Future(), inc),
-                       lambda: full.gather(first, first, first)):
+        for attach in (
+            lambda: first.compose(full.supply),
+            lambda: full.all_of(*[first] * 4),
+            lambda: first.combine(concurrent.futures.Future(), inc),
+            lambda: full.gather(first, first, first),
+        ):
             with self.assertRaises(RequestFull):
                 attach()
         self.assertEqual(len(full.history().words), before)
         full.promise()
-        for attach in (full.promise, lambda: full.supply(str), lambda: first.then(inc),
-                       lambda: full.adopt(concurrent.futures.Future())):
+        for attach in (full.promise, lambda: full.supply(str), lambda: first.then(inc), lambda: full.adopt(concurrent.futures.Future())):
             with self.assertRaises(RequestFull):
                 attach()
         history = full.history()

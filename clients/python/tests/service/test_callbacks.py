@@ -38,6 +38,7 @@ class Callbacks(Case):
 
         def raises(_):
             raise Wild
+
         calling_back.add_done_callback(raises)
         behind = calling_back.then(inc)
         with self.assertRaises(Wild):
@@ -94,8 +95,9 @@ class Callbacks(Case):
     def test_callbacks_may_call_their_request(self):
         calling, called_back = self.request, []
         calling_back = calling.promise()
-        calling_back.add_done_callback(lambda done: called_back.append(
-            (calling.promise().complete(1), len(calling.history().entries()), done.then(inc).result(5))))
+        calling_back.add_done_callback(
+            lambda done: called_back.append((calling.promise().complete(1), len(calling.history().entries()), done.then(inc).result(5)))
+        )
         calling_back.complete(3)
         self.assertEqual(called_back[0][2], 4)
 
@@ -110,6 +112,7 @@ class CallbacksOfCores(CoreCase):
 
             def appends(stage):
                 called_back.append(stage.number)
+
             calling_back = calling.promise()
             ends = [calling_back, calling.all_of(calling_back), calling.all_of(calling_back)]
             for end in ends:
@@ -123,8 +126,7 @@ class CallbacksOfCores(CoreCase):
             except BaseException as one:
                 raised = type(one)
             self.assertIs(raised, None if error is ValueError else error)
-            self.assertEqual((sorted(called_back), relay.result(9), behind.result(9)),
-                             ([end.number for end in ends], None, "1"))
+            self.assertEqual((sorted(called_back), relay.result(9), behind.result(9)), ([end.number for end in ends], None, "1"))
 
     def test_a_callback_within_a_run_loses_no_stage(self):
         flow, called_back = Flow(), []
@@ -133,6 +135,7 @@ class CallbacksOfCores(CoreCase):
 
         def raises(_):
             raise Wild
+
         last, request = calling_back.then(lambda x: x), flow.run()
         request[ends[0]].add_done_callback(raises)
         request[calling_back].complete(1)
@@ -151,6 +154,7 @@ class CallbacksOfCores(CoreCase):
             behind.add_done_callback(lambda _: called_back.append(stage.number))
             stage.add_done_callback(lambda _: behind.complete(len(calling._facts()[2])))
             calling.history()
+
         for end in ends:
             end.add_done_callback(more)
         calling_back.complete(1)

@@ -35,12 +35,14 @@ class Contexts(unittest.TestCase):
             request = service.request("r")
             promise = request.promise()
             names = [within(name, promise.then, leaks) for name in ("acme", "umbrella")]
-            names += [within("submitter", service.submit, leaks), within("supplier", request.supply, leaks),
-                      within("second", names[0].combine, names[1], lambda *_: leaks()),
-                      within("third", names[0].then(fails).recover, leaks)]
+            names += [
+                within("submitter", service.submit, leaks),
+                within("supplier", request.supply, leaks),
+                within("second", names[0].combine, names[1], lambda *_: leaks()),
+                within("third", names[0].then(fails).recover, leaks),
+            ]
             within("loader", promise.complete, 1)
-            self.assertEqual([stage.result(20) for stage in names],
-                             ["acme", "umbrella", "submitter", "supplier", "second", "third"])
+            self.assertEqual([stage.result(20) for stage in names], ["acme", "umbrella", "submitter", "supplier", "second", "third"])
             self.assertEqual(request.supply(leaks).result(20), "-")
             self.assertEqual(tenant.get(), "-")
 
@@ -61,8 +63,9 @@ class Contexts(unittest.TestCase):
             done = service.submit(inc, 1)
             request = within("starter", service.start, flow)
             within("completer", request[promise].complete, 1)
-            self.assertEqual([request[step].result(20) for step in (first, second, third, composed, alone)],
-                             ["starter", "starter", "starter", 2, "starter"])
+            self.assertEqual(
+                [request[step].result(20) for step in (first, second, third, composed, alone)], ["starter", "starter", "starter", 2, "starter"]
+            )
             further = within("later", request[second].then, leaks)
             self.assertEqual(further.result(20), "later")
             self.assertEqual(str(request.history()).count("claims"), 7)
@@ -70,8 +73,9 @@ class Contexts(unittest.TestCase):
     def test_names_are_the_functions(self):
         with Service(1, contexts=True) as service:
             request = service.request("r")
-            self.assertEqual([request.supply(inc, 1).name, request.supply(Thing()).name,
-                              request.gather(request.promise()).name], ["inc", "Thing", "gather"])
+            self.assertEqual(
+                [request.supply(inc, 1).name, request.supply(Thing()).name, request.gather(request.promise()).name], ["inc", "Thing", "gather"]
+            )
 
     def test_tracebacks_begin_with_the_function(self):
         flow = Flow()

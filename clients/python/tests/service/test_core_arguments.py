@@ -30,16 +30,28 @@ class CoreArguments(CoreCase):
                 call()
 
     def test_a_request_that_isnt_opened(self):
-        for made in (_core.RequestCore.__new__(_core.RequestCore), Request.__new__(Request),
-                     type("Own", (Request,), {"__init__": lambda self: None})()):
+        for made in (
+            _core.RequestCore.__new__(_core.RequestCore),
+            Request.__new__(Request),
+            type("Own", (Request,), {"__init__": lambda self: None})(),
+        ):
             core_stage = self.request.promise()
-            self.refused(lambda: made._attach(0, None, None, None, None, None, "x"),
-                         lambda: made._change(COMPLETE, 0, 0, 1), lambda: made._run(3),
-                         lambda: made._work(3), lambda: made._begin(3, core_stage),
-                         lambda: made._end(core_stage, 3, 1, 1), lambda: made._stage(0),
-                         lambda: made._gather(16, [], "x"), lambda: made._gather(16, [core_stage], "x"),
-                         lambda: made._name_of(0), lambda: made._rename(0, "x"), lambda: made._code(OSError()),
-                         lambda: made._keep(1), lambda: made._attach(3, core_stage, None, str, None, None, "x"))
+            self.refused(
+                lambda: made._attach(0, None, None, None, None, None, "x"),
+                lambda: made._change(COMPLETE, 0, 0, 1),
+                lambda: made._run(3),
+                lambda: made._work(3),
+                lambda: made._begin(3, core_stage),
+                lambda: made._end(core_stage, 3, 1, 1),
+                lambda: made._stage(0),
+                lambda: made._gather(16, [], "x"),
+                lambda: made._gather(16, [core_stage], "x"),
+                lambda: made._name_of(0),
+                lambda: made._rename(0, "x"),
+                lambda: made._code(OSError()),
+                lambda: made._keep(1),
+                lambda: made._attach(3, core_stage, None, str, None, None, "x"),
+            )
             self.assertIsNone(made._open())
             self.assertEqual((made._at, made._times), (0, b""))
             self.refused(lambda: made._takes(0, -1, -1), made._facts, made._ready_ones, kinds=(IndexError, Refused))
@@ -47,10 +59,16 @@ class CoreArguments(CoreCase):
     def test_an_opening_that_fails(self):
         opened = Request.__new__(Request)
         plan = _core.PlanCore.__new__(_core.PlanCore)
-        self.refused(lambda: opened.__init__(None, "", 1, None, plan), lambda: opened.__init__(None, "", 1, None, 7),
-                     lambda: opened.__init__(None, "", None), lambda: opened.__init__(),
-                     lambda: opened._attach(0, None, None, None, None, None, "x"), lambda: opened._work(3),
-                     lambda: opened._open() or opened._stage(0), kinds=self.ODD)
+        self.refused(
+            lambda: opened.__init__(None, "", 1, None, plan),
+            lambda: opened.__init__(None, "", 1, None, 7),
+            lambda: opened.__init__(None, "", None),
+            lambda: opened.__init__(),
+            lambda: opened._attach(0, None, None, None, None, None, "x"),
+            lambda: opened._work(3),
+            lambda: opened._open() or opened._stage(0),
+            kinds=self.ODD,
+        )
         opened.__init__(None, "", 1)
         self.assertTrue(opened.promise().complete(1))
 
@@ -71,19 +89,34 @@ class CoreArguments(CoreCase):
 
         def core(*kept):
             return Request(None, "", 1, None, types.SimpleNamespace(kept=kept))
+
         from cf import _cf
+
         right = pool([0, 1, 0, 3, 0])  # where sources end, forms, and sources
         self.assertEqual(core(right, (None, str), ["x", "y"])._stage(1).name, "y")
-        self.refused(*[lambda numbers=numbers: pool(numbers) for numbers in (
-                         [0, 1, 0, 3, 1], [0, 1, 0, 3, 2], [0, 1, 0, 19, 0], [0, 2, 0, 3, 0], [1, 0, 0, 3, 0],
-                         [0, 1, 0, 3], [0, 1, 0], [])],
-                     lambda: pool([0, 1, 0, 3, 0], 4097), lambda: pool([0, 1, 0, 3, 0], 1), lambda: pool([], -1, 0),
-                     lambda: _cf.pool(plan, 0, 9, 0, b""), lambda: _cf.pool(plan, plan.at, 9, 0, 7), lambda: _cf.pool(),
-                     lambda: core(), lambda: core(right, (), ["x", "y"]), lambda: core(7, (None, str), ["x", "y"]),
-                     lambda: core(right, [None, str], ["x", "y"]), lambda: core(right, (None, str), ["x"]),
-                     lambda: core(right, (None, str), 7), lambda: core(right, (None, str), ["x", "y"], 1), kinds=self.ODD)
-        self.refused(lambda: _core.PlanCore([7]), lambda: _core.PlanCore([()]), lambda: _core.PlanCore(7),
-                     lambda: _core.PlanCore([(99, (), None, "x")]))
+        self.refused(
+            *[
+                lambda numbers=numbers: pool(numbers)
+                for numbers in ([0, 1, 0, 3, 1], [0, 1, 0, 3, 2], [0, 1, 0, 19, 0], [0, 2, 0, 3, 0], [1, 0, 0, 3, 0], [0, 1, 0, 3], [0, 1, 0], [])
+            ],
+            lambda: pool([0, 1, 0, 3, 0], 4097),
+            lambda: pool([0, 1, 0, 3, 0], 1),
+            lambda: pool([], -1, 0),
+            lambda: _cf.pool(plan, 0, 9, 0, b""),
+            lambda: _cf.pool(plan, plan.at, 9, 0, 7),
+            lambda: _cf.pool(),
+            lambda: core(),
+            lambda: core(right, (), ["x", "y"]),
+            lambda: core(7, (None, str), ["x", "y"]),
+            lambda: core(right, [None, str], ["x", "y"]),
+            lambda: core(right, (None, str), ["x"]),
+            lambda: core(right, (None, str), 7),
+            lambda: core(right, (None, str), ["x", "y"], 1),
+            kinds=self.ODD,
+        )
+        self.refused(
+            lambda: _core.PlanCore([7]), lambda: _core.PlanCore([()]), lambda: _core.PlanCore(7), lambda: _core.PlanCore([(99, (), None, "x")])
+        )
         for rows in ([(0, (), None, "x")] * 4097, [(16, (0,) * 16385, None, "x")]):
             with self.assertRaises(RequestFull):
                 _core.PlanCore(rows)
@@ -94,41 +127,57 @@ class CoreArguments(CoreCase):
         core = self.request
         core_stage = core.promise()
         for bad in (-2, -1, 7, 64, 255, 256, 1 << 16, 1 << 32, 7 << 8, -(1 << 40), 1 << 70):
-            self.refused(lambda: core._change(bad, 0, core_stage, None) if bad != 7 else core._change(7, 0, 0, None),
-                         lambda: core._run(bad) if bad != 7 else 1 / 0,
-                         lambda: core._end(core_stage, bad, 1, None) if bad != 7 else 1 / 0,
-                         lambda: core._end(core_stage, 3, bad, None), lambda: core._stage(bad),
-                         lambda: _core.be(bad) if bad != 7 else 1 / 0,
-                         lambda: core._change(COMPLETE, bad if bad not in (-1, 7) else 99, core_stage, 1),
-                         lambda: core._attach(bad if bad != 7 else 19, core_stage, None, str, None, None, "x"),
-                         lambda: core._begin(bad) if bad != 7 else 1 / 0,
-                         kinds=(TypeError, ValueError, IndexError, RuntimeError, OverflowError, ZeroDivisionError))
+            self.refused(
+                lambda: core._change(bad, 0, core_stage, None) if bad != 7 else core._change(7, 0, 0, None),
+                lambda: core._run(bad) if bad != 7 else 1 / 0,
+                lambda: core._end(core_stage, bad, 1, None) if bad != 7 else 1 / 0,
+                lambda: core._end(core_stage, 3, bad, None),
+                lambda: core._stage(bad),
+                lambda: _core.be(bad) if bad != 7 else 1 / 0,
+                lambda: core._change(COMPLETE, bad if bad not in (-1, 7) else 99, core_stage, 1),
+                lambda: core._attach(bad if bad != 7 else 19, core_stage, None, str, None, None, "x"),
+                lambda: core._begin(bad) if bad != 7 else 1 / 0,
+                kinds=(TypeError, ValueError, IndexError, RuntimeError, OverflowError, ZeroDivisionError),
+            )
         for kind in (4, 5, 6, 10):
             self.refused(lambda: core._change(kind, 0, core_stage, None))
         self.fits(core)
-        self.assertEqual((len(core._facts()[2]), core_stage.complete(1), core_stage.then(str).result(9)),
-                         (1, True, "1"))
+        self.assertEqual((len(core._facts()[2]), core_stage.complete(1), core_stage.then(str).result(9)), (1, True, "1"))
 
     def test_arguments_of_other_types(self):
         core, other = self.request, self.service.request().promise()
         core_stage = core.promise()
-        self.refused(lambda: core._attach(1, None, None, str, 5, None, "x"),
-                     lambda: core._attach(1, None, None, str, None, 5, "x"),
-                     lambda: core._attach(1, None, None, str, [], {}, "x"),
-                     lambda: core._attach(1, None, None, str, None, None, None),
-                     lambda: core._attach_all(16, b"", None),
-                     lambda: core._attach("3", core_stage, None, str, None, None, "x"), lambda: core._attach(),
-                     lambda: core._attach(3, other, None, str, None, None, "x"),
-                     lambda: core._attach(3, 7, None, str, None, None, "x"), lambda: core._begin(3, other),
-                     lambda: core._attach(12, None, None, str, None, None, "x"),
-                     lambda: core._attach(12, core_stage, core_stage, str, None, None, "x"),
-                     lambda: core._begin(None), lambda: core._end(core_stage, 3, 3, other),
-                     lambda: core._change(COMPLETE, 0, "x", 1), lambda: core._gather(16, [other], "x"),
-                     lambda: core._attach_all(16, [0], "x"), lambda: core._attach_all(16, b"\1\0", "x"),
-                     lambda: core._attach_all(16, bytes(2 * 4097), "x"), lambda: core._attach_all(3, bytes(4), "x"),
-                     lambda: core._work(None), lambda: core._takes(1, 0, -1), lambda: core._takes(0, 1, -1),
-                     lambda: core._takes(0, 0, 0), lambda: core._takes(0, 0), lambda: core._takes(0, None, -1),
-                     lambda: Request(), lambda: Request(1, 2, 3, 4, 5, 6), kinds=self.ODD)
+        self.refused(
+            lambda: core._attach(1, None, None, str, 5, None, "x"),
+            lambda: core._attach(1, None, None, str, None, 5, "x"),
+            lambda: core._attach(1, None, None, str, [], {}, "x"),
+            lambda: core._attach(1, None, None, str, None, None, None),
+            lambda: core._attach_all(16, b"", None),
+            lambda: core._attach("3", core_stage, None, str, None, None, "x"),
+            lambda: core._attach(),
+            lambda: core._attach(3, other, None, str, None, None, "x"),
+            lambda: core._attach(3, 7, None, str, None, None, "x"),
+            lambda: core._begin(3, other),
+            lambda: core._attach(12, None, None, str, None, None, "x"),
+            lambda: core._attach(12, core_stage, core_stage, str, None, None, "x"),
+            lambda: core._begin(None),
+            lambda: core._end(core_stage, 3, 3, other),
+            lambda: core._change(COMPLETE, 0, "x", 1),
+            lambda: core._gather(16, [other], "x"),
+            lambda: core._attach_all(16, [0], "x"),
+            lambda: core._attach_all(16, b"\1\0", "x"),
+            lambda: core._attach_all(16, bytes(2 * 4097), "x"),
+            lambda: core._attach_all(3, bytes(4), "x"),
+            lambda: core._work(None),
+            lambda: core._takes(1, 0, -1),
+            lambda: core._takes(0, 1, -1),
+            lambda: core._takes(0, 0, 0),
+            lambda: core._takes(0, 0),
+            lambda: core._takes(0, None, -1),
+            lambda: Request(),
+            lambda: Request(1, 2, 3, 4, 5, 6),
+            kinds=self.ODD,
+        )
         self.fits(core)
 
     def test_what_is_refused_leaves_no_name(self):
@@ -149,7 +198,8 @@ class CoreArguments(CoreCase):
                 full.promise()
 
     def test_the_module_alone(self):
-        out, err, status = program("""
+        out, err, status = program(
+            """
             import importlib.util
             spec = importlib.util.find_spec("cf._cf")
             module = importlib.util.module_from_spec(spec)
@@ -164,7 +214,11 @@ class CoreArguments(CoreCase):
                     print("done")
                 except (TypeError, RuntimeError, AttributeError):
                     print("refused")
-        """ if sys.version_info >= (3, 10) else "print('refused\\n' * 6, end='')", head="import sys\n")
+        """
+            if sys.version_info >= (3, 10)
+            else "print('refused\\n' * 6, end='')",
+            head="import sys\n",
+        )
         self.assertEqual((out, status), ("refused\n" * 6, 0), err)
 
     def test_copies_and_classes(self):
@@ -172,24 +226,29 @@ class CoreArguments(CoreCase):
         for each in (core_stage, self.request):
             for call in (copy.copy, copy.deepcopy, pickle.dumps, lambda it: it.__reduce_ex__(2)):
                 self.refused(lambda: call(each))
-        self.refused(lambda: object.__new__(Stage), lambda: Stage.__new__(Stage), lambda: Stage(),
-                     lambda: Stage(self.request, 0),
-                     lambda: setattr(core_stage, "__class__", concurrent.futures.Future),
-                     lambda: setattr(self.request, "__class__", Flow))
+        self.refused(
+            lambda: object.__new__(Stage),
+            lambda: Stage.__new__(Stage),
+            lambda: Stage(),
+            lambda: Stage(self.request, 0),
+            lambda: setattr(core_stage, "__class__", concurrent.futures.Future),
+            lambda: setattr(self.request, "__class__", Flow),
+        )
         core_stage.__class__ = type("Own", (Stage,), {})
         self.request.__class__ = type("Own", (Request,), {"__slots__": ()})
-        self.assertEqual((core_stage.complete(2), core_stage.then(str).result(9), self.request.promise().complete(1)),
-                         (True, "2", True))
+        self.assertEqual((core_stage.complete(2), core_stage.then(str).result(9), self.request.promise().complete(1)), (True, "2", True))
         self.refused(lambda: Stage.__init__(core_stage), kinds=AttributeError)
         self.assertEqual((core_stage.result(0), core_stage.done()), (2, True))
 
     def test_what_a_stage_lets_be_set(self):
         core_stage = self.request.promise()
-        names = ("request", "number", "_state", "_condition", "_waiters", "_done_callbacks", "_result", "_exception",
-                 "_form")
-        self.refused(*[functools.partial(setattr, core_stage, name, None) for name in names],
-                     functools.partial(delattr, core_stage, "_shown"),
-                     functools.partial(delattr, core_stage, "request"), kinds=(AttributeError, TypeError, SystemError))
+        names = ("request", "number", "_state", "_condition", "_waiters", "_done_callbacks", "_result", "_exception", "_form")
+        self.refused(
+            *[functools.partial(setattr, core_stage, name, None) for name in names],
+            functools.partial(delattr, core_stage, "_shown"),
+            functools.partial(delattr, core_stage, "request"),
+            kinds=(AttributeError, TypeError, SystemError),
+        )
         core_stage._shown = True
         self.assertFalse(core_stage.done())
         with self.assertRaises(concurrent.futures.TimeoutError):
@@ -201,9 +260,12 @@ class CoreArguments(CoreCase):
 class PublicArguments(Case):
     def test_misuse(self):
         other = self.service.request().promise()
-        for call in (lambda: Stage(), lambda: self.request._attach(3, other, None, str, None, None, "x"),
-                     lambda: self.request._gather(16, [other], "x"),
-                     lambda: pickle.dumps(self.request)):
+        for call in (
+            lambda: Stage(),
+            lambda: self.request._attach(3, other, None, str, None, None, "x"),
+            lambda: self.request._gather(16, [other], "x"),
+            lambda: pickle.dumps(self.request),
+        ):
             with self.assertRaises(TypeError):
                 call()
         self.assertIs(self.request.adopt(core_stage := self.request.promise()), core_stage)

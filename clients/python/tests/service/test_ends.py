@@ -95,6 +95,7 @@ class Ends(unittest.TestCase):
         def hook(history):
             seen.append(history.name)
             raise (Wild if len(seen) == 1 else OSError)("no exporter")
+
         seen = []
         with self.assertLogs("concurrent.futures", logging.WARNING) as logs:
             with Service(1, on_end=hook) as service:
@@ -109,6 +110,7 @@ class Ends(unittest.TestCase):
         def hook(history):
             gate.wait(20)
             seen.append(history.name)
+
         with unittest.mock.patch.object(ending, "MOST", 5), Service(1, on_end=hook) as service:
             with self.assertLogs("concurrent.futures", logging.WARNING) as logs:
                 for k in range(10):
@@ -138,7 +140,7 @@ class Ends(unittest.TestCase):
                 service = Service(1, on_end=lambda _: threads.append(threading.current_thread()))
                 for k in range(1, 6):
                     service.request(str(k)).end()
-                    self.assertTrue(until(lambda: len(threads) == k and service._works.ends._aside._is_idle))
+                    self.assertTrue(until(lambda: len(threads) == k and service._works.ends._aside._is_idle))  # noqa: F821
                 ends(service)
                 del service
                 threads[0].join(20)
@@ -168,6 +170,7 @@ class Ends(unittest.TestCase):
             step = flow.supply(inc, 1)
             with loop_service.start(flow, name="of a flow") as request:
                 self.assertEqual(await request[step], 2)
+
         asyncio.run(main())
         self.names("a", "of a flow")
 
@@ -194,8 +197,7 @@ class Ends(unittest.TestCase):
         kept = service.request("kept")
         """
         out, err, code = program(text)
-        self.assertEqual((sorted(out.splitlines()), err, code),
-                         (["False left", "False of the child", "True inherited", "True kept"], "", 0))
+        self.assertEqual((sorted(out.splitlines()), err, code), (["False left", "False of the child", "True inherited", "True kept"], "", 0))
 
 
 def until_soon(is_so):

@@ -27,8 +27,7 @@ class Flows(Case):
         flow, number, doubled, total, more = self.flow()
         many_begun = [self.service.start(flow, k) for k in range(200)]
         for k, begun in enumerate(many_begun):
-            self.assertEqual((begun[number].result(), begun[total].result(5), begun[more].result(5)),
-                             (k, 2 * k + 5, 2 * k + 6))
+            self.assertEqual((begun[number].result(), begun[total].result(5), begun[more].result(5)), (k, 2 * k + 5, 2 * k + 6))
         self.assertEqual(begun[total].name, "total")
         self.assertEqual(begun[total].then(inc).result(), 2 * 199 + 6)
         self.assertIn("total", str(begun.history()))
@@ -40,8 +39,7 @@ class Flows(Case):
         saved, all_, first = failed.recover(str), flow.all_of(start, failed, start), flow.first_of(start, failed)
         both = flow.gather(start, saved, first)
         begun = flow.run(1)
-        self.assertEqual((begun[saved].result(0), begun[first].result(0), begun[both].result(0)),
-                         ("x", 1, [1, "x", 1]))
+        self.assertEqual((begun[saved].result(0), begun[first].result(0), begun[both].result(0)), ("x", 1, [1, "x", 1]))
         self.assertIsInstance(begun[all_].exception(0), Oops)
         self.assertFalse(flow.run()[start].done())
 
@@ -105,6 +103,7 @@ class Flows(Case):
                 told.append(flow.promise())
             except RuntimeError:
                 told.append(1)
+
         PlanCore = flows.PlanCore
         with unittest.mock.patch.object(flows, "PlanCore", slowly):
             threads = [threading.Thread(target=start, args=[k]) for k in range(6)]
@@ -128,8 +127,8 @@ class Flows(Case):
             flow = Flow()
             end = flow.promise().then(load).then(load)
             service = LoopService(asyncio.get_running_loop())
-            self.assertEqual(await asyncio.gather(*[service.start(flow, k)[end] for k in range(50)]),
-                             list(range(2, 52)))
+            self.assertEqual(await asyncio.gather(*[service.start(flow, k)[end] for k in range(50)]), list(range(2, 52)))
+
         asyncio.run(main())
 
 

@@ -14,7 +14,8 @@ from cf.service._core import IS_MODULE
 class Forks(unittest.TestCase):
     @unittest.skipUnless(hasattr(os, "fork"), "no fork")
     def test_fork(self):
-        out, err, status = program("""
+        out, err, status = program(
+            """
             service = Service(2)
             begun, goes_on = threading.Event(), threading.Event()
             stage = service.submit(lambda: begun.set() or goes_on.wait(5) or os.getpid())
@@ -30,13 +31,15 @@ class Forks(unittest.TestCase):
                 os.waitpid(child, 0)
                 goes_on.set()
                 print("parent", {it.result(5) for it in queued} == {os.getpid()}, stage.result(5), flush=True)
-        """)
+        """
+        )
         self.assertEqual((out, status), ("child True 1 False\nparent True True\n", 0), err)
 
     @unittest.skipUnless(hasattr(os, "fork"), "no fork")
     def test_limits_that_were_set_before(self):
         """They pass in the child once it sets one of the same request, and else in the parent alone."""
-        out, err, status = program("""
+        out, err, status = program(
+            """
             service = Service(1)
             request, other = service.request(), service.request()
             before, others = request.promise().complete_on_timeout(1, 0.1), other.promise().complete_on_timeout(2, 0.1)
@@ -46,13 +49,15 @@ class Forks(unittest.TestCase):
                 print(later.result(20), before.result(20), others.done(), flush=True)
                 os._exit(0)
             print(os.waitpid(pid, 0)[1], before.result(20), others.result(20), flush=True)
-        """)
+        """
+        )
         self.assertEqual((out, status), ("3 1 False\n0 1 2\n", 0), err)
 
     @unittest.skipUnless(hasattr(os, "fork"), "no fork")
     def test_what_is_ready_is_the_parents(self):
         """A stage of the same request that becomes ready in the child is run there, and what was ready before isn't."""
-        out, err, status = program("""
+        out, err, status = program(
+            """
             service, goes_on = Service(1), threading.Event()
             request, begun = service.request(), threading.Event()
             first = request.supply(lambda: begun.set() or goes_on.wait(20))
@@ -70,12 +75,14 @@ class Forks(unittest.TestCase):
             goes_on.set()
             promise.complete(1)
             print({it.result(20) for it in (*queued, behind)} == {os.getpid()}, flush=True)
-        """)
+        """
+        )
         self.assertEqual((out, status), ("True [False, False, False]\nTrue True 7\n0\nTrue\n", 0), err)
 
     @unittest.skipUnless(hasattr(os, "fork"), "no fork")
     def test_a_flow_goes_on_in_the_child(self):
-        out, err, status = program("""
+        out, err, status = program(
+            """
             from cf.service import Flow
             flow, child = Flow(), []
             first = flow.supply(lambda: child.append(os.fork()))
@@ -87,14 +94,16 @@ class Forks(unittest.TestCase):
             print(told, flush=True)
             if not child[0]:
                 os._exit(0)
-        """)
+        """
+        )
         self.assertEqual((out, status), ("[3, 1]\n" * 2, 0), err)
 
     @unittest.skipUnless(hasattr(os, "fork"), "no fork")
     def test_forks_under_load(self):
         """Children go on with requests that the parent's threads were changing, waiting for and reading as it
         forked."""
-        out, err, status = program("""
+        out, err, status = program(
+            """
             import concurrent.futures, random, signal
             from cf.service import RequestFull
             FORKS, service, over = int(os.environ.get("CF_FORKS", "20")), Service(3), []
@@ -180,13 +189,16 @@ class Forks(unittest.TestCase):
             over.append(1)
             print(len(ends), set(ends), flush=True)
             os._exit(0)
-        """, timeout=300)
+        """,
+            timeout=300,
+        )
         self.assertEqual((out, status), (f"{os.environ.get('CF_FORKS', '20')} {{0}}\n", 0), err)
 
     @unittest.skipUnless(hasattr(os, "fork"), "no fork")
     def test_fork_while_a_thread_has_a_stage(self):
         """A thread of the parent's is within a stage's condition, and another waits for it, as the process forks."""
-        out, err, status = program("""
+        out, err, status = program(
+            """
             import concurrent.futures, signal
             service, held, goes_on = Service(1), threading.Event(), threading.Event()
             promise = service.request().promise()
@@ -211,13 +223,15 @@ class Forks(unittest.TestCase):
             promise.complete(2)
             waits.join(5)
             print(status, promise.result(5), waits.is_alive(), flush=True)
-        """)
+        """
+        )
         self.assertEqual((out, status), ("1 1 False\n0 2 False\n", 0), err)
 
     @unittest.skipIf(IS_MODULE or not hasattr(os, "fork"), "the module has no lock")
     def test_fork_while_a_thread_changes_a_request(self):
         """The fork waits for it; where that takes too long, the request is the parent's."""
-        out, err, status = program("""
+        out, err, status = program(
+            """
             import signal
             from cf.service import _plain
             service = Service(1)
@@ -246,13 +260,15 @@ class Forks(unittest.TestCase):
                 print(os.waitpid(pid, 0)[1], flush=True)
                 thread.join()
             print(promise.complete(2), promise.result(5))
-        """)
+        """
+        )
         told = "this request was being changed as its process forked: it is the parent's alone"
         self.assertEqual((out, status), (f"True\nTrue\n0\n{told}\nTrue\n0\nTrue 2\n", 0), err)
 
     @unittest.skipUnless(hasattr(os, "fork"), "no fork")
     def test_fork_while_a_plan_is_built(self):
-        out, err, status = program("""
+        out, err, status = program(
+            """
             import signal
             from cf.service import Flow, flow as flows
             service, entered, PlanCore = Service(1), threading.Event(), flows.PlanCore
@@ -272,7 +288,8 @@ class Forks(unittest.TestCase):
                 print(service.start(flow, 1)[end].result(10), flush=True)
                 os._exit(0)
             print(os.waitpid(pid, 0)[1], flush=True)
-        """)
+        """
+        )
         self.assertEqual((out, status), ("1\n0\n", 0), err)
 
 

@@ -40,9 +40,15 @@ class Forms(Case):
         error = failed.exception()
         self.assertIsInstance(error, Oops)
         self.assertEqual([frame.name for frame in traceback.extract_tb(error.__traceback__)], ["fails"])
-        for stage in (failed.then(inc), failed.combine(r.supply(str), lambda a, b: 0),
-                      failed.when_done(lambda v, e: 1), r.all_of(failed, failed), r.first_of(failed, failed),
-                      failed.compose(lambda x: x), r.gather(failed)):
+        for stage in (
+            failed.then(inc),
+            failed.combine(r.supply(str), lambda a, b: 0),
+            failed.when_done(lambda v, e: 1),
+            r.all_of(failed, failed),
+            r.first_of(failed, failed),
+            failed.compose(lambda x: x),
+            r.gather(failed),
+        ):
             self.assertIs(stage.exception(), error)
             with self.assertRaises(Oops):
                 stage.result()
@@ -52,8 +58,10 @@ class Forms(Case):
 
     def test_what_is_no_future(self):
         """It is refused before anything is attached, and the text says what to do."""
+
         async def co():
             pass
+
         wrong = co()
         for given in ([[self.request.promise()]], [concurrent.futures.Future(), wrong], [None]):
             for call in (self.request.gather, self.request.all_of, self.request.first_of):
@@ -94,10 +102,10 @@ class Forms(Case):
         def call():
             tries.append(1)
             return 5 if len(tries) == 3 else fails()
+
         stage = request.supply(call)
         for _ in range(2):
-            stage = stage.recover_compose(
-                lambda _: request.promise().complete_on_timeout(None, 0.01).then(lambda _: call()))
+            stage = stage.recover_compose(lambda _: request.promise().complete_on_timeout(None, 0.01).then(lambda _: call()))
         self.assertEqual((stage.result(20), len(tries)), (5, 3))
 
     def test_what_a_request_shows_of_itself(self):
@@ -133,6 +141,7 @@ class Forms(Case):
 
         def deeper(n):
             return r.supply(lambda: n - 1).compose(deeper) if n else r.supply(str, "bottom")
+
         self.assertEqual(deeper(500).result(20), "bottom")
 
     def test_chains_through_requests_need_no_stack(self):

@@ -23,6 +23,7 @@ from cf.service import Flow, LoopService, RequestFull, Service, Stage
 from cf.service._core import IS_MODULE, PlanCore
 from cf.service.words import MOST_STAGES
 from cf.values import Form
+
 REQUESTS = int(os.environ.get("CF_REQUESTS", "20000"))
 
 
@@ -43,12 +44,12 @@ class Kept(Case):
             self.assertEqual((late.result(20), behind.result(20)), (value, value + 1))
             self.assertEqual(len(request._facts()[0]), len(request.history().words))
             return len(request.history().words), request.history().names
+
         told = []
         for value in range(6):
             planned, request = self.service.start(flow), self.service.request()
             promise = request.promise()
-            told.append((done(planned, planned[number], planned[end], value),
-                         done(request, promise, promise.then(inc), value)))
+            told.append((done(planned, planned[number], planned[end], value), done(request, promise, promise.then(inc), value)))
             del planned, request, promise
         self.assertEqual(told, told[:1] * 6)
         self.assertEqual(told[0], ((5, ["promise", "inc", "promise"]), (7, ["promise", "inc", "promise"])))
@@ -77,11 +78,18 @@ class Kept(Case):
 
         def behind(source):
             return lambda call, first, other: source.then(call)
+
         source = freed.promise()
-        cases = [(supplied, Stage.cancel), (supplied, lambda freed_stage: freed_stage.complete(1)),
-                 (supplied, lambda freed_stage: freed_stage.fail(Oops())), (supplied, lambda _: goes_on.set()),
-                 (supplied, lambda _: None), (behind(source), Stage.cancel),
-                 (behind(source), lambda _: source.cancel()), (behind(freed.supply(str)), lambda _: None)]
+        cases = [
+            (supplied, Stage.cancel),
+            (supplied, lambda freed_stage: freed_stage.complete(1)),
+            (supplied, lambda freed_stage: freed_stage.fail(Oops())),
+            (supplied, lambda _: goes_on.set()),
+            (supplied, lambda _: None),
+            (behind(source), Stage.cancel),
+            (behind(source), lambda _: source.cancel()),
+            (behind(freed.supply(str)), lambda _: None),
+        ]
         held = []
         for attach, settle in cases:
             freed_stage, left = self.things(attach)
@@ -113,6 +121,7 @@ class Kept(Case):
             first = freed.first_of(freed.promise(), promise)
             freed.gather(promise, promise.then(thing), first).then(thing).compose(thing)
             return weakref.ref(thing), weakref.ref(freed)
+
         watched = [make() for _ in range(3)]
         gc.collect()
         self.assertEqual([it for both in watched for it in both if it() is not None], [])
@@ -130,12 +139,12 @@ class Dropped(unittest.TestCase):
     def test_dropped_requests_are_freed_at_once(self):
         class Thing:
             pass
+
         gc.disable()
         try:
             with Service(1) as dropped:
                 freed, thing = dropped.request(), Thing()
-                freed_stage = freed.supply(lambda it: it,
-                                           thing).then(lambda it: it).compose(lambda it: freed.supply(str)).recover(str)
+                freed_stage = freed.supply(lambda it: it, thing).then(lambda it: it).compose(lambda it: freed.supply(str)).recover(str)  # noqa: F821
                 watched = weakref.ref(thing)
                 del thing
                 freed_stage.result(5)
@@ -158,10 +167,14 @@ class Lifetime(CoreCase):
         super().tearDown()
 
     def test_a_settled_stage_keeps_no_function_arguments_or_callbacks(self):
-        ways = [lambda freed_stage, source: source.complete(1), lambda freed_stage, source: source.fail(OSError()),
-                lambda freed_stage, source: source.cancel(), lambda freed_stage, source: freed_stage.cancel(),
-                lambda freed_stage, source: freed_stage.complete(2),
-                lambda freed_stage, source: freed_stage.or_timeout(0.001)]
+        ways = [
+            lambda freed_stage, source: source.complete(1),
+            lambda freed_stage, source: source.fail(OSError()),
+            lambda freed_stage, source: source.cancel(),
+            lambda freed_stage, source: freed_stage.cancel(),
+            lambda freed_stage, source: freed_stage.complete(2),
+            lambda freed_stage, source: freed_stage.or_timeout(0.001),
+        ]
         for number, way in enumerate(ways):
             source, function, callback = self.request.promise(), Thing(), Thing()
             freed_stage = source.then(function)
@@ -202,6 +215,7 @@ class Lifetime(CoreCase):
 
     def test_cycles_are_collected(self):
         """Through callbacks, arguments, functions, values, exceptions and what a request keeps."""
+
         def by_callback(freed, thing):
             freed_stage = freed.promise()
             freed_stage.add_done_callback(lambda _: (freed_stage, thing))
@@ -239,6 +253,7 @@ class Lifetime(CoreCase):
             behind = freed.all_of(freed_stage)
             freed_stage.cancel()
             behind.exception(0).kept = behind, thing
+
         for make in (by_callback, by_value, by_error, by_arguments, by_attribute, by_waiter, by_flow, by_cancelled):
             thing = Thing()
             watched = weakref.ref(thing)
@@ -249,7 +264,8 @@ class Lifetime(CoreCase):
 
     def test_long_rows_are_dropped_without_a_stack(self):
         """Each request holds the next, by a callback or a value, in a thread with little stack."""
-        out, err, status = program("""
+        out, err, status = program(
+            """
             service = Service(1)
 
             def drops(settle):
@@ -271,7 +287,8 @@ class Lifetime(CoreCase):
                 thread.start()
                 thread.join()
             print("dropped")
-        """)
+        """
+        )
         self.assertEqual((out, status), ("dropped\n", 0), err)
 
 
@@ -295,6 +312,7 @@ class Blocks(CoreCase):
             freed_stage.add_done_callback(callback)
             freed_stage.complete(1)
             freed_stage.add_done_callback(callback)
+
         self.flat(lambda: calls(lambda _: object()), lambda: calls(fails))
 
     def test_what_is_refused(self):
@@ -306,12 +324,15 @@ class Blocks(CoreCase):
         def refused(call, *given):
             with self.assertRaises((TypeError, ValueError, RequestFull)):
                 call(*given)
-        self.flat(lambda: refused(freed._gather, Form.ALL_OF, [source, other], "x"),
-                  lambda: refused(full._gather, Form.ALL_OF, [last, last], "x"),
-                  lambda: refused(full._attach, Form.APPLY, last, None, object().__repr__, ([],), {"x": []}, "x"),
-                  lambda: refused(full._attach, Form.COMPOSE, last, None, object().__repr__, None, None, "x"),
-                  lambda: refused(freed._attach, Form.APPLY, other, None, inc, None, None, "inc"),
-                  lambda: refused(PlanCore, [(99, (), None, "x")]))
+
+        self.flat(
+            lambda: refused(freed._gather, Form.ALL_OF, [source, other], "x"),
+            lambda: refused(full._gather, Form.ALL_OF, [last, last], "x"),
+            lambda: refused(full._attach, Form.APPLY, last, None, object().__repr__, ([],), {"x": []}, "x"),
+            lambda: refused(full._attach, Form.COMPOSE, last, None, object().__repr__, None, None, "x"),
+            lambda: refused(freed._attach, Form.APPLY, other, None, inc, None, None, "inc"),
+            lambda: refused(PlanCore, [(99, (), None, "x")]),
+        )
 
     def test_outcomes(self):
         def ends(settle):
@@ -319,17 +340,21 @@ class Blocks(CoreCase):
             behind = source.then(inc).handle(lambda *given: given)
             settle(source)
             return source.exception(20) if not source.cancelled() else None, behind.result(20)
-        self.flat(lambda: ends(lambda source: source.complete([])), lambda: ends(lambda source: source.fail(Oops())),
-                  lambda: ends(Stage.cancel), lambda: ends(lambda source: source.or_timeout(0)),
-                  lambda: ends(lambda source: source.complete_on_timeout([], 0)),
-                  lambda: ends(lambda source: source.named("x" * 100).complete([])))
+
+        self.flat(
+            lambda: ends(lambda source: source.complete([])),
+            lambda: ends(lambda source: source.fail(Oops())),
+            lambda: ends(Stage.cancel),
+            lambda: ends(lambda source: source.or_timeout(0)),
+            lambda: ends(lambda source: source.complete_on_timeout([], 0)),
+            lambda: ends(lambda source: source.named("x" * 100).complete([])),
+        )
 
     def test_flows(self):
         flow = Flow()
         number = flow.promise()
         end = flow.gather(number.then(lambda x: [x]), number.then(fails).recover(lambda error: [error]))
-        self.flat(lambda: flow.run(1)[end].result(0), lambda: self.service.start(flow, 1)[end].result(20),
-                  lambda: flow.run())
+        self.flat(lambda: flow.run(1)[end].result(0), lambda: self.service.start(flow, 1)[end].result(20), lambda: flow.run())
 
     def test_functions_of_a_loop(self):
         async def later(*given, **more):
@@ -343,6 +368,7 @@ class Blocks(CoreCase):
                 freed = loop_service.request()
                 await freed.supply(later, [1], more=2).then(later).then(lambda given: [given])
                 await freed.supply(fails).recover(later).compose(lambda given: freed.supply(later, given))
+
             for many in (100, 400):
                 gc.collect()
                 before = sys.getallocatedblocks()
@@ -350,15 +376,18 @@ class Blocks(CoreCase):
                     await makes()
             gc.collect()
             self.assertLess(sys.getallocatedblocks() - before, 200)
+
         asyncio.run(main())
 
 
 class Memory(unittest.TestCase):
     def flat(self, make, many=REQUESTS):
         """Makes requests, and compares what is resident after a fifth of them with what is at the end."""
+
         def resident():
             gc.collect()
             return int(Path("/proc/self/statm").read_text().split()[1]) * os.sysconf("SC_PAGE_SIZE")
+
         for _ in range(many // 5):
             make()
         first = resident()
@@ -387,6 +416,7 @@ class Memory(unittest.TestCase):
             both = number.then(fails).recover(str).combine(number, lambda a, b: [a, b])
             both.compose(lambda x: freed.supply(list, x)).result()
             freed.gather(number, number).result()
+
         self.flat(make)
 
     def test_flows(self):
@@ -398,10 +428,12 @@ class Memory(unittest.TestCase):
     @unittest.skipUnless(IS_MODULE, "by ctypes a plan keeps no machines")
     def test_plans(self):
         """A plan is dropped with the machines that it has kept."""
+
         def make():
             flow = Flow()
             flow.promise().then(inc)
             self.assertEqual(len([flow.run() for _ in range(20)]), 20)
+
         self.flat(make, 400)
 
 

@@ -21,14 +21,19 @@ class Histories(Case):
         total.exception()
         self.service.shutdown()
         text = str(recorded.history())
-        for part in ("order 17: 6 events, 2 stages", "caller attaches 0 price, supply",
-                     "caller attaches 1 total, apply behind 0 price", "worker 0 claims 0 price and calls it\n",
-                     "worker 0 finishes 0 price, which gave 49", "0 price ends: 49",
-                     " claims 1 total and calls it with 49", "finishes 1 total, which failed with Oops('x')",
-                     "1 total ends: Oops('x')"):
+        for part in (
+            "order 17: 6 events, 2 stages",
+            "caller attaches 0 price, supply",
+            "caller attaches 1 total, apply behind 0 price",
+            "worker 0 claims 0 price and calls it\n",
+            "worker 0 finishes 0 price, which gave 49",
+            "0 price ends: 49",
+            " claims 1 total and calls it with 49",
+            "finishes 1 total, which failed with Oops('x')",
+            "1 total ends: Oops('x')",
+        ):
             self.assertIn(part, text)
-        self.assertRegex(recorded.history().line(), r"^order 17: 6 events, 2 stages in \d+\.\d{3} ms; "
-                                                    r"1 failed: 1 total by Oops\('x'\); 0 open$")
+        self.assertRegex(recorded.history().line(), r"^order 17: 6 events, 2 stages in \d+\.\d{3} ms; " r"1 failed: 1 total by Oops\('x'\); 0 open$")
         self.assertEqual(self.service.submit.__name__, "submit")
 
     def test_each_word_of_what_is_gathered(self):
@@ -72,13 +77,19 @@ class Histories(Case):
         class Mute:
             def __repr__(self):
                 raise Oops
+
         self.request.promise().complete(Mute())
         self.assertIn("a Mute", str(self.request.history()))
 
-    FORGED = ("x\r\n    9.999 ms  caller completes 0 paid\t\x1b[2J\b\u2028\u2029\u202e\u200b\ud800\U000e0041\x85; "
-              "0 paid ends: 1\\n   y")
-    ESCAPED = (r"x\r\n    9.999 ms  caller completes 0 paid\t"
-               r"\u001b[2J\u0008\u2028\u2029\u202e" "\u200b" r"\ud800" "\U000e0041" r"\u0085; 0 paid ends: 1\n   y")
+    FORGED = "x\r\n    9.999 ms  caller completes 0 paid\t\x1b[2J\b\u2028\u2029\u202e\u200b\ud800\U000e0041\x85; 0 paid ends: 1\\n   y"
+    ESCAPED = (
+        r"x\r\n    9.999 ms  caller completes 0 paid\t"
+        r"\u001b[2J\u0008\u2028\u2029\u202e"
+        "\u200b"
+        r"\ud800"
+        "\U000e0041"
+        r"\u0085; 0 paid ends: 1\n   y"
+    )
     # what ends a line, turns the direction of a text, or can't be printed
     UNSHOWN = re.compile("[\0-\x1f\x7f-\x9f\u200e\u200f\u2028-\u202e\u2066-\u2069\ud800-\udfff]")
 
@@ -90,6 +101,7 @@ class Histories(Case):
         class Fault(Exception):
             def __repr__(it):
                 return self.FORGED[60:]
+
         recorded = self.service.request(self.FORGED)
         failed = recorded.promise(self.FORGED)
         recorded.promise().named("a;b").complete(Forged())
@@ -140,23 +152,23 @@ class Histories(Case):
         def begun(service, **given):
             request = service.start(flow, secret, **given)
             return request, request[flows.Step(flow, 0)], request[end]
+
         with Service(2, describe=describe_types) as typed:
-            cases = [(new(typed), ("str of 23", "list of 2", "Oops")),
-                     (begun(typed), ("str of 23", "list of 2", "Oops")),
-                     (new(typed, describe=describe_nothing), ("-", "-", "-")),
-                     (new(typed, describe=raises), ("?", "?", "?")),
-                     (new(typed, describe=lambda value: 7), ("?", "?", "?")),
-                     (begun(typed, describe=describe_nothing), ("-", "-", "-")),
-                     (new(self.service, describe=lambda value: f"<{type(value).__name__}\n>"),
-                      ("<str\\n>", "<list\\n>", "<Oops\\n>"))]
+            cases = [
+                (new(typed), ("str of 23", "list of 2", "Oops")),
+                (begun(typed), ("str of 23", "list of 2", "Oops")),
+                (new(typed, describe=describe_nothing), ("-", "-", "-")),
+                (new(typed, describe=raises), ("?", "?", "?")),
+                (new(typed, describe=lambda value: 7), ("?", "?", "?")),
+                (begun(typed, describe=describe_nothing), ("-", "-", "-")),
+                (new(self.service, describe=lambda value: f"<{type(value).__name__}\n>"), ("<str\\n>", "<list\\n>", "<Oops\\n>")),
+            ]
             request = flow.run(secret, describe=describe_types)
-            cases.append(((request, request[flows.Step(flow, 0)], request[end]),
-                          ("str of 23", "list of 2", "Oops")))
+            cases.append(((request, request[flows.Step(flow, 0)], request[end]), ("str of 23", "list of 2", "Oops")))
             for case, told in cases:
                 texts, history = of(*case)
                 self.assertNotIn("0123456789", "".join(texts))
-                for text in (f"caller completes 0 token with {told[0]}", f"which gave {told[1]}", f"with {told[2]}",
-                             "nothing with nil"):
+                for text in (f"caller completes 0 token with {told[0]}", f"which gave {told[1]}", f"with {told[2]}", "nothing with nil"):
                     self.assertIn(text, texts[0])
                 self.assertEqual((history.values, history.errors), (texts[2:4], texts[4:]))
             stage = typed.submit(lambda: secret)
@@ -174,12 +186,15 @@ class Histories(Case):
             recorded = LoopService(asyncio.get_running_loop()).request(describe=describe_types)
             await recorded.supply(lambda: secret)
             self.assertIn("str of 23", str(recorded.history()))
+
         asyncio.run(main())
 
     def test_what_tells_of_values_may_call(self):
         """It is called under no lock of the request."""
+
         def asking(value):
             return str(len(recorded.history().words) if value == "ask" else value)
+
         recorded = self.service.request("r", describe=asking)
         asks = threading.Thread(target=lambda: told.append(recorded.promise().complete("x")))
         told = []

@@ -22,6 +22,7 @@ class Instead(Case):
 
                 def send(value, error, sent=sent):
                     sent.append(error or value)
+
                 answered = last.or_timeout(limit).handle(send)
                 answered.add_done_callback(lambda _, request=request: request.cancel())
                 if how == "left":
@@ -67,12 +68,14 @@ class Instead(Case):
 
     def test_a_further_try(self):
         """The function of the guide, which ends well with the last try, or raises what that raised."""
+
         def tried(request, call, tries=3, pause=0.01):
             stage = request.supply(call)
             if tries == 1:
                 return stage
-            return stage.recover_compose(lambda error: request.promise("pause").complete_on_timeout(None, pause).compose(
-                lambda _: tried(request, call, tries - 1, 2 * pause)))
+            return stage.recover_compose(
+                lambda error: request.promise("pause").complete_on_timeout(None, pause).compose(lambda _: tried(request, call, tries - 1, 2 * pause))
+            )
 
         calls = iter([fails, fails, lambda: 7, fails, fails, fails, lambda: 8])
         self.assertEqual(tried(self.request, lambda: next(calls)()).result(20), 7)
@@ -97,6 +100,7 @@ class Instead(Case):
         def work():
             begun.set()
             return stop.wait(20)
+
         stage = self.request.supply(work)
         stage.add_done_callback(lambda _: stop.set())
         self.assertTrue(begun.wait(20))
@@ -119,6 +123,7 @@ class Instead(Case):
 
         def wait():
             self.service.request("tick").promise().complete_on_timeout(None, 0.01).then(tick)
+
         wait()
         self.assertTrue(is_enough.wait(20))
 

@@ -20,7 +20,7 @@ def interpreters():
     return None
 
 
-@unittest.skipUnless(interpreters(), 'no interpreters within a process')
+@unittest.skipUnless(interpreters(), "no interpreters within a process")
 class Interpreters(unittest.TestCase):
     """Others import the package, use it and end; this one's goes on as it was."""
 
@@ -62,12 +62,17 @@ class Interpreters(unittest.TestCase):
         return out
 
     def test_one_that_imports(self):
-        self.assertEqual(self.told("""
+        self.assertEqual(
+            self.told(
+                """
             made = other("import cf.service")
             print(is_right())
             interpreters.destroy(made)
             print(is_right())
-        """), "True\nTrue\n")
+        """
+            ),
+            "True\nTrue\n",
+        )
 
     def test_several_in_turn_and_at_once(self):
         text = """
@@ -87,7 +92,9 @@ try:
 except RequestFull:
     print(IS_MODULE, flush=True)
 """
-        self.assertEqual(self.told(f"""
+        self.assertEqual(
+            self.told(
+                f"""
             text = {text!r}
             made = [other(text) for _ in range(3)]
             right = [is_right()]
@@ -98,7 +105,10 @@ except RequestFull:
                 interpreters.destroy(other(text))
                 right.append(is_right())
             print(set(right))
-        """), f"{IS_MODULE}\n" * 6 + "{True}\n")
+        """
+            ),
+            f"{IS_MODULE}\n" * 6 + "{True}\n",
+        )
 
     def test_one_that_ends_with_requests_open(self):
         text = """
@@ -111,10 +121,15 @@ behind.add_done_callback(lambda _: request)
 flow = Flow()
 run = flow.run()
 """
-        self.assertEqual(self.told(f"""
+        self.assertEqual(
+            self.told(
+                f"""
             interpreters.destroy(other({text!r}))
             print(is_right())
-        """), "True\n")
+        """
+            ),
+            "True\n",
+        )
 
     @unittest.skipUnless(sys.version_info >= (3, 12), "before, one whose threads are alive isn't ended")
     def test_one_that_ends_with_timers(self):
@@ -124,15 +139,21 @@ service = Service(2)
 service.submit(abs, 1).result(9)
 service.request().promise().or_timeout(1000)
 """
-        self.assertEqual(self.told(f"""
+        self.assertEqual(
+            self.told(
+                f"""
             interpreters.destroy(other({text!r}))
             print(is_right())
-        """), "True\n")
+        """
+            ),
+            "True\n",
+        )
 
     @unittest.skipUnless(IS_MODULE, "of the module")
     def test_nothing_is_left_of_one_that_ended(self):
         """The types and what they hold go with the interpreter, as the module does with its last object."""
-        out, err, status = program("""
+        out, err, status = program(
+            """
             import importlib.util
             plan = _core.PlanCore([])
             spec = importlib.util.find_spec("cf._cf")
@@ -153,7 +174,8 @@ service.request().promise().or_timeout(1000)
             del request
             gc.collect()
             print(own(), core(), Service(1).submit(abs, -1).result(9))
-        """)
+        """
+        )
         self.assertEqual((out, status), ("True True\nNone None 1\n", 0), err)
 
 

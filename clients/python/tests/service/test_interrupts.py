@@ -16,15 +16,18 @@ from cf.service._core import IS_MODULE
 class Interrupts(Case):
     def test_base_exceptions_of_functions(self):
         for kind in (KeyboardInterrupt, SystemExit, Wild, GeneratorExit):
+
             def raises(*_):
                 raise kind("y")
+
             self.assertIsInstance(self.service.submit(raises).exception(5), kind)
             self.assertIsInstance(self.request.supply(str).compose(raises).exception(5), kind)
         self.assertEqual(self.service.submit(str, 1).result(5), "1")
 
     @unittest.skipUnless(hasattr(signal, "SIGINT"), "no signals")
     def test_interrupt_of_who_waits(self):
-        out, err, status = program("""
+        out, err, status = program(
+            """
             import signal
             # (where this was begun in the background, it is ignored)
             signal.signal(signal.SIGINT, signal.default_int_handler)
@@ -38,15 +41,16 @@ class Interrupts(Case):
                     print("interrupted", promise.done())
                 promise.complete(1)
                 print(behind.result(5))
-        """)
+        """
+        )
         self.assertEqual((out, status), ("interrupted False\n2\n", 0), err)
 
-    @unittest.skipUnless(IS_MODULE, "by ctypes an interrupt may come between an event and its showing, as within "
-                                    "concurrent.futures")
+    @unittest.skipUnless(IS_MODULE, "by ctypes an interrupt may come between an event and its showing, as within concurrent.futures")
     def test_interrupts_lose_nothing(self):
         """The main thread is interrupted at any point while it attaches and completes; each stage that it was given
         is settled."""
-        out, err, status = program("""
+        out, err, status = program(
+            """
             import random, signal
             seen, lost = 0, 0
             with Service(2) as service:
@@ -78,7 +82,8 @@ class Interrupts(Case):
                 over.append(1)
                 thread.join()
             print(seen > 20, lost)
-        """)
+        """
+        )
         self.assertEqual((out, status), ("True 0\n", 0), err)
 
 
@@ -109,6 +114,7 @@ class InterruptsOfCores(CoreCase):
                     raise KeyboardInterrupt
                 self.taken.append(request)
                 return len(self.taken) <= self.most
+
         for most, taken, is_done in ((3, 3, False), (1, 2, True), (0, 1, True)):
             interrupted = Interrupted(most)
             of_interrupted = Request(interrupted, "r", 8)
@@ -125,6 +131,7 @@ class InterruptsOfCores(CoreCase):
 
     def test_puts_that_fail_are_made_up_for(self):
         """A turn that couldn't be given is given with the next one."""
+
         class Failing:
             closed, clock, fails, taken = False, None, True, 0
 
@@ -133,6 +140,7 @@ class InterruptsOfCores(CoreCase):
                     raise MemoryError
                 self.taken += 1
                 return True
+
         failing = Failing()
         request = Request(failing, "r", 8)
         with self.assertRaises(MemoryError):
@@ -144,6 +152,7 @@ class InterruptsOfCores(CoreCase):
     def test_a_callback_that_leaves_takes_no_turn_with_it(self):
         """A composing stage ends just behind a limit that nobody was told of, so its thread has the turn of what that made
         ready; and a callback of the stage leaves."""
+
         class Taking:
             closed, clock = False, None
 
@@ -153,6 +162,7 @@ class InterruptsOfCores(CoreCase):
             def put(self, request):
                 self.taken.append(request)
                 return True
+
         taking = Taking()
         request = Request(taking, "r", 8)
         late = request.promise()
@@ -165,6 +175,7 @@ class InterruptsOfCores(CoreCase):
             request._counts = True
             _machine._pass(request._at, 5, _machine._untold, 0, _machine._many)
             return made
+
         composed = request.supply(str).compose(composes)
         composed.add_done_callback(leaves)
         with self.assertRaises(SystemExit):
@@ -177,21 +188,23 @@ class InterruptsOfCores(CoreCase):
     @unittest.skipUnless(IS_MODULE, "by ctypes the stage stays claimed")
     def test_a_function_whose_arguments_raise(self):
         """Its stage ends with that, as with what the function itself raises."""
+
         class Own(Request):
             @staticmethod
             def _made(kind):
                 raise KeyboardInterrupt
+
         before_interrupt = Own(self.service._works, "r", 4).promise()
         behind = before_interrupt.handle(lambda value, error: error)
         before_interrupt.cancel()
         self.assertIsInstance(behind.exception(20), KeyboardInterrupt)
 
-    @unittest.skipUnless(IS_MODULE,
-                         "by ctypes the stack may end between an event and its showing, as within concurrent.futures")
+    @unittest.skipUnless(IS_MODULE, "by ctypes the stack may end between an event and its showing, as within concurrent.futures")
     def test_at_the_end_of_the_stack(self):
         """A stage is settled where Python's stack has no room left: who waits for it wakes, and what is behind it
         runs."""
-        out, err, status = program("""
+        out, err, status = program(
+            """
             import concurrent.futures
             service, told = Service(1), []
             service.submit(abs, 1).result(9)
@@ -223,7 +236,8 @@ class InterruptsOfCores(CoreCase):
             for thread in (*threads, waits):
                 thread.join(20)
             print(len(left), len(told), [it.result(20) for it in behind] == [1] * 60, sys.getrecursionlimit())
-        """)
+        """
+        )
         self.assertEqual((out, status), ("0 31 True 1000\n", 0), err)
 
 

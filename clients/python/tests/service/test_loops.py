@@ -38,6 +38,7 @@ class Loops(unittest.TestCase):
             with self.assertRaises(Oops):
                 await number.then(bad)
             self.assertIn("worker 0 finishes", str(on_loop.history()))
+
         asyncio.run(main())
 
     def test_what_else_can_be_awaited(self):
@@ -50,10 +51,12 @@ class Loops(unittest.TestCase):
             request = LoopService(asyncio.get_running_loop()).request()
             for given, value in ((Later, 5), (lambda: asyncio.ensure_future(asyncio.sleep(0, 6)), 6)):
                 self.assertEqual(await request.supply(given), value)
+
         asyncio.run(main())
 
     def test_submits(self):
         """A request of one stage, of a function or a coroutine function, by any thread."""
+
         async def twice(x, by=2):
             await asyncio.sleep(0)
             return x * by
@@ -67,12 +70,14 @@ class Loops(unittest.TestCase):
             other = await loop.run_in_executor(None, lambda: loop_service.submit(twice, 4))
             self.assertEqual(await other, 8)
             return loop_service
+
         loop_service = asyncio.run(main())
         with self.assertRaises(RuntimeError):
             loop_service.submit(inc, 1)
 
     def test_a_loop_is_woken_by_others_alone(self):
         """To wake it costs a call of the system, which its own thread needs not."""
+
         async def main():
             loop, woken = asyncio.get_running_loop(), []
             service, real = LoopService(loop), loop.call_soon_threadsafe
@@ -80,16 +85,19 @@ class Loops(unittest.TestCase):
             def wakes(call, *given, **more):
                 woken.append(call == service._works._use_all)
                 return real(call, *given, **more)
+
             with unittest.mock.patch.object(loop, "call_soon_threadsafe", wakes):
                 on_loop = service.request()
                 self.assertEqual(await on_loop.supply(inc, 1).then(inc), 3)
                 self.assertNotIn(True, woken)
                 self.assertEqual(await (await loop.run_in_executor(None, on_loop.supply, inc, 1)), 2)
                 self.assertIn(True, woken)
+
         asyncio.run(main())
 
     def test_what_ends_by_itself_is_not_cancelled(self):
         """A loop isn't asked to cancel a coroutine as that ends."""
+
         async def ends(error=None):
             await asyncio.sleep(0)
             if error is not None:
@@ -103,10 +111,12 @@ class Loops(unittest.TestCase):
                 self.assertEqual(await service.submit(ends), 1)
                 self.assertIsInstance(await service.submit(ends, Oops()).handle(lambda _, error: error), Oops)
             self.assertEqual(soon, [])
+
         asyncio.run(main())
 
     def test_what_is_settled_is_awaited_at_once(self):
         """As with a task that is done, nothing else comes between; a cancelled one raises asyncio's CancelledError."""
+
         async def main():
             loop, between = asyncio.get_running_loop(), []
             on_loop = LoopService(loop).request()
@@ -122,6 +132,7 @@ class Loops(unittest.TestCase):
             with self.assertRaises(asyncio.CancelledError):
                 await cancelled
             return given
+
         given = asyncio.run(main())
         with self.assertRaises(StopIteration) as at_once:  # no loop runs, and none is needed
             given.__await__().send(None)
@@ -149,17 +160,20 @@ class Loops(unittest.TestCase):
             await asyncio.sleep(0.02)
             quick = on_loop.supply(str, 1).or_timeout(50)
             self.assertEqual(await quick, "1")
+
         asyncio.run(main())
         self.assertEqual(ended, ["cancelled"] * 3)
 
     def test_a_task_that_was_cancelled_is_let_go(self):
         """A loop keeps a task that it cancels until that has ended, and no longer."""
+
         async def main():
             on_loop, tasks = LoopService(asyncio.get_running_loop()).request(), []
 
             async def slow():
                 tasks.append(weakref.ref(asyncio.current_task()))
                 await asyncio.sleep(100)
+
             slow_stages = [on_loop.supply(slow) for _ in range(5)]
             await asyncio.sleep(0.02)
             for slow_stage in slow_stages:
@@ -167,6 +181,7 @@ class Loops(unittest.TestCase):
             await asyncio.sleep(0.02)
             gc.collect()
             self.assertEqual([task() for task in tasks], [None] * 5)
+
         asyncio.run(main())
 
     def test_limits_of_any_size(self):
@@ -180,10 +195,12 @@ class Loops(unittest.TestCase):
                 await on_loop.promise().or_timeout(-1)
             with self.assertRaises(ValueError):
                 on_loop.promise().or_timeout(math.nan)
+
         asyncio.run(main())
 
     def test_one_alarm_for_all_limits_of_a_request(self):
         """The loop has one timer for each request, at its first limit, and none once its stages are settled."""
+
         async def main():
             service = LoopService(asyncio.get_running_loop())
             on_loop, alarms = service.request(), service._works._alarms
@@ -198,6 +215,7 @@ class Loops(unittest.TestCase):
                 loop_stage.complete(1)
             await asyncio.sleep(0.01)
             self.assertEqual(len(alarms), 0)
+
         asyncio.run(main())
 
     def test_functions_have_the_context_of_where_they_were_attached(self):
@@ -240,18 +258,27 @@ class Loops(unittest.TestCase):
 
         def flow_promise(flow):
             return flows.Step(flow, 0)
+
         asyncio.run(main())
 
     def test_names_of_functions(self):
         async def main():
             on_loop = LoopService(asyncio.get_running_loop()).request()
-            self.assertEqual([on_loop.supply(inc).name, on_loop.supply(flows.functools.partial(inc, 1)).name,
-                              on_loop.supply(Thing()).name, on_loop.promise().then(inc).name],
-                             ["inc", "inc", "Thing", "inc"])
+            self.assertEqual(
+                [
+                    on_loop.supply(inc).name,
+                    on_loop.supply(flows.functools.partial(inc, 1)).name,
+                    on_loop.supply(Thing()).name,
+                    on_loop.promise().then(inc).name,
+                ],
+                ["inc", "inc", "Thing", "inc"],
+            )
+
         asyncio.run(main())
 
     def test_what_waits_by_asyncio_takes_stages_as_tasks(self):
         """And their tasks and they themselves tell their names."""
+
         async def named():
             return asyncio.current_task().get_name()
 
@@ -264,18 +291,21 @@ class Loops(unittest.TestCase):
             self.assertRegex(repr(stages[1]), r"^<Stage at 0x[0-9a-f]+ state=finished returned int name='stage 1'>$")
             self.assertRegex(repr(on_loop.promise("a\n\x1bb")), r"state=pending name='a\\n\\x1bb'>$")
             self.assertEqual(await on_loop.supply(named).named("load"), "load")
+
         asyncio.run(main())
 
     def test_interrupts_and_exits_leave_the_loop(self):
         """As those of asyncio's tasks do. The stage has it, and what is behind it is run all the same, once the loop
         goes on."""
         for kind in (KeyboardInterrupt, SystemExit):
+
             async def later():
                 await asyncio.sleep(0)
                 raise kind
 
             def now():
                 raise kind
+
             for raises in (now, later):
                 loop = asyncio.new_event_loop()
                 loop.set_exception_handler(lambda *_: None)
@@ -297,18 +327,22 @@ class Loops(unittest.TestCase):
 
             async def later():
                 raise Wild
+
             for raises in (wild, later):
                 self.assertEqual(await on_loop.supply(raises).recover(lambda error: type(error)), Wild)
+
         asyncio.run(main())
 
     def test_what_a_callback_raises_keeps_no_function_waiting(self):
         """It leaves the loop, or is told there. What its stage made ready is called all the same."""
         for kind in (Wild, KeyboardInterrupt, SystemExit):
+
             def raises(_):
                 raise kind
 
             async def later():
                 await asyncio.sleep(0)
+
             for call in (str, later):
                 loop, told = asyncio.new_event_loop(), []
                 loop.set_exception_handler(lambda _, context: told.append(context.get("exception")))
@@ -326,6 +360,7 @@ class Loops(unittest.TestCase):
 
     def test_what_else_a_loop_has_to_do_comes_between(self):
         """Functions that go on and on don't hold it up."""
+
         async def main():
             on_loop, seen = LoopService(asyncio.get_running_loop()).request(), []
 
@@ -333,11 +368,13 @@ class Loops(unittest.TestCase):
                 seen.append(left)
                 if left:
                     on_loop.supply(again, left - 1)
+
             on_loop.supply(again, 5)
             asyncio.get_running_loop().call_soon(seen.append, "else")
             while 0 not in seen:
                 await asyncio.sleep(0)
             self.assertLess(seen.index("else"), seen.index(0))
+
         asyncio.run(main())
 
     def test_other_threads_complete(self):
@@ -346,6 +383,7 @@ class Loops(unittest.TestCase):
             behind = loop_promise.then(inc)
             threading.Timer(0.02, loop_promise.complete, [1]).start()
             self.assertEqual(await asyncio.wait_for(asyncio.wrap_future(behind), 5), 2)
+
         asyncio.run(main())
 
     def test_threads_stages_are_awaited(self):
@@ -360,6 +398,7 @@ class Loops(unittest.TestCase):
                 task.cancel()
                 await asyncio.sleep(0.01)
                 self.assertTrue(loop_promise.cancelled())
+
         asyncio.run(main())
 
     def test_a_loop_that_is_closed_before_it_uses_a_turn(self):

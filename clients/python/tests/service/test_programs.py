@@ -157,6 +157,7 @@ class Program:
             if self.chance.random() < 0.2:
                 raise self.chance.choice((Oops, *LEAVES))
             return number
+
         return call
 
     def composing(self, request):
@@ -165,8 +166,8 @@ class Program:
         def compose(*given):
             call(*given)
             other = self.chance.choice([request, self.any_request()])
-            return other.supply(self.function()) if self.chance.random() < 0.5 and not other._works.closed else \
-                self.promise(other)
+            return other.supply(self.function()) if self.chance.random() < 0.5 and not other._works.closed else self.promise(other)
+
         return compose
 
     def coroutine(self):
@@ -176,6 +177,7 @@ class Program:
             call(*given)
             await asyncio.sleep(self.chance.randrange(5))
             return call(*given)
+
         return later
 
     def callback(self):
@@ -189,6 +191,7 @@ class Program:
             self.within()
             if kind is not None:
                 raise kind
+
         return call
 
     def within(self):
@@ -241,21 +244,40 @@ class Program:
         stage, other = self.any_stage(request), self.any_stage(None if self.chance.random() < 0.2 else request)
         is_on_loop = request._works is not self.works
         call = self.coroutine() if is_on_loop and self.chance.random() < 0.4 else self.function()
-        made = self.chance.choice((
-            lambda: request.supply(call), lambda: self.promise(request), lambda: stage.then(call),
-            lambda: stage.handle(call), lambda: stage.when_done(call), lambda: stage.recover(call),
-            lambda: stage.combine(other, call), lambda: stage.either(other, call),
-            lambda: stage.compose(self.composing(request)), lambda: stage.recover_compose(self.composing(request)),
-            lambda: request.all_of(stage, other), lambda: request.first_of(other, stage),
-            lambda: request.gather(stage, other, stage), lambda: request.adopt(other)))()
+        made = self.chance.choice(
+            (
+                lambda: request.supply(call),
+                lambda: self.promise(request),
+                lambda: stage.then(call),
+                lambda: stage.handle(call),
+                lambda: stage.when_done(call),
+                lambda: stage.recover(call),
+                lambda: stage.combine(other, call),
+                lambda: stage.either(other, call),
+                lambda: stage.compose(self.composing(request)),
+                lambda: stage.recover_compose(self.composing(request)),
+                lambda: request.all_of(stage, other),
+                lambda: request.first_of(other, stage),
+                lambda: request.gather(stage, other, stage),
+                lambda: request.adopt(other),
+            )
+        )()
         self.stages.append(made)
         if self.chance.random() < 0.3:
             made.add_done_callback(self.callback())
 
     def settles(self):
         stage = self.chance.choice(self.open_ones) if self.open_ones and self.chance.random() < 0.5 else self.any_stage()
-        self.chance.choice((lambda: stage.complete(1), lambda: stage.fail(Oops()), stage.cancel, stage.abandon,
-                            stage.set_running_or_notify_cancel, lambda: self.any_request().cancel()))()
+        self.chance.choice(
+            (
+                lambda: stage.complete(1),
+                lambda: stage.fail(Oops()),
+                stage.cancel,
+                stage.abandon,
+                stage.set_running_or_notify_cancel,
+                lambda: self.any_request().cancel(),
+            )
+        )()
 
     def limits(self):
         stage, seconds = self.any_stage(), self.chance.randrange(-1, 5)
@@ -284,6 +306,7 @@ class Program:
     def awaits(self):
         async def waits_for(stage):
             return await stage
+
         if self.tasks and self.chance.random() < 0.5:
             self.chance.choice(self.tasks).cancel()
         else:
@@ -297,8 +320,19 @@ class Program:
 
     def step(self):
         """Does something, which may be interrupted, or refused behind an end."""
-        acts = (self.opens, self.starts, *[self.attaches] * 6, *[self.settles] * 3, self.limits, self.time_passes,
-                *[self.uses_a_turn] * 4, self.runs_a_thread, self.loops, self.awaits, self.ends)
+        acts = (
+            self.opens,
+            self.starts,
+            *[self.attaches] * 6,
+            *[self.settles] * 3,
+            self.limits,
+            self.time_passes,
+            *[self.uses_a_turn] * 4,
+            self.runs_a_thread,
+            self.loops,
+            self.awaits,
+            self.ends,
+        )
         act = self.chance.choice(acts)
         self.lines.append("    " * self.depth + act.__name__)
         try:
@@ -333,8 +367,12 @@ class Program:
                 with contextlib.suppress(*LEAVES):
                     act()
             is_quiet = not self.works.turns and not self.works_threads.left and not self.works.alarms
-            if is_quiet and not self.loop._ready and not self.loop._scheduled and \
-                    seen == (len(self.lines), [request._events for request in self.requests]):
+            if (
+                is_quiet
+                and not self.loop._ready
+                and not self.loop._scheduled
+                and seen == (len(self.lines), [request._events for request in self.requests])
+            ):
                 return
         self.why.append("it goes on and on")
 

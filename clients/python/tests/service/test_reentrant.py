@@ -26,6 +26,7 @@ class Reentrant(CoreCase):
             def __del__(self):
                 promise, kind, given = self.kept
                 promise.request._change(kind, THIS_THREAD, promise, given)
+
         known = gc.get_threshold()
         try:
             for kind, given in ((COMPLETE, ("outer", "inner")), (FAIL, (OSError("outer"), OSError("inner")))):
@@ -41,8 +42,7 @@ class Reentrant(CoreCase):
                     del held
                     if not inner.done():
                         gc.collect()
-                    self.assertEqual([it._result if kind == COMPLETE else it._exception for it in (outer, inner)],
-                                     list(given), allocations)
+                    self.assertEqual([it._result if kind == COMPLETE else it._exception for it in (outer, inner)], list(given), allocations)
                     self.fits(reentered)
         finally:
             gc.set_threshold(*known)
@@ -61,6 +61,7 @@ class Reentrant(CoreCase):
 
             def __call__(self, *_):
                 return 5
+
         first = reentered.promise()
         stage = reentered.supply(Odd(lambda: reentered.promise("within").complete(1)))
         self.assertEqual((stage.name, stage.result(9)), ("Odd", 5))
@@ -80,11 +81,12 @@ class Reentrant(CoreCase):
         class Many:
             def __call__(self, *_):
                 return 1
+
         many = Many()
         many.__qualname__ = 17
-        names = [self.request.supply(call).name
-                 for call in (Called(), operator.itemgetter(0), functools.partial(self.fits, 1), str.upper, "x".upper,
-                              many)]
+        names = [
+            self.request.supply(call).name for call in (Called(), operator.itemgetter(0), functools.partial(self.fits, 1), str.upper, "x".upper, many)
+        ]
         self.assertEqual(names, ["Called", "itemgetter", "CoreCase.fits", "str.upper", "str.upper", "17"])
 
     def test_what_is_dropped_calls_its_request(self):
@@ -106,6 +108,7 @@ class Reentrant(CoreCase):
             promise.add_done_callback(Dropped())
             promise.cancel()
             reentered.promise().complete_on_timeout(Dropped(), 1000).complete(1)
+
         thread = threading.Thread(target=work, daemon=True)
         thread.start()
         thread.join(30)
@@ -126,6 +129,7 @@ class Collected(Case):
 
             def __del__(self):
                 self.promise.complete("gone")
+
         for _ in range(50):
             kept_by_last = self.service.request().promise()
             Last(kept_by_last)

@@ -9,7 +9,7 @@ from case import program
 from cf.service._core import IS_MODULE
 
 
-@unittest.skipUnless(IS_MODULE, 'of the module')
+@unittest.skipUnless(IS_MODULE, "of the module")
 class RefusedMemory(unittest.TestCase):
     def test_refused_memory(self):
         """Each allocation of the module's calls in turn is refused: what raises changed nothing or all, and the
@@ -18,7 +18,8 @@ class RefusedMemory(unittest.TestCase):
             import _testcapi  # noqa: F401
         except ImportError:
             self.skipTest("no _testcapi")
-        out, err, status = program("""
+        out, err, status = program(
+            """
             import _testcapi, functools, operator, types
             flow = Flow()
             flow.promise().then(abs)
@@ -62,14 +63,16 @@ class RefusedMemory(unittest.TestCase):
                 assert seen.result(0) in (5, 6)
                 return refused
             print(sum(trial(n) for n in range(12)) > 20)
-        """)
+        """
+        )
         self.assertEqual((out, status), ("True\n", 0), err)
 
 
 class RoomOfMemory(unittest.TestCase):
     def test_there_is_room_for_all_that_a_call_tells(self):
         """Python looks behind each piece of memory when that is freed, as at the end."""
-        out, err, status = program("""
+        out, err, status = program(
+            """
             with Service(1) as service:
                 request = service.request()
                 promise = request.promise()
@@ -77,7 +80,9 @@ class RoomOfMemory(unittest.TestCase):
                 promise.complete(1)
                 print(all(it.done() for it in every))
             del request, promise, every, service
-        """, PYTHONMALLOC="debug")
+        """,
+            PYTHONMALLOC="debug",
+        )
         self.assertEqual((out, status), ("True\n", 0), err)
 
 

@@ -25,8 +25,11 @@ class Relays(CoreCase):
     def setUp(self):
         super().setUp()
         self.loop = asyncio.new_event_loop()
-        self.stop = {"a stage": self.service.request("server").promise("stop"),
-                     "a future": concurrent.futures.Future(), "of asyncio": self.loop.create_future()}
+        self.stop = {
+            "a stage": self.service.request("server").promise("stop"),
+            "a future": concurrent.futures.Future(),
+            "of asyncio": self.loop.create_future(),
+        }
 
     def tearDown(self):
         self.loop.close()
@@ -66,6 +69,7 @@ class Relays(CoreCase):
 
         def adopted(relaying, stop):
             return relaying.adopt(stop)
+
         for kind, stop in self.stop.items():
             for make in (first_of, first_of_many, either, combined, gathered, composed, adopted):
                 if kind == "of asyncio" and make is composed:
@@ -84,8 +88,7 @@ class Relays(CoreCase):
                 while any(it() is not None for it in known) and time.monotonic() < until:
                     gc.collect()  # (a thread may still have one for a moment)
                     time.sleep(0.001)
-                self.assertEqual((len([it for it in known if it() is not None]), len(stop._relays)), (0, 0),
-                                 f"{make.__name__} with {kind}")
+                self.assertEqual((len([it for it in known if it() is not None]), len(stop._relays)), (0, 0), f"{make.__name__} with {kind}")
 
     def test_relays_that_are_settled_leave_the_future(self):
         for kind, stop in self.stop.items():
@@ -127,6 +130,7 @@ class Relays(CoreCase):
     def test_what_a_callback_raises_breaks_no_row(self):
         def raises(_):
             raise Wild
+
         for kind in ("a stage", "a future"):
             stop = self.stop[kind]
             relays = [self.service.request().adopt(stop) for _ in range(5)]
@@ -146,6 +150,7 @@ class Relays(CoreCase):
         class Mute(concurrent.futures.Future):
             def add_done_callback(self, fn):
                 raise OSError("refused")
+
         odd = Odd()
         relay = self.request.adopt(odd)
         odd.set_result(1)
@@ -158,8 +163,9 @@ class Relays(CoreCase):
         """As timed out, or with a bad answer. Where somebody failed it with an exception of such a class, the relay
         fails with that."""
         for kind, error, says, cause in (
-                (FAIL_AS, TimeoutError("x"), "relay times out 0 relay of p of a\n", "timeout"),
-                (FAIL_BADLY, cf.BadAnswer("x"), "relay fails 0 relay of p of a with a bad answer\n", "badanswer")):
+            (FAIL_AS, TimeoutError("x"), "relay times out 0 relay of p of a\n", "timeout"),
+            (FAIL_BADLY, cf.BadAnswer("x"), "relay fails 0 relay of p of a with a bad answer\n", "badanswer"),
+        ):
             adopted_stage, b = self.service.request("a").promise("p"), self.service.request("b")
             relays = [b.adopt(adopted_stage)]
             self.assertTrue(adopted_stage.request._change(kind, CLIENT, adopted_stage, error))
@@ -167,8 +173,9 @@ class Relays(CoreCase):
             self.assertTrue(all(relay.exception(0) is error for relay in relays))
             history = b.history()
             self.assertIn(says, str(history))
-            self.assertEqual([step for step in json.loads(history.script())["steps"] if step[0] != "attach"],
-                             [["failAs", 0, cause], ["failAs", 1, cause]])
+            self.assertEqual(
+                [step for step in json.loads(history.script())["steps"] if step[0] != "attach"], [["failAs", 0, cause], ["failAs", 1, cause]]
+            )
             self.fits(b)
             adopted_future, adopted_stage = concurrent.futures.Future(), self.service.request("a").promise("p")
             adopted_future.set_exception(error)
@@ -191,6 +198,7 @@ class Relays(CoreCase):
                     gate.wait()
                     for _ in range(20):
                         relays.append(self.service.request().adopt(stop))
+
                 threads = [threading.Thread(target=adopts) for _ in range(2)]
                 for thread in threads:
                     thread.start()
@@ -212,6 +220,7 @@ class Relays(CoreCase):
             def done(self):
                 self.asked, is_first = True, not self.asked
                 return not is_first and super().done()
+
         late = Late()
         late.set_result(7)
         self.assertEqual(self.service.request().adopt(late).result(10), 7)
@@ -228,8 +237,7 @@ class Relays(CoreCase):
         service.shutdown()
         with self.assertRaises(RuntimeError):
             relaying.gather(adopted_future)
-        self.assertEqual((len(relaying._facts()[2]), len(full._facts()[2]), hasattr(adopted_future, "_relays")),
-                         (0, 4093, False))
+        self.assertEqual((len(relaying._facts()[2]), len(full._facts()[2]), hasattr(adopted_future, "_relays")), (0, 4093, False))
 
 
 if __name__ == "__main__":

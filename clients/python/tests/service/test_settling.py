@@ -26,8 +26,7 @@ class Settling(Case):
         self.assertFalse(settling.done())
         self.assertTrue(settling.complete(1))
         self.assertFalse(settling.complete(2) or settling.fail(Oops()) or settling.cancel() or settling.abandon())
-        self.assertEqual((settling.result(), settling.done(), settling.cancelled(), settling.running()),
-                         (1, True, False, False))
+        self.assertEqual((settling.result(), settling.done(), settling.cancelled(), settling.running()), (1, True, False, False))
         with self.assertRaises(InvalidStateError):
             settling.set_result(1)
         with self.assertRaises(InvalidStateError):
@@ -45,9 +44,21 @@ class Settling(Case):
         self.service.shutdown()
         self.assertIn("too late", str(self.request.history()))
 
+    def test_a_request_is_cancelled_from_its_last_stage_on(self):
+        """No function that takes exceptions is called because of what the request's cancelling does."""
+        called = threading.Event()
+        first = self.request.promise("first")
+        first.handle(lambda value, error: called.set()).named("handled")
+        first.add_done_callback(lambda _: called.wait(0.5))  # as long as a thread of the service takes to call it
+        self.request.cancel()
+        self.service.shutdown()
+        self.assertFalse(called.is_set())
+        self.assertEqual([line.split(" ends: ")[0].split()[-1] for line in self.request.history().lines() if " ends: " in line], ["handled", "first"])
+
     def test_one_settles_in_every_order(self):
         """A function, a limit and three callers: the first settles the stage, and `cancel` does nothing while the
         function runs."""
+
         def test(world):
             ran, told = [], []
             stage = world.service.request("r").supply(ran.append, 1).or_timeout(1)
@@ -66,8 +77,7 @@ class Settling(Case):
         seen = set()
         report = orders(test)
         self.assertEqual((report.whole, list(map(str, report.failed))), (True, []))
-        self.assertEqual(seen, {("cancelled", False), ("cancelled", True), (2, False), (2, True), (None, True),
-                                ("late", False), ("late", True)})
+        self.assertEqual(seen, {("cancelled", False), ("cancelled", True), (2, False), (2, True), (None, True), ("late", False), ("late", True)})
 
     def test_a_request_is_cancelled(self):
         """All that is open is, also what runs and what a callback would have kept from it; what is settled stays."""
@@ -110,6 +120,7 @@ class Settling(Case):
                 raises()
             except Oops as error:
                 return [frame.name for frame in traceback.extract_tb(error.__traceback__)]
+
         for stage in stages:
             for raises in (stage.result, lambda: asyncio.run(main(stage))):
                 first, *others = [frames_of(raises) for _ in range(3)]
@@ -139,11 +150,14 @@ class SettlingUnderTheLock(CoreCase):
             def add_result(self, _stage):
                 begun.set()
                 goes_on.wait(30)
+
         first = r.promise()
         second = r.all_of(first)
         first._waiters.append(Slow())
-        threads = [threading.Thread(target=first.complete, args=[1]),
-                   threading.Thread(target=lambda: told.append((second.complete(2), second.done())))]
+        threads = [
+            threading.Thread(target=first.complete, args=[1]),
+            threading.Thread(target=lambda: told.append((second.complete(2), second.done()))),
+        ]
         threads[0].start()
         self.assertTrue(begun.wait(30))
         threads[1].start()
@@ -166,6 +180,7 @@ class SettlingUnderTheLock(CoreCase):
 
             def __exit__(self, *_cause):
                 lock.release()
+
         r._lock = Before()
         try:
             self.assertFalse(settling.cancel())

@@ -37,8 +37,7 @@ class Shutdown(unittest.TestCase):
         handed_in = [of_ending.supply(time.sleep, 0.01).then(done.append) for _ in range(20)]
         ending.shutdown()
         self.assertEqual((len(done), all(stage.done() for stage in handed_in)), (20, True))
-        for attach in (lambda: ending.submit(str), lambda: of_ending.supply(str), lambda: handed_in[0].then(str),
-                       lambda: handed_in[0].compose(str)):
+        for attach in (lambda: ending.submit(str), lambda: of_ending.supply(str), lambda: handed_in[0].then(str), lambda: handed_in[0].compose(str)):
             with self.assertRaises(RuntimeError):
                 attach()
 
@@ -67,6 +66,7 @@ class Shutdown(unittest.TestCase):
                     lets_end.set()
                     until(super().empty)
                 return was
+
         ending._works._turns = Taken()
         handed_in = [ending.submit(lets_end.wait, 20), ending.submit(str)]
         ends = threading.Thread(target=ending.shutdown, kwargs={"wait": False, "cancel_futures": True}, daemon=True)
@@ -95,6 +95,7 @@ class Shutdown(unittest.TestCase):
             entered.set()
             lets_end.wait(20)
             start(thread)
+
         submits = threading.Thread(target=lambda: handed_in.append(ending.submit(time.sleep, 0.1)))
         ends = threading.Thread(target=ending.shutdown)
         with starting(late):
@@ -152,7 +153,8 @@ class Shutdown(unittest.TestCase):
         self.assertTrue(running.result(0))
 
     def test_exit_with_work_open(self):
-        out, err, status = program("""
+        out, err, status = program(
+            """
             service = Service(2)
             r = service.request()
             promise = r.promise()
@@ -161,17 +163,20 @@ class Shutdown(unittest.TestCase):
             done.then(lambda _: print("and behind", flush=True))
             r.promise().or_timeout(100)
             service = r = done = None
-        """)
+        """
+        )
         self.assertEqual((out, err, status), ("done\nand behind\n", "", 0))
 
     def test_exit_in_a_callback(self):
-        out, err, status = program("""
+        out, err, status = program(
+            """
             service = Service(2)
             stage = service.submit(str, 1)
             stage.result()
             stage.add_done_callback(lambda _: print("told"))
             raise SystemExit(3)
-        """)
+        """
+        )
         self.assertEqual((out, status), ("told\n", 3), err)
 
     def test_dropped_service_ends(self):
@@ -196,6 +201,7 @@ class Initializers(unittest.TestCase):
                 if next(numbers):
                     fail.wait(20)
                     fails()
+
             running = initialized.submit(lambda: begun.set() or lets_end.wait(20))
             self.assertTrue(begun.wait(20))
             with self.assertLogs("concurrent.futures", "CRITICAL"):

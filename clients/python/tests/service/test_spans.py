@@ -90,26 +90,21 @@ class InFiles(unittest.TestCase):
                     load = request.supply(inc, 1)
                     self.assertEqual(load.then(fails).recover(lambda _: 3).result(20), 3)
         (name, spans), (_, others) = self.spans()
-        self.assertEqual((name, [span["name"] for span in spans]),
-                         ("shop", ["order 17", "inc", "fails", spans[3]["name"]]))
+        self.assertEqual((name, [span["name"] for span in spans]), ("shop", ["order 17", "inc", "fails", spans[3]["name"]]))
         self.assertNotEqual(spans[0]["traceId"], others[0]["traceId"])
         self.assertEqual({(len(span["traceId"]), span["traceId"]) for span in spans}, {(32, spans[0]["traceId"])})
-        self.assertEqual([span["spanId"] for span in spans],
-                         ["f" * 16, *(f"{k:016x}" for k in (1, 2, 3))])
+        self.assertEqual([span["spanId"] for span in spans], ["f" * 16, *(f"{k:016x}" for k in (1, 2, 3))])
         self.assertEqual([span.get("parentSpanId") for span in spans], [None] + ["f" * 16] * 3)
-        self.assertEqual([[link["spanId"] for link in span["links"]] for span in spans],
-                         [[], [], [f"{1:016x}"], [f"{2:016x}"]])
-        self.assertEqual([span["status"] for span in spans],
-                         [{"code": 1}, {"code": 1}, {"code": 2, "message": "Oops('x')"}, {"code": 1}])
+        self.assertEqual([[link["spanId"] for link in span["links"]] for span in spans], [[], [], [f"{1:016x}"], [f"{2:016x}"]])
+        self.assertEqual([span["status"] for span in spans], [{"code": 1}, {"code": 1}, {"code": 2, "message": "Oops('x')"}, {"code": 1}])
         stage, caller, form = spans[2]["attributes"]
-        self.assertEqual((stage, form), ({"key": "cf.stage", "value": {"intValue": "1"}},
-                                         {"key": "cf.form", "value": {"stringValue": "apply"}}))
+        self.assertEqual((stage, form), ({"key": "cf.stage", "value": {"intValue": "1"}}, {"key": "cf.form", "value": {"stringValue": "apply"}}))
         self.assertRegex(caller["value"]["stringValue"], "^worker [01]$")
-        self.assertEqual([[event["name"] for event in span["events"]] for span in spans],
-                         [[], [], ["exception"], []])
-        self.assertEqual(spans[2]["events"][0]["attributes"], [
-            {"key": "exception.type", "value": {"stringValue": "case.Oops"}},
-            {"key": "exception.message", "value": {"stringValue": "Oops('x')"}}])
+        self.assertEqual([[event["name"] for event in span["events"]] for span in spans], [[], [], ["exception"], []])
+        self.assertEqual(
+            spans[2]["events"][0]["attributes"],
+            [{"key": "exception.type", "value": {"stringValue": "case.Oops"}}, {"key": "exception.message", "value": {"stringValue": "Oops('x')"}}],
+        )
         times = [(int(span["startTimeUnixNano"]), int(span["endTimeUnixNano"])) for span in spans]
         self.assertEqual(sorted(times[1:]), times[1:])
         self.assertTrue(before <= times[0][0] <= times[1][0] <= times[1][1] <= times[3][1] <= times[0][1])
@@ -120,9 +115,10 @@ class InFiles(unittest.TestCase):
             request = service.request("r")
             request.supply(fails)
         ((_, (_, span)),) = self.spans()
-        self.assertEqual((span["status"], span["events"][0]["attributes"]),
-                         ({"code": 2, "message": "Oops"},
-                          [{"key": "exception.message", "value": {"stringValue": "Oops"}}]))
+        self.assertEqual(
+            (span["status"], span["events"][0]["attributes"]),
+            ({"code": 2, "message": "Oops"}, [{"key": "exception.message", "value": {"stringValue": "Oops"}}]),
+        )
 
     def test_odd_names_and_requests_without_events(self):
         with Service(1, on_end=SpanFile(self.path, "\ud800")) as service:
@@ -168,8 +164,7 @@ class Statuses(unittest.TestCase):
         self.request.promise().complete(1)
         self.request.supply(fails).then(inc).exception(20)
         self.request.promise().cancel()
-        self.assertEqual([(span.name, span.status, span.message) for span in self.spans()],
-                         [("r", 2, "Oops('x')"), ("fails", 2, "Oops('x')")])
+        self.assertEqual([(span.name, span.status, span.message) for span in self.spans()], [("r", 2, "Oops('x')"), ("fails", 2, "Oops('x')")])
 
     def test_cancelled(self):
         self.request.promise().cancel()
@@ -179,13 +174,13 @@ class Statuses(unittest.TestCase):
         def late():
             begun.set()
             gate.wait(20)
+
         gate, begun = threading.Event(), threading.Event()
         stage = self.request.supply(late)
         self.assertTrue(begun.wait(20))
         self.assertIsInstance(stage.or_timeout(0.001).exception(20), TimeoutError)
         whole, running = self.spans()
-        self.assertEqual((whole.end, running.status, running.message, whole.message),
-                         (running.end, 2, "timed out", "timed out"))
+        self.assertEqual((whole.end, running.status, running.message, whole.message), (running.end, 2, "timed out", "timed out"))
         gate.set()
         self.assertTrue(until(lambda: "finishes" in str(self.request.history())))
         self.assertGreater(self.spans()[1].end, running.end)
@@ -208,9 +203,10 @@ class Statuses(unittest.TestCase):
         both = first.combine(second, lambda a, b: a + b).named("both")
         self.request = self.service.start(flow, 4)
         self.assertEqual(self.request[both].result(20), 7)
-        self.assertEqual([(span.name, span.attributes.get("cf.form"), list(span.sources)) for span in self.spans()],
-                         [(self.request.name, None, []), ("inc", "supply", []), ("inc", "apply", []),
-                          ("both", "combine", [0, 2])])
+        self.assertEqual(
+            [(span.name, span.attributes.get("cf.form"), list(span.sources)) for span in self.spans()],
+            [(self.request.name, None, []), ("inc", "supply", []), ("inc", "apply", []), ("both", "combine", [0, 2])],
+        )
 
 
 class AtOpenTelemetry(unittest.TestCase):
@@ -228,19 +224,16 @@ class AtOpenTelemetry(unittest.TestCase):
         whole, load, failed = tracing.spans
         expected = spans_of(request.history())
         for told, span in zip(tracing.spans, expected):
-            self.assertEqual((told.name, told.attributes, told.status),
-                             (span.name, span.attributes, (span.status, span.message or None)))
+            self.assertEqual((told.name, told.attributes, told.status), (span.name, span.attributes, (span.status, span.message or None)))
             self.assertTrue(abs(told.start - span.start) < 10**10 and told.ended - told.start == span.end - span.start)
         self.assertEqual((whole.parent, load.parent, failed.parent), (outer, whole, whole))
         self.assertEqual((whole.links, load.links, failed.links), ([], [], [load]))
         ((name, attributes, at),) = failed.events
-        self.assertEqual((name, attributes, at), (
-            "exception", {"exception.type": "case.Oops", "exception.message": "Oops('x')"}, failed.ended))
+        self.assertEqual((name, attributes, at), ("exception", {"exception.type": "case.Oops", "exception.message": "Oops('x')"}, failed.ended))
 
     def test_a_tracer_of_the_users(self):
         tracing = Tracing()
-        with unittest.mock.patch.dict(sys.modules, {"opentelemetry": types.ModuleType("opentelemetry"),
-                                                    "opentelemetry.trace": Tracing()}):
+        with unittest.mock.patch.dict(sys.modules, {"opentelemetry": types.ModuleType("opentelemetry"), "opentelemetry.trace": Tracing()}):
             hook = Spans(tracing)
             with Service(1, on_end=hook) as service:
                 service.submit(inc, 1).result(20)
@@ -252,6 +245,7 @@ class AtOpenTelemetry(unittest.TestCase):
         from opentelemetry.sdk.trace import TracerProvider
         from opentelemetry.sdk.trace.export import SimpleSpanProcessor
         from opentelemetry.sdk.trace.export.in_memory_span_exporter import InMemorySpanExporter
+
         provider, exporter = TracerProvider(), InMemorySpanExporter()
         provider.add_span_processor(SimpleSpanProcessor(exporter))
         tracer = provider.get_tracer("test")
@@ -262,12 +256,12 @@ class AtOpenTelemetry(unittest.TestCase):
                 self.assertIsInstance(inside.then(fails).exception(20), Oops)
         told = {span.name: span for span in exporter.get_finished_spans()}
         whole, failed = told["order 17"], told["fails"]
-        self.assertEqual((whole.parent.span_id, failed.parent.span_id),
-                         (outer.get_span_context().span_id, whole.context.span_id))
+        self.assertEqual((whole.parent.span_id, failed.parent.span_id), (outer.get_span_context().span_id, whole.context.span_id))
         self.assertEqual([link.context.span_id for link in failed.links], [told["get_current_span"].context.span_id])
-        self.assertEqual((failed.status.status_code, failed.status.description, failed.events[0].name,
-                          whole.status.status_code), (trace.StatusCode.ERROR, "Oops('x')", "exception",
-                                                      trace.StatusCode.ERROR))
+        self.assertEqual(
+            (failed.status.status_code, failed.status.description, failed.events[0].name, whole.status.status_code),
+            (trace.StatusCode.ERROR, "Oops('x')", "exception", trace.StatusCode.ERROR),
+        )
         self.assertTrue(whole.start_time <= failed.start_time <= failed.end_time <= whole.end_time)
         self.assertEqual(dict(failed.attributes)["cf.stage"], 1)
 

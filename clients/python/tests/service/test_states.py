@@ -61,6 +61,7 @@ def flow_of(begins):
 
 def given_up(stage):
     """What becomes of a stage whose `await` is given up, or what it gives at once."""
+
     async def main():
         task = asyncio.ensure_future(stage)
         await asyncio.sleep(0)
@@ -69,6 +70,7 @@ def given_up(stage):
             return await task
         except asyncio.CancelledError:
             return "cancelled" if stage.cancelled() else "goes on"
+
     return asyncio.run(main())
 
 
@@ -116,10 +118,12 @@ class Its:
         request, value, promise, done = self.request, self.value, self.promise, concurrent.futures.Future()
         done.set_result(1)
         return {
-            "supply": lambda: request.supply(inc, 1), "submit": lambda: self.service.submit(inc, 1),
+            "supply": lambda: request.supply(inc, 1),
+            "submit": lambda: self.service.submit(inc, 1),
             "then, behind a value": lambda: value.then(inc),
             "compose, behind a value": lambda: value.compose(lambda _: value),
-            "gather, of values": lambda: request.gather(value, value), "all_of, of values": lambda: request.all_of(value),
+            "gather, of values": lambda: request.gather(value, value),
+            "all_of, of values": lambda: request.all_of(value),
             "first_of, of values": lambda: request.first_of(value, promise),
             "adopt, of a future that is done": lambda: request.adopt(done),
             "complete, of a promise": lambda: promise.complete(1) and promise,
@@ -134,13 +138,16 @@ class Its:
             "start, of one that waits": lambda: self.start(lambda flow: flow.promise(), 1),
             "result(0), of a promise": lambda: promise.result(0),
             "wait(0), for a promise": lambda: len(concurrent.futures.wait([promise, value], 0).not_done),
-            "cancel, of what runs": self.runs.cancel, "abandon, of what runs": lambda: (self.runs.abandon(), self.runs)[1],
+            "cancel, of what runs": self.runs.cancel,
+            "abandon, of what runs": lambda: (self.runs.abandon(), self.runs)[1],
             "an await of what runs, given up": lambda: given_up(self.runs),
             "an await of a promise, given up": lambda: given_up(promise),
             "cancel, of a request": lambda: request.cancel() or promise,
             "history": lambda: "0 promise ends: 1" in str(request.history()) or str(request.history()),
-            "end, of a request": self.end, "shutdown": self.shutdown,
-            "shutdown, which cancels": lambda: self.shutdown(cancel_futures=True)}
+            "end, of a request": self.end,
+            "shutdown": self.shutdown,
+            "shutdown, which cancels": lambda: self.shutdown(cancel_futures=True),
+        }
 
     def comes_to(self, call):
         """What a call comes to, as a text."""
@@ -163,9 +170,11 @@ def ended(its):
 
 def interrupted(its):
     """The start of the clock's thread is interrupted, and so is a call that waits."""
+
     def start(thread, real):
         real(thread)
         raise KeyboardInterrupt
+
     for call in (lambda: its.request.promise().or_timeout(1000), lambda: its.service.request().promise().or_timeout(900)):
         with starting(start):
             try:

@@ -76,12 +76,12 @@ class Threads(unittest.TestCase):
     def test_100_threads(self):
         with Service(100) as pooled:
             request, gate = pooled.request(), threading.Barrier(100)
-            self.assertEqual(len(set(request.gather(*[request.supply(gate.wait, 20) for _ in range(100)]).result(30))),
-                             100)
+            self.assertEqual(len(set(request.gather(*[request.supply(gate.wait, 20) for _ in range(100)]).result(30))), 100)
             self.assertIn("worker 60 claims", str(request.history()))
 
     def test_all_that_one_event_makes_ready_goes_on_at_once(self):
         """Whatever the event is: each of three functions waits for the other two."""
+
         def a_finish(request):
             opens = threading.Event()
             return request.supply(opens.wait, 20), opens.set
@@ -106,10 +106,19 @@ class Threads(unittest.TestCase):
             def way(request):
                 promise = request.promise()
                 return promise, lambda: settle(promise)
+
             return way
-        ways = {"finish": a_finish, "failure": a_failure, "future": a_future, "followed": a_followed_one,
-                "limit": a_limit, "complete": of_a_promise(lambda it: it.complete(1)),
-                "fail": of_a_promise(lambda it: it.fail(OSError())), "cancel": of_a_promise(lambda it: it.cancel())}
+
+        ways = {
+            "finish": a_finish,
+            "failure": a_failure,
+            "future": a_future,
+            "followed": a_followed_one,
+            "limit": a_limit,
+            "complete": of_a_promise(lambda it: it.complete(1)),
+            "fail": of_a_promise(lambda it: it.fail(OSError())),
+            "cancel": of_a_promise(lambda it: it.cancel()),
+        }
         with Service(3) as pooled:
             for name, way in ways.items():
                 request, gate = pooled.request(), threading.Barrier(3)

@@ -58,6 +58,7 @@ class Limits(Case):
         def take_told(request):
             request._begin(CLIENT)
             real(request)
+
         with unittest.mock.patch.object(kind, "_take_told", take_told):
             late = self.request.promise().or_timeout(0.01)
             self.assertIsInstance(late.exception(5), TimeoutError)
@@ -80,13 +81,11 @@ class Limits(Case):
         held, goes_on, timed = threading.Event(), threading.Event(), self.request
         timed.promise().or_timeout(0).add_done_callback(lambda _: held.set() or goes_on.wait(20))
         self.assertTrue(held.wait(20))
-        late = [timed.promise().or_timeout(0.01).or_timeout(0.02),
-                timed.promise().or_timeout(0).complete_on_timeout(1, 0)]
+        late = [timed.promise().or_timeout(0.01).or_timeout(0.02), timed.promise().or_timeout(0).complete_on_timeout(1, 0)]
         given = [timed.promise().complete_on_timeout(2, 0).or_timeout(0), timed.promise().complete_on_timeout(None, 0)]
         time.sleep(0.05)
         goes_on.set()
-        self.assertEqual([str(stage.exception(20)) for stage in late],
-                         ["promise took longer than 0.01 s", "promise took longer than 0 s"])
+        self.assertEqual([str(stage.exception(20)) for stage in late], ["promise took longer than 0.01 s", "promise took longer than 0 s"])
         self.assertEqual([stage.result(20) for stage in given], [2, None])
 
     def test_limits_of_one_moment(self):
@@ -105,6 +104,7 @@ class Limits(Case):
 
     def test_a_limit_that_is_set_while_time_passes(self):
         """It gets a moment that hasn't passed: what it gives isn't at hand by now."""
+
         class Passing(_machine.Limits):
             def setdefault(it, moment, given):
                 it.passed = max(it.passed, 7)
@@ -165,11 +165,11 @@ class Limits(Case):
         class Last:
             def __del__(it):
                 limited = self.request.promise
-                asks = threading.Thread(
-                    target=lambda: told_late.append(limited().complete_on_timeout(1, 0.01).result(20)))
+                asks = threading.Thread(target=lambda: told_late.append(limited().complete_on_timeout(1, 0.01).result(20)))
                 asks.start()
                 asks.join(5)
                 told_late.append(asks.is_alive())
+
         self.request.promise().complete_on_timeout(Last(), 1000).complete(1)
         self.assertTrue(until(lambda: len(told_late) == 2))
         self.assertEqual(told_late, [1, False])
@@ -215,6 +215,7 @@ class Limits(Case):
                     late.append(it)
                     late.append(self.request.promise().complete_on_timeout(1, 0.05))
                 return super().__contains__(number)
+
         with unittest.mock.patch.object(clock, "_wanted", Wanted(clock._wanted)):
             while not late:
                 self.service.request().promise().or_timeout(1000).complete(1)
@@ -233,8 +234,12 @@ class Causes(Case):
         self.assertIsInstance(behind.exception(20), TimeoutError)
         self.assertFalse(timed._change(FAIL_AS, CLOCK, late, TimeoutError()))
         late_history = timed.history()
-        for part in ("clock times out 0 late\n", "0 late ends: timed out\n", "1 inc ends: timed out, passed on\n",
-                     "clock times out 0 late: too late"):
+        for part in (
+            "clock times out 0 late\n",
+            "0 late ends: timed out\n",
+            "1 inc ends: timed out, passed on\n",
+            "clock times out 0 late: too late",
+        ):
             self.assertIn(part, str(late_history))
         script, before = json.loads(late_history.script()), json.loads(late_history.script(2))
         self.assertEqual((script["cf"], script["steps"]), (3, before["steps"] + [["failAs", 0, "timeout"]] * 2))
@@ -317,17 +322,33 @@ class Causes(Case):
         """All that stand behind a stage which timed out have its exception, whenever they are told."""
         timed, told_late = self.request, []
         late, slow = timed.promise("late"), timed.promise("slow")
-        behind_late = [late.then(inc), late.either(slow, inc), timed.first_of(slow, late),
-                       late.when_done(lambda *_: None), late.combine(slow, max), slow.combine(late, max),
-                       timed.all_of(slow, late), timed.gather(slow, late),
-                       timed.supply(str).compose(lambda _: late), self.service.request("other").adopt(late),
-                       self.service.request("other").supply(str).compose(lambda _: late)]
-        calls = [late.recover(told_late.append), late.handle(lambda _, error: told_late.append(error)),
-                 late.recover_compose(lambda error: [told_late.append(error), slow][1])]
+        behind_late = [
+            late.then(inc),
+            late.either(slow, inc),
+            timed.first_of(slow, late),
+            late.when_done(lambda *_: None),
+            late.combine(slow, max),
+            slow.combine(late, max),
+            timed.all_of(slow, late),
+            timed.gather(slow, late),
+            timed.supply(str).compose(lambda _: late),
+            self.service.request("other").adopt(late),
+            self.service.request("other").supply(str).compose(lambda _: late),
+        ]
+        calls = [
+            late.recover(told_late.append),
+            late.handle(lambda _, error: told_late.append(error)),
+            late.recover_compose(lambda error: [told_late.append(error), slow][1]),
+        ]
         error = late.or_timeout(0.01).exception(20)
         self.assertTrue(slow.complete(1))
-        behind_late += [late.then(inc), late.then(inc).then(inc), timed.all_of(slow, late),
-                        timed.supply(str).compose(lambda _: late), late.when_done(lambda *_: None)]
+        behind_late += [
+            late.then(inc),
+            late.then(inc).then(inc),
+            timed.all_of(slow, late),
+            timed.supply(str).compose(lambda _: late),
+            late.when_done(lambda *_: None),
+        ]
         calls += [late.then(inc).recover(told_late.append)]
         self.assertEqual([late_stage.exception(20) for late_stage in behind_late], [error] * len(behind_late))
         concurrent.futures.wait(calls, 20)
@@ -337,8 +358,7 @@ class Causes(Case):
         """A composing stage has that of the higher stage which its function gave."""
         timed, late = self.request, []
         ends = [timed.supply(str).compose(lambda _: late.append(timed.promise("late")) or late[-1]) for _ in range(2)]
-        ends.append(timed.supply(dict).then(lambda it: it["x"]).recover_compose(
-            lambda _: late.append(timed.promise("late")) or late[-1]))
+        ends.append(timed.supply(dict).then(lambda it: it["x"]).recover_compose(lambda _: late.append(timed.promise("late")) or late[-1]))
         self.assertTrue(until(lambda: len(late) == 3))
         errors = {late_stage.or_timeout(0.01).exception(20) for late_stage in late}
         self.assertEqual({end.exception(20) for end in ends}, errors)

@@ -11,7 +11,9 @@ import time
 import unittest
 
 from case import Case, CoreCase, Oops, until
+from cf.service import Service
 from cf.service._core import IS_MODULE
+from cf.service.watch import Watch
 from cf.testing import orders
 
 
@@ -32,8 +34,12 @@ class Waiting(Case):
         """Stages settle while threads begin to wait for them, in each of four ways."""
         for k in range(300):
             awaited = [self.service.request().promise() for _ in range(3)]
-            asks = [lambda: awaited[0].result(10), lambda: concurrent.futures.wait(awaited, 10).not_done,
-                    lambda: list(concurrent.futures.as_completed(awaited, 10)), lambda: heard.wait(10)]
+            asks = [
+                lambda: awaited[0].result(10),
+                lambda: concurrent.futures.wait(awaited, 10).not_done,
+                lambda: list(concurrent.futures.as_completed(awaited, 10)),
+                lambda: heard.wait(10),
+            ]
             heard, woken = threading.Event(), []
             waiters = [threading.Thread(target=lambda ask=ask: woken.append(ask())) for ask in asks]
             for waiter in waiters:
@@ -46,8 +52,27 @@ class Waiting(Case):
             self.assertEqual(len(woken), 4)
             self.assertIn(set(), woken)
 
+    def test_a_watch_is_told_who_waits(self):
+        class Reads(Watch):
+            def __init__(self):
+                self.stages = []
+
+            def now(self, request):
+                return 0
+
+            def read(self, stage):
+                self.stages.append(stage)
+
+        watch = Reads()
+        with Service(1, watch=watch) as service:
+            promise = service.request("r").promise()
+            watch.stages.clear()
+            with promise._condition:  # as concurrent.futures.wait does
+                self.assertEqual(watch.stages, [promise])
+
     def test_all_are_waited_for_in_every_order(self):
         """Two stages are completed by two callers, before, while and after somebody begins to wait for both."""
+
         def test(world):
             awaited = [world.service.request(name).promise() for name in ("one", "two")]
             for stage in awaited:
@@ -56,6 +81,7 @@ class Waiting(Case):
             done = concurrent.futures.wait(awaited)
             self.assertEqual((done.done, done.not_done), (set(awaited), set()))
             self.assertTrue(all(stage.done() for stage in awaited))
+
         report = orders(test)
         self.assertEqual((report.whole, list(map(str, report.failed))), (True, []))
         self.assertGreater(report.orders, 3)
@@ -69,6 +95,7 @@ class Ends(Case):
 
             def wait(row=(first, second), to=told):
                 to.append(concurrent.futures.wait(row, 30, "FIRST_EXCEPTION").not_done)
+
             waits = threading.Thread(target=wait)
             waits.start()
             self.assertTrue(until(lambda: first._waiters and second._waiters))
@@ -84,6 +111,7 @@ class WaitersThatRaise(CoreCase):
     def test_waiters_that_raise(self):
         """One of those who wait raises as it is told, as an interrupt may: the others are told, each once, and who
         waits for a result wakes."""
+
         class Waiter:
             def __init__(self, error=None):
                 self.told, self.error = 0, error
@@ -92,6 +120,7 @@ class WaitersThatRaise(CoreCase):
                 self.told += 1
                 if self.error is not None and self.told == 1:
                     raise self.error
+
         if not IS_MODULE:
             self.skipTest("by ctypes an interrupt may lose a waiter, as within concurrent.futures")
         awaited, got = self.request.promise(), []

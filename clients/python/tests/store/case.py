@@ -64,8 +64,10 @@ class Case(unittest.TestCase):
     def worker(self, address=None, lease=None, more=()):
         head = "import sys; sys.path[:0] = %r; from cf import worker; sys.exit(worker.main(sys.argv[1:]))"
         paths = [str(HERE)] + ([] if os.environ.get("CF_INSTALLED") else [str(CLIENT)])
-        process = subprocess.Popen([sys.executable, "-c", head % paths, "--store", address or self.address, "--lease",
-                                    str(lease or self.lease), *more, "shared_functions"], stderr=subprocess.PIPE)
+        process = subprocess.Popen(
+            [sys.executable, "-c", head % paths, "--store", address or self.address, "--lease", str(lease or self.lease), *more, "shared_functions"],
+            stderr=subprocess.PIPE,
+        )
         self.processes.append(process)
         return process
 

@@ -19,9 +19,12 @@ class BadRows(Case):
     def test_bad_plans_leave_others_alone(self):
         """Plans of another version, or that are none: each is told with its request, and others go on."""
         store = connect(self.address)
-        bad = {"old": '{"cf":2,"flow":"","stages":[]}', "text": "no plan",
-               "low": '{"cf":3,"flow":"","stages":[{"form":"apply","of":[7],"name":"s"}]}',
-               "odd": '{"cf":3,"flow":"","stages":[{"form":"supply","name":"s","args":5}]}'}
+        bad = {
+            "old": '{"cf":2,"flow":"","stages":[]}',
+            "text": "no plan",
+            "low": '{"cf":3,"flow":"","stages":[{"form":"apply","of":[7],"name":"s"}]}',
+            "odd": '{"cf":3,"flow":"","stages":[{"form":"supply","name":"s","args":5}]}',
+        }
         for name, plan in bad.items():
             store.open(name, plan)
         with self.assertLogs("cf.store", "ERROR") as logs:
@@ -64,8 +67,7 @@ class BadRows(Case):
         composes = ATTACH << 56 | 1 << 36 | 1 << 32 | 12 << 24 | 2, b'{"name":"loading","fn":"loading","version":1}'
         to_0 = composes[0], composes[1][:-1] + b',"to":0}'
         links = [(CLAIM << 56 | 2 << 36, None), (FINISH << 56 | 2 << 36 | 3 << 32, b'{"stage":9}')]
-        rows = {"no promise": [promise, promise, composes, completes],
-                "no stage": [promise, promise, to_0, completes, *links], "no timer": [promise]}
+        rows = {"no promise": [promise, promise, composes, completes], "no stage": [promise, promise, to_0, completes, *links], "no timer": [promise]}
         for name, words in rows.items():
             view = RowView(store, store.open(name, EMPTY), new_session())
             view.act(lambda view, words=words: [(word | view.who << 48, said) for word, said in words])
@@ -78,8 +80,7 @@ class BadRows(Case):
             self.assertEqual(service.request("no timer").supply(f.load, 1).result(20)["number"], 1)
             service.shutdown()
         told = "\n".join(logs.output)
-        for part in ("'no promise', place 3: stage 2 composes", "'no stage', place 6: its payload can't be read",
-                     "'no timer': place 2: a timer"):
+        for part in ("'no promise', place 3: stage 2 composes", "'no stage', place 6: its payload can't be read", "'no timer': place 2: a timer"):
             self.assertIn(part, told)
         self.assertNotIn("CRITICAL", told)
         store.close()

@@ -13,8 +13,7 @@ from case import Case, STORES, Watched
 import shared_functions as f
 from cf.service import Flow
 from cf.service.words import ATTACH, CANCEL, CLAIM, COMPLETE
-from cf.store import (Broken, connect, DurableService, Memory, new_session, RowView, service as shared_service,
-                       Timer, Unknown)
+from cf.store import Broken, connect, DurableService, Memory, new_session, RowView, service as shared_service, Timer, Unknown
 from cf.store.plans import text_of
 from cf.store.request import DurableRequest
 
@@ -31,8 +30,7 @@ class Closing(Case):
         for name, claims in (("last", False), ("claimed", True)):
             view = RowView(store, store.open(name, text_of(flow, f.functions)), new_session())
             words = [(CLAIM << 56 | 1 << 36, None)] if claims else []
-            view.act(lambda view: [(word | view.who << 48, None)
-                                   for word in [it for it, _ in words] + [COMPLETE << 56, CANCEL << 56 | 1 << 36]])
+            view.act(lambda view: [(word | view.who << 48, None) for word in [it for it, _ in words] + [COMPLETE << 56, CANCEL << 56 | 1 << 36]])
             self.assertTrue(view.is_settled(one.number) and view.is_settled(two.number))
         self.until(lambda: not store.ends())
         store.close()
@@ -51,6 +49,7 @@ class Closing(Case):
                 closers.append(threading.Thread(target=reopened._end_if_done))
                 closers[0].start()
                 closers[0].join(0.5)
+
         reopened._view.words = Watched(reopened._view.words, close)
         store = connect(self.address)
         store.reopen("r")
@@ -122,10 +121,12 @@ class Closing(Case):
         def append_groups(puts):
             real(puts)
             raise SystemExit("killed")
+
         return append_groups
 
     def test_an_attach_that_the_store_is_silent_about(self):
         """It stands, and is worked on."""
+
         class Silent(Memory):
             is_silent = False
 
@@ -135,6 +136,7 @@ class Closing(Case):
                     self.is_silent = False
                     raise Unknown("silent")
                 return told
+
         store, flow = Silent(), Flow("order")
         flow.promise("p")
         closing_service = DurableService(store, 1, functions=f.functions, lease=0.5)
@@ -161,8 +163,7 @@ class Closing(Case):
                 other = RowView(store, store.find(self.name), new_session())
                 news, store.news = store.news, lambda mark: ({}, mark)  # (it doesn't look for a moment)
                 other.catch_up()
-                other.act(lambda view: [(COMPLETE << 56 | view.who << 48, None), (CANCEL << 56 | view.who << 48 | 1 << 36,
-                                                                                 None)])
+                other.act(lambda view: [(COMPLETE << 56 | view.who << 48, None), (CANCEL << 56 | view.who << 48 | 1 << 36, None)])
                 store.end(self.name, 2)
                 store.news = news
                 self.until(lambda waits=waits: waits.done())
@@ -210,6 +211,7 @@ class NamesUsedAgain(Case):
 
     def test_a_request_that_is_dropped_as_it_is_begun(self):
         """Another of its name is begun meanwhile, with another plan: whoever began the first is told that."""
+
         def flow(many):
             made = Flow()
             for _ in range(many):
@@ -226,6 +228,7 @@ class NamesUsedAgain(Case):
                     it.drop(name)
                     begun.append(closing_service.start(flow(2), name=name))
                 return found
+
         begun, closing_service = [], DurableService(Meanwhile(), 0, functions=f.functions)
         self.services.append(closing_service)
         with self.assertRaises(Broken):
@@ -241,6 +244,7 @@ class NamesUsedAgain(Case):
 
         def ends(_):
             raise SystemExit("of a callback")
+
         other.add_done_callback(ends)
         waits, done = old.promise(), [old.supply(f.inc, k).result(20) for k in range(3)]
         self.assertEqual(done, [1, 2, 3])

@@ -14,6 +14,7 @@ from cf.store import Broken, connect, DurableService, Functions, Json, Memory, R
 class Codecs(Case):
     def test_a_codec(self):
         """A codec of one's own is what writes values and exceptions."""
+
         class Sets(Json):
             def write(self, value):
                 return super().write({"set": sorted(value)} if isinstance(value, set) else value)
@@ -21,6 +22,7 @@ class Codecs(Case):
             def read(self, given):
                 read = super().read(given)
                 return set(read["set"]) if isinstance(read, dict) and "set" in read else read
+
         functions = Functions()
         more = functions.function("more")(lambda them: them | {3})
         coding_service = DurableService(connect(self.address), 1, functions=functions, codec=Sets())
@@ -31,16 +33,19 @@ class Codecs(Case):
 
     def test_a_codec_that_ends(self):
         """Whatever a codec raises, its stage is shown, and no claim is left."""
+
         class Ends(Json):
             def read(self, given):
                 return sys.exit("of a codec") if b"unread" in given else super().read(given)
 
             def write_error(self, error):
                 return sys.exit("of a codec") if isinstance(error, KeyError) else super().write_error(error)
+
         functions = Functions()
 
         def fails():
             raise KeyError(1)
+
         fails = functions.function("fails")(fails)
         coding_service = DurableService(Memory(), 1, functions=functions, codec=Ends())
         self.services.append(coding_service)
@@ -62,24 +67,31 @@ class Codecs(Case):
         coded, odd = coding_service.request("r"), [float("nan"), float("inf"), -float("inf")]
         promise = coded.promise()
         for it in odd:
-            for call in (lambda it=it: promise.complete([it]), lambda it=it: coded.supply(function, it),
-                         lambda it=it: promise.complete_on_timeout(it, 1), lambda it=it: coding_service.submit(function, it)):
+            for call in (
+                lambda it=it: promise.complete([it]),
+                lambda it=it: coded.supply(function, it),
+                lambda it=it: promise.complete_on_timeout(it, 1),
+                lambda it=it: coding_service.submit(function, it),
+            ):
                 with self.assertRaises(TypeError) as told:
                     call()
                 self.assertIn("JSON has nothing for it", str(told.exception))
         self.assertEqual((coded.seen, len(coding_service.store.ends())), (1, 1))
         self.assertIn("JSON has nothing for it", str(coded.supply(function, 1).exception(20)))
-        self.assertEqual(coded.supply(function, 1).exception(20).args, coding_service.codec.read_error(
-            coding_service.codec.write_error(TypeError("JSON has nothing for it: Out of range float values are not JSON "
-                                                       "compliant"))).args)
-        self.assertIsInstance(coding_service.codec.read_error(coding_service.codec.write_error(ValueError(odd[0]))),
-                              ValueError)
+        self.assertEqual(
+            coded.supply(function, 1).exception(20).args,
+            coding_service.codec.read_error(
+                coding_service.codec.write_error(TypeError("JSON has nothing for it: Out of range float values are not JSON compliant"))
+            ).args,
+        )
+        self.assertIsInstance(coding_service.codec.read_error(coding_service.codec.write_error(ValueError(odd[0]))), ValueError)
 
     def test_remote_errors(self):
         codec = Json()
 
         class Ours(Exception):
             pass
+
         told = codec.read_error(codec.write_error(Ours("why", object())))
         self.assertIsInstance(told, RemoteError)
         self.assertIn("Ours", str(told))
@@ -88,15 +100,17 @@ class Codecs(Case):
 
     def test_odd_exceptions(self):
         """Whatever a function raises or gives fails its stage, and leaves no claim behind."""
+
         class Unshown(Exception):
             def __str__(self):
                 raise TypeError("no text")
-        functions, given = Functions(), [Unshown(object()), FileNotFoundError(2, "none", "\udcff"), RecursionError(),
-                                         SystemExit(3)]
+
+        functions, given = Functions(), [Unshown(object()), FileNotFoundError(2, "none", "\udcff"), RecursionError(), SystemExit(3)]
 
         @functions.function("odd")
         def odd(k):
             raise given[k]
+
         half = functions.function("half")(lambda: "\ud800")
         coding_service = DurableService(connect(self.address), 2, functions=functions)
         self.services.append(coding_service)

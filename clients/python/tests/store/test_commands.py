@@ -42,8 +42,7 @@ class Commands(Case):
         program.chmod(0o755)
         self.assertEqual(len(json.loads(self.run_it("show", "order 17", "--page", str(program))[1])["events"]), 4)
         self.assertEqual(self.run_it("show", "order 17", "--page", str(program) + "?")[0], 1)
-        self.assertEqual(self.run_it("end", "order 17", "--cancel")[:2],
-                         (0, "order 17 is closed, 1 stages were cancelled\n"))
+        self.assertEqual(self.run_it("end", "order 17", "--cancel")[:2], (0, "order 17 is closed, 1 stages were cancelled\n"))
         self.assertNotIn("order 17", self.run_it("list")[1])
         self.assertIn("order 17", self.run_it("list", "--closed")[1])
         self.assertEqual(self.run_it("drop", "--days", "1")[1], "0 dropped\n")
@@ -77,24 +76,39 @@ class Commands(Case):
         sqlite3.connect(folder / "other.db").execute("create table t (x)").connection.close()
         (folder / "empty.db").touch()
         before = sorted(folder.iterdir())
-        for path, why in ((folder / "nowhere.db", "there is no such file"), (folder, "Is a directory"),
-                          (other, "file is not a database"), (folder / "other.db", "no requests"),
-                          (folder / "empty.db", "no requests")):
+        for path, why in (
+            (folder / "nowhere.db", "there is no such file"),
+            (folder, "Is a directory"),
+            (other, "file is not a database"),
+            (folder / "other.db", "no requests"),
+            (folder / "empty.db", "no requests"),
+        ):
             for words in (["list"], ["serve"]):
                 with self.subTest(f"{path} {words}"):
-                    done = subprocess.run([sys.executable, "-m", "cf.requests", "--store", f"sqlite:///{path}", *words],
-                                          stderr=subprocess.PIPE, timeout=60, env=dict(os.environ, PYTHONPATH=str(CLIENT)))
+                    done = subprocess.run(
+                        [sys.executable, "-m", "cf.requests", "--store", f"sqlite:///{path}", *words],
+                        stderr=subprocess.PIPE,
+                        timeout=60,
+                        env=dict(os.environ, PYTHONPATH=str(CLIENT)),
+                    )
                     self.assertEqual((done.returncode, why in done.stderr.decode()), (2, True), done.stderr)
         with self.assertRaisesRegex(StoreError, "not a database"):
             connect(f"sqlite:///{other}")
         self.assertEqual(sorted(folder.iterdir()), before)
 
     def test_the_worker_command(self):
-        for words in (["--store", "nothing://", "shared_functions"], ["--store", self.address, "json"],
-                      ["--store", self.address, "no.such.module"],
-                      ["--store", self.address, "--codec", "shared_functions:functions", "shared_functions"]):
-            done = subprocess.run([sys.executable, "-m", "cf.worker", *words], stderr=subprocess.PIPE, timeout=60,
-                                  env=dict(os.environ, PYTHONPATH=os.pathsep.join([str(HERE), str(CLIENT)])))
+        for words in (
+            ["--store", "nothing://", "shared_functions"],
+            ["--store", self.address, "json"],
+            ["--store", self.address, "no.such.module"],
+            ["--store", self.address, "--codec", "shared_functions:functions", "shared_functions"],
+        ):
+            done = subprocess.run(
+                [sys.executable, "-m", "cf.worker", *words],
+                stderr=subprocess.PIPE,
+                timeout=60,
+                env=dict(os.environ, PYTHONPATH=os.pathsep.join([str(HERE), str(CLIENT)])),
+            )
             self.assertEqual(done.returncode, 2, done.stderr)
             self.assertTrue(done.stderr.startswith(b"cf.worker: "), done.stderr)
 

@@ -19,8 +19,12 @@ class DurableHistories(Case):
         recorded = service.request("order 17")
         self.assertEqual(recorded.supply(f.load, 17).then(f.fails).recover(f.text).result(20), "sorry, card declined")
         history = recorded.history()
-        for part in ("order 17: 9 events, 3 stages", "attaches 0 load, supply",
-                     "1 fails ends: PermissionError('card declined')", "2 text ends: 'sorry, card declined'"):
+        for part in (
+            "order 17: 9 events, 3 stages",
+            "attaches 0 load, supply",
+            "1 fails ends: PermissionError('card declined')",
+            "2 text ends: 'sorry, card declined'",
+        ):
             self.assertIn(part, str(history))
         self.assertEqual(len(json.loads(history.account())["events"]), 9)
 
@@ -35,8 +39,12 @@ class DurableHistories(Case):
             asks.join(2)
             told.append(asks.is_alive())
             return "own"
-        for describe, words in ((None, ("dict of 2", "PermissionError", "str of 20")),
-                                (describe_nothing, ("-", "-", "-")), (own, ("own", "own", "own"))):
+
+        for describe, words in (
+            (None, ("dict of 2", "PermissionError", "str of 20")),
+            (describe_nothing, ("-", "-", "-")),
+            (own, ("own", "own", "own")),
+        ):
             recorded, told = service.request(f"order\n{self.name} {words}", describe=describe), []
             sorry = recorded.supply(f.load, 17).then(f.fails).recover(f.text)
             self.assertEqual(sorry.result(20), "sorry, card declined")

@@ -44,6 +44,21 @@ class DurableStages(Case):
             self.assertEqual(durable.first_of(durable.promise(), number).result(20), 17)
             self.assertIsInstance(durable.supply(f.odd).exception(20), TypeError)
 
+    def test_stages_of_many(self):
+        """A tree of stages says what one stage of all would, of however many."""
+        for service, name in self.each():
+            durable = service.request(name)
+            for many in range(2, 6):
+                for last in range(many):
+                    stages = [durable.promise() for _ in range(many)]
+                    together, first = durable.all_of(*stages), durable.first_of(*stages)
+                    stages[last].complete(last)
+                    self.assertEqual(first.result(20), last)
+                    for stage in stages[:last] + stages[last + 1 :]:
+                        self.assertFalse(together.done())
+                        stage.complete(None)
+                    self.assertIsNone(together.result(20))
+
     def test_settling(self):
         for service, name in self.each():
             durable = service.request(name)
@@ -84,14 +99,12 @@ class DurableStages(Case):
             self.assertIsInstance(number.compose(f.both).exception(20), TypeError)
             self.assertIsInstance(durable.supply(f.fails).compose(f.loading).exception(20), PermissionError)
             late = number.compose(f.waiting)
-            self.until(lambda durable=durable: any(it["name"] == "late" for it in
-                                                   map(durable._view.said, range(len(durable._view.forms)))))
+            self.until(lambda durable=durable: any(it["name"] == "late" for it in map(durable._view.said, range(len(durable._view.forms)))))
             self.assertFalse(late.done())
             durable["late"].complete(None)
             self.assertIsNone(late.result(20))
             again = number.compose(f.waiting)
-            self.until(lambda durable=durable: [it["name"] for it in map(
-                durable._view.said, range(len(durable._view.forms)))].count("late") == 2)
+            self.until(lambda durable=durable: [it["name"] for it in map(durable._view.said, range(len(durable._view.forms)))].count("late") == 2)
             names = [it["name"] for it in map(durable._view.said, range(len(durable._view.forms)))]
             self.assertTrue(durable[len(names) - 1 - names[::-1].index("late")].cancel())
             self.assertIsInstance(again.exception(20) if not again.cancelled() else CancelledError(), CancelledError)
@@ -121,8 +134,7 @@ class DurableStages(Case):
         for service, name in self.each():
             flow, total, both, sorry = self.flow()
             durable = service.start(flow, 10, name=name)
-            self.assertEqual((durable[total].result(20), durable[both].result(20), durable[sorry].result(20)),
-                             (15, [15, 15], "sorry, card declined"))
+            self.assertEqual((durable[total].result(20), durable[both].result(20), durable[sorry].result(20)), (15, [15, 15], "sorry, card declined"))
             self.until(lambda: name not in service.store.ends())
             same = service.start(flow, 99, name=name)
             self.assertEqual(same[total].result(5), 15)
@@ -203,6 +215,7 @@ class DurableStages(Case):
             except BaseException as error:
                 self.told.append(error)
                 raise
+
         dead = DurableService(mute, 2, functions=functions, lease=1000)
         lives = DurableService(store, 2, functions=functions, lease=0.2)
         self.services += [dead, lives]
@@ -223,11 +236,11 @@ class DurableStages(Case):
         self.until(lambda: not request._view.claims())
         said = [request._view.said(k) for k in range(len(request._view.forms))]
         self.assertEqual(sorted(self.calls), [20, 20])
-        self.assertEqual([it["name"] for it in said if it.get("by") == behind.number],
-                         ["counted", "note", "counted", "add"])
+        self.assertEqual([it["name"] for it in said if it.get("by") == behind.number], ["counted", "note", "counted", "add"])
         self.assertIsInstance(request[behind.number].exception(20), Abandoned)
-        self.assertEqual([it.cancelled() for it in (request["what attaches again gives"], request[last.number - 2])],
-                         [False, True])  # (the second further try had nothing to do)
+        self.assertEqual(
+            [it.cancelled() for it in (request["what attaches again gives"], request[last.number - 2])], [False, True]
+        )  # (the second further try had nothing to do)
 
     def test_a_try_that_is_dead_only_for_others(self):
         """It attaches nothing once its stage is another's, and its finish comes too late."""
@@ -292,6 +305,7 @@ class DurableStages(Case):
                 stands = super().append(put)
                 puts.extend([[(word >> 56, word >> 36 & 0xFFF) for word, _ in put.entries]] if stands is None else [])
                 return stands
+
         service = DurableService(Kept(), 1, functions=f.functions, lease=1000)
         self.services.append(service)
         durable = service.request("r")
@@ -316,6 +330,7 @@ class DurableStages(Case):
         def ends(stage):
             heard.append(stage)
             raise SystemExit("of a callback")
+
         durable = service.request("r")
         promise, other = durable.promise(), durable.promise()
         first = promise.then(f.inc)
@@ -346,6 +361,7 @@ class DurableStages(Case):
 
         def look():
             seen.extend((view.is_settled(k), view.told[k].kind == VALUE) for k in range(len(view.forms)))
+
         for name in ("forms", "kinds", "told", "places"):
             setattr(view, name, Watched(getattr(view, name), look))
         promise.complete(1), durable.promise()
@@ -354,6 +370,7 @@ class DurableStages(Case):
     def test_two_threads_that_show_a_stage(self):
         """Both have found it cancelled: none raises."""
         from concurrent.futures import Future
+
         durable, both, wrong = self.service().request("r"), threading.Barrier(2), []
         stage, cancel = durable.promise(), Future.cancel
 
@@ -368,6 +385,7 @@ class DurableStages(Case):
                 stage._show(None, None, True)
             except BaseException as error:
                 wrong.append(error)
+
         with unittest.mock.patch.object(Future, "cancel", meets):
             threads = [threading.Thread(target=show) for _ in range(2)]
             for thread in threads:
@@ -381,10 +399,12 @@ class DurableStages(Case):
 
         async def main():
             return await service.request().supply(f.load, 1)
+
         self.assertEqual(asyncio.run(main())["number"], 1)
 
     def test_an_await_that_is_given_up(self):
         """It leaves the stage as it is, for whoever else waits, and nothing of itself there."""
+
         async def given_up(stage):
             waits = [asyncio.ensure_future(stage) for _ in range(3)]
             await asyncio.sleep(0)
@@ -395,11 +415,13 @@ class DurableStages(Case):
             self.assertTrue(waits[0].cancelled() and not stage.done())
             stage.complete(17)
             return many, await waits[1], await waits[2], await stage
+
         for service, name in self.each():
             self.assertEqual(asyncio.run(given_up(service.request(name).promise())), (2, 17, 17, 17))
 
     def test_an_await_of_what_fails_or_is_cancelled(self):
         """As asyncio's own futures: also where the stage is settled already."""
+
         async def kinds(stages):
             waits = [asyncio.ensure_future(stage) for stage in stages]
             await asyncio.sleep(0)
@@ -407,29 +429,53 @@ class DurableStages(Case):
             stages[3].fail(PermissionError("no"))
             told = await asyncio.gather(*waits, return_exceptions=True)
             return told, await asyncio.gather(*stages, return_exceptions=True)
+
         durable = self.service().request("r")
         for told in asyncio.run(kinds([durable.promise() for _ in range(4)])):
-            self.assertEqual([type(it) for it in told], [asyncio.CancelledError, asyncio.CancelledError,
-                                                         TimeoutError, PermissionError])
+            self.assertEqual([type(it) for it in told], [asyncio.CancelledError, asyncio.CancelledError, TimeoutError, PermissionError])
+
+    def test_a_callback_that_raises_is_logged_and_the_others_are_called(self):
+        def raises(_):
+            raise KeyError("x")
+
+        stage, called = self.service().request("r").promise("answer"), []
+        for callback in (raises, called.append):
+            stage.add_done_callback(callback)
+        with self.assertLogs("concurrent.futures", "ERROR") as logs:
+            stage.complete(1)
+            self.until(lambda: called)
+        self.assertEqual((called, len(logs.output)), ([stage], 1))
+        self.assertIn("exception calling callback for", logs.output[0])
 
     def test_a_step_of_another_flow(self):
         """It names no stage of the request, whatever stands at its place; the same flow built again does."""
+
         def built(*names, name="order"):
             flow = Flow(name)
             return flow, [flow.promise(it) for it in names]
+
         for service, name in self.each():
             flow, (order, approval) = built("order", "approval")
             durable = service.start(flow, 17, name=name)
             again = built("order", "approval")[1]
             self.assertEqual(durable[again[1]], durable[approval])
-            for _, steps in (built("order", "fraud score", "approval"), built("order", "fraud score"), built("order"),
-                             built("order", "approval", "more"), built("order", "approval", name="other")):
+            for _, steps in (
+                built("order", "fraud score", "approval"),
+                built("order", "fraud score"),
+                built("order"),
+                built("order", "approval", "more"),
+                built("order", "approval", name="other"),
+            ):
                 for step in steps:
                     with self.assertRaises(KeyError) as told:
                         durable[step]
                     self.assertIn("is a step of another flow", str(told.exception))
             with self.assertRaises(KeyError):
                 service.request(name + "?")[order]
+            self.assertEqual(durable["approval"].number, 1)
+            for which in ("fraud score", -1, 2):
+                with self.subTest(which=which), self.assertRaises(KeyError):
+                    durable[which]
 
     def test_a_full_request(self):
         service = DurableService(Memory(), 0, functions=f.functions)

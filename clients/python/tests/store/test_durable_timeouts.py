@@ -31,10 +31,8 @@ class DurableTimeouts(Case):
             fails += [late.then(f.inc), stored.all_of(slow, late), late.when_done(f.nothing)]
             texts += [late.recover(f.text), fails[0].recover(f.text)]
             for stored_stage in fails:
-                self.assertEqual((type(stored_stage.exception(20)), str(stored_stage.exception())),
-                                 (TimeoutError, "late took longer than 0.05 s"))
-            self.assertEqual([stored_stage.result(20) for stored_stage in texts],
-                             ["sorry, late took longer than 0.05 s"] * 3)
+                self.assertEqual((type(stored_stage.exception(20)), str(stored_stage.exception())), (TimeoutError, "late took longer than 0.05 s"))
+            self.assertEqual([stored_stage.result(20) for stored_stage in texts], ["sorry, late took longer than 0.05 s"] * 3)
             history = stored.history()
             for part in (" times out 0 late\n", "0 late ends: timed out\n", " ends: timed out, passed on\n"):
                 self.assertIn(part, str(history))
@@ -49,19 +47,20 @@ class DurableTimeouts(Case):
         """A stage that composes ends as the one does that its function gives: as timed out, with that one's
         exception, or with a bad answer."""
         for service, name in self.each():
-            for failure, given, kind, text in ((TIMED_OUT, Json().write_error(TimeoutError("x")), TimeoutError, "x"),
-                                               (TIMED_OUT, None, TimeoutError, ""), (BAD_ANSWER, None, BadAnswer, "")):
+            for failure, given, kind, text in (
+                (TIMED_OUT, Json().write_error(TimeoutError("x")), TimeoutError, "x"),
+                (TIMED_OUT, None, TimeoutError, ""),
+                (BAD_ANSWER, None, BadAnswer, ""),
+            ):
                 stored = service.request(f"{name} {failure} {given}")
                 number = stored.promise("number")
                 composed = number.compose(f.waiting)
                 number.complete(1)
-                self.until(lambda: any(it["name"] == "late" for it in
-                                       map(stored._view.said, range(len(stored._view.forms)))))
+                self.until(lambda: any(it["name"] == "late" for it in map(stored._view.said, range(len(stored._view.forms)))))
                 self.assertTrue(stored._settle(FAIL_AS, stored["late"].number, given, failure=failure))
                 for stored_stage in (stored["late"], composed, composed.then(f.inc)):
                     self.assertEqual((type(stored_stage.exception(20)), str(stored_stage.exception())), (kind, text))
-                self.assertEqual([word >> 32 & 0xF for word in stored._view.words if word >> 56 == FAIL_AS],
-                                 [failure - TIMED_OUT] * 2)
+                self.assertEqual([word >> 32 & 0xF for word in stored._view.words if word >> 56 == FAIL_AS], [failure - TIMED_OUT] * 2)
 
     def test_a_promise_that_timed_out_before_it_was_linked_to(self):
         for service, name in self.each():
@@ -72,6 +71,7 @@ class DurableTimeouts(Case):
                 begun.set()
                 goes_on.wait(20)
                 return request.promise("late")
+
             service.function(f"composing {name}")(composing)
             composed = number.compose(composing)
             number.complete(1)
@@ -86,20 +86,19 @@ class DurableTimeouts(Case):
         late_store = Memory()
         view = RowView(late_store, late_store.open("r", EMPTY), new_session())
         given, stored_limit = Json().write_error(TimeoutError("p took longer than 1 s")), b'{"name":"p"}'
-        view.act(lambda view: [(ATTACH << 56 | view.who << 48, stored_limit)] * 2 +
-                 [(FAIL << 56 | view.who << 48 | view.place + 2, given)])
+        view.act(lambda view: [(ATTACH << 56 | view.who << 48, stored_limit)] * 2 + [(FAIL << 56 | view.who << 48 | view.place + 2, given)])
         late_store.set_timer(Timer("r", 1, 0.0, b"E" + given))
         service = DurableService(late_store, 1, functions=f.functions)
         self.services.append(service)
         stored = service.open("r")
         for stored_stage in (stored[0], stored[1], stored[0].then(f.inc), stored[1].then(f.inc)):
-            self.assertEqual((type(stored_stage.exception(20)), str(stored_stage.exception())),
-                             (TimeoutError, "p took longer than 1 s"))
+            self.assertEqual((type(stored_stage.exception(20)), str(stored_stage.exception())), (TimeoutError, "p took longer than 1 s"))
         self.assertIn("fails 0 p with TimeoutError('p took longer than 1 s')\n", str(stored.history()))
         self.assertIn(" times out 1 p\n", str(stored.history()))
 
     def test_a_timer_that_fails_once(self):
         """It stays until it has fired."""
+
         class Away(Memory):
             left = 0
 
@@ -112,6 +111,7 @@ class DurableTimeouts(Case):
             def drop_timer(self, request, stored_stage, number=0):
                 dropped.append(self.left)
                 super().drop_timer(request, stored_stage, number)
+
         late_store, dropped = Away(), []
         with unittest.mock.patch.object(shared_service, "PATIENCE", 0):
             service = DurableService(late_store, 1, functions=f.functions, lease=5)

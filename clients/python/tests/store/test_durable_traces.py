@@ -112,6 +112,7 @@ class Hooks(Case):
     def test_a_hook_that_raises_breaks_nothing(self):
         def hook(history):
             raise OSError("no exporter")
+
         with self.assertLogs("concurrent.futures", "WARNING") as logs:
             service = DurableService(Memory(), 1, functions=f.functions, on_end=hook)
             for name in "ab":
@@ -127,6 +128,7 @@ class Hooks(Case):
         def hook(history):
             gate.wait(20)
             self.told.append(history)
+
         service = DurableService(store, 1, functions=f.functions, on_end=hook)
         for name in "ab":
             request = service.request(name)
@@ -142,6 +144,7 @@ class Hooks(Case):
         def hook(history):
             time.sleep(0.2)
             self.told.append(history)
+
         service = DurableService(connect(self.address), 0, on_end=hook)
         for name in "ab":
             service.request(name).end()
@@ -181,11 +184,14 @@ class Contexts(Case):
             request = asks.request("r")
             promise = request.promise()
             stages = [within(name, promise.then, f.tenant) for name in ("acme", "umbrella")]
-            stages += [within("supplier", request.supply, f.tenant), within("both", promise.handle, f.tenant),
-                       within("after", request.supply(f.fails).recover, f.tenant), request.supply(f.tenant)]
+            stages += [
+                within("supplier", request.supply, f.tenant),
+                within("both", promise.handle, f.tenant),
+                within("after", request.supply(f.fails).recover, f.tenant),
+                request.supply(f.tenant),
+            ]
             within("completer", promise.complete, 1)
-            self.assertEqual([stage.result(20) for stage in stages],
-                             ["acme", "umbrella", "supplier", "both", "after", None])
+            self.assertEqual([stage.result(20) for stage in stages], ["acme", "umbrella", "supplier", "both", "after", None])
 
     def test_functions_that_compose(self):
         for asks in self.shared():
@@ -264,8 +270,7 @@ class Contexts(Case):
         store = Memory()
         service = DurableService(store, 1, functions=f.functions, contexts=f.contexts)
         self.services.append(service)
-        store.open("r", '{"cf":3,"flow":"","stages":[{"form":"supply","of":[],"name":"t","fn":"tenant","version":1}],'
-                        '"context":{"strange":[1]}}')
+        store.open("r", '{"cf":3,"flow":"","stages":[{"form":"supply","of":[],"name":"t","fn":"tenant","version":1}],' '"context":{"strange":[1]}}')
         self.assertIsNone(service.open("r")[0].result(20) if service.resume() else "")
 
     def test_the_hook_has_that_of_where_the_request_was_opened(self):
@@ -302,18 +307,17 @@ class AtOpenTelemetry(Case):
 
         def attach(given):
             return span.set(given)
+
         propagate.inject, propagate.extract = inject, lambda carrier: carrier.get("traceparent")
         context.attach = attach
-        named = {"opentelemetry": types.ModuleType("opentelemetry"), "opentelemetry.propagate": propagate,
-                 "opentelemetry.context": context}
+        named = {"opentelemetry": types.ModuleType("opentelemetry"), "opentelemetry.propagate": propagate, "opentelemetry.context": context}
         with unittest.mock.patch.dict(sys.modules, named):
             self.carrier = Trace()
 
     def test_the_span_that_is_current(self):
         functions, seen = Functions(), []
         current = functions.function("current")(lambda *_: self.span.get())
-        service = DurableService(Memory(), 1, functions=functions, contexts=[self.carrier],
-                                 on_end=lambda _: seen.append(self.span.get()))
+        service = DurableService(Memory(), 1, functions=functions, contexts=[self.carrier], on_end=lambda _: seen.append(self.span.get()))
         context, flow = contextvars.copy_context(), Flow("flow")
         context.run(self.span.set, "00-7-1-01")
         step = flow.supply(current)

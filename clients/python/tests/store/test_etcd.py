@@ -44,9 +44,26 @@ class Cluster:
         client, peer = (f"http://{HOST}:{its[k]}" for its in (self.ports, self.peers))
         cluster = ",".join(f"n{k}=http://{HOST}:{port}" for k, port in enumerate(self.peers))
         return subprocess.Popen(
-            ["etcd", "--name", f"n{k}", "--data-dir", f"{self.folder}/{k}", "--listen-client-urls", client,
-             "--advertise-client-urls", client, "--listen-peer-urls", peer, "--initial-advertise-peer-urls", peer,
-             "--initial-cluster", cluster], stdout=subprocess.DEVNULL, stderr=subprocess.DEVNULL)
+            [
+                "etcd",
+                "--name",
+                f"n{k}",
+                "--data-dir",
+                f"{self.folder}/{k}",
+                "--listen-client-urls",
+                client,
+                "--advertise-client-urls",
+                client,
+                "--listen-peer-urls",
+                peer,
+                "--initial-advertise-peer-urls",
+                peer,
+                "--initial-cluster",
+                cluster,
+            ],
+            stdout=subprocess.DEVNULL,
+            stderr=subprocess.DEVNULL,
+        )
 
     def until_it_answers(self):
         until = time.monotonic() + 60
@@ -129,7 +146,7 @@ class Between:
             while told := its.recv(65536):
                 if is_watch and self.halves and b"events" in told:
                     self.halves = False
-                    theirs.sendall(told[:len(told) // 2])
+                    theirs.sendall(told[: len(told) // 2])
                     break
                 if not (is_watch and self.is_silent):
                     theirs.sendall(told)
@@ -360,6 +377,7 @@ class OneMember(EtcdCase):
                 many.append(len(success))
                 return {"header": {"revision": "1"}, "responses": [{"response_range": {}} for _ in success]}
             return told
+
         known = self.followed()
         with unittest.mock.patch.object(self.store, "_txn", lagging):
             self.direct.open("c", "{}")
@@ -382,6 +400,7 @@ class OneMember(EtcdCase):
                 self.direct.open("r5", "{}"), self.direct.end("r4", 0)
                 self.store._post = post
                 return told
+
             self.store._post = meanwhile
             ends, mark = self.store.news(None)
             self.assertEqual(ends, {f"r{k}": 0 for k in range(1, 5)})
@@ -392,6 +411,7 @@ class OneMember(EtcdCase):
                 self.direct.open("r6", "{}"), self.cluster.compact()
                 self.store._post = post
                 return told
+
             self.store._post = compacted
             with self.assertRaises(Unknown):  # and so it is asked again
                 self.store.ends()

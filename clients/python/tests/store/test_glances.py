@@ -11,8 +11,7 @@ import unittest.mock
 from case import Case, STORES
 import shared_functions as f
 from cf.service import Flow
-from cf.store import (Abandoned, Broken, connect, DurableService, Grouped, Memory, new_session, Put, RowView, Store,
-                       StoreError, tables, Unknown)
+from cf.store import Abandoned, Broken, connect, DurableService, Grouped, Memory, new_session, Put, RowView, Store, StoreError, tables, Unknown
 from cf.store.glances import glance_of, read
 from cf.store.plans import text_of
 from cf.store.rows import FIRST, flow_of, Glance, Gone, Wanted
@@ -69,20 +68,20 @@ class Lists(Case):
                 def asked():
                     nonlocal mark
                     changes, mark = store.changes(mark)
-                    its = {it.name[len(self.name):]: it for it in changes.opened if it.name.startswith(self.name)}
+                    its = {it.name[len(self.name) :]: it for it in changes.opened if it.name.startswith(self.name)}
                     opened.update(its)
                     words.update({name: it.words for name, it in its.items()})
-                    words.update({name[len(self.name):]: it for name, it in changes.longer.items()
-                                  if name.startswith(self.name)})
-                    gone.update(it[len(self.name):] for it in changes.gone if it.startswith(self.name))
+                    words.update({name[len(self.name) :]: it for name, it in changes.longer.items() if name.startswith(self.name)})
+                    gone.update(it[len(self.name) :] for it in changes.gone if it.startswith(self.name))
                     return is_told(opened, words, gone)
+
                 self.until(asked)
                 return opened, words, gone
+
             first = store.open(self.name + "a", text_of(flow, f.functions))
             store.keep_glances([Glance(first.name, first.number, 0, "x")])
             opened, _, gone = changed()
-            self.assertEqual((opened["a"][1], *opened["a"][3:], gone), (
-                first.number, 0, "flow", Glance(first.name, first.number, 0, "x"), set()))
+            self.assertEqual((opened["a"][1], *opened["a"][3:], gone), (first.number, 0, "flow", Glance(first.name, first.number, 0, "x"), set()))
             self.assertAlmostEqual(opened["a"].opened, first.opened, 2)
             store.open(self.name + "b", text_of(flow, f.functions))
             store.append(Put(first.name, 0, [(1, 11), (2, 12)], {}))
@@ -128,8 +127,10 @@ class Lists(Case):
                 changes, mark = store.changes(mark)
                 found[:] = [changes]
                 return is_told(changes)
+
             self.until(asked)
             return found[0]
+
         told(lambda it: it.many is None)
         with unittest.mock.patch.object(tables, "BETWEEN_ALL", 3600.0):
             told(lambda _: mark.due > time.monotonic() + 3000)
@@ -166,8 +167,7 @@ class Lists(Case):
             mark = None
             changes, mark = store.changes(mark)
             if changes.many is not None:  # (the store in memory tells all)
-                self.assertEqual(([it.name for it in sorted(changes.opened)], changes.many, changes.gone),
-                                 (sorted(its)[:FIRST], len(its), []))
+                self.assertEqual(([it.name for it in sorted(changes.opened)], changes.many, changes.gone), (sorted(its)[:FIRST], len(its), []))
                 self.assertEqual([it.glance.said for it in changes.opened if it.name == "!007"], ["x"])
                 changes, mark = store.changes(mark)
                 self.assertEqual((len(changes.opened), changes.many, changes.gone), (len(its), None, []))
@@ -178,6 +178,7 @@ class Lists(Case):
                     changes, mark = store.changes(mark)
                     gone.update(changes.gone)
                     return gone == {"!000", "!001"}
+
                 store.end("!000", 0), store.drop("!001")
                 self.until(asked)
             for name in its:
@@ -192,8 +193,10 @@ class Lists(Case):
                 store.append(Put(it.name, 0, [(1, 11), (2, 12), (3, 13)], {1: b"one", 3: it.name.encode()}))
             wanted = [Wanted(names[0], numbers[0], 0), Wanted(names[1], numbers[1], 2), Wanted(names[2], numbers[2], 0)]
             rows = store.read_rows(wanted)
-            self.assertEqual({name: row[:2] for name, row in rows.items()}, {
-                names[0]: (its[0], [(1, 11), (2, 12), (3, 13)]), names[1]: (None, [(3, 13)]), names[2]: (its[2], [])})
+            self.assertEqual(
+                {name: row[:2] for name, row in rows.items()},
+                {names[0]: (its[0], [(1, 11), (2, 12), (3, 13)]), names[1]: (None, [(3, 13)]), names[2]: (its[2], [])},
+            )
             payloads = {1: b"one", 3: names[0].encode()}
             self.assertLessEqual(rows[names[0]].payloads.items(), payloads.items())
             places = {(names[0], numbers[0]): [1, 2, 3], (names[1], numbers[1]): [3]}
@@ -271,6 +274,7 @@ class Lists(Case):
         class Plain(Memory):
             overview, keep_glances, closed = Store.overview, Store.keep_glances, Store.closed
             name_session, session_names, words_put = Store.name_session, Store.session_names, Store.words_put
+
         store = Plain()
         store.open("b", text_of(Flow("flow"), f.functions)), store.open("a", "{}")
         store.end("a", 0), store.keep_glances([]), store.name_session(1, "x")
@@ -279,7 +283,7 @@ class Lists(Case):
         self.assertEqual((store.session_names(), store.words_put()), ({}, None))
 
     def test_the_flow_in_the_head_of_a_plan(self):
-        for name in ('', 'order', 'a "quoted" \\ name', "x" * 100, "é\n"):
+        for name in ("", "order", 'a "quoted" \\ name', "x" * 100, "é\n"):
             self.assertEqual(flow_of(text_of(Flow(name), f.functions)[:400]), name)
         for head in ("", "{}", '{"cf":3,"flow":7}', '{"cf":3,"flow":"' + "x" * 500, '{"cf":3,"flow":"\\x"}'):
             self.assertEqual(flow_of(head[:400]), "")
@@ -309,8 +313,7 @@ class Glances(Case):
             self.until(lambda: (it := self.glance(store, name)) and it.words == store.ends()[name])
             seen = read(self.glance(store, name))
             self.assertEqual((seen.stages, seen.open, seen.tries, seen.ready), (4, 3, 0, []))
-            self.assertEqual([it[1:] for it in seen.waits],
-                             [("hold", "at work"), ("answer", "pending"), ("inc", "pending")])
+            self.assertEqual([it[1:] for it in seen.waits], [("hold", "at work"), ("answer", "pending"), ("inc", "pending")])
             (claim,) = seen.claims
             self.assertEqual((claim.stage, claim.name, claim.session), (3, "hold", service.session))
             promise.complete(1)
@@ -352,9 +355,11 @@ class Glances(Case):
 
     def test_a_store_that_keeps_none_holds_nobody_up(self):
         for fault in (Unknown("away"), StoreError("no")):
+
             class Away(Memory):
                 def keep_glances(self, glances, fault=fault):
                     raise fault
+
             store = Away()
             service = self.made(store)
             promise = service.request("r").promise()
@@ -363,15 +368,24 @@ class Glances(Case):
             self.assertTrue(promise.complete(1))
 
     def test_what_is_no_glance(self):
-        for said in ("", "{", "[]", "{}", '{"glance": 2}', '{"glance": 1}', '{"glance": 1, "stages": "x"}',
-                     '{"glance":1,"since":7}', '{"glance":1,"since":', ',"since":7}'):
+        for said in (
+            "",
+            "{",
+            "[]",
+            "{}",
+            '{"glance": 2}',
+            '{"glance": 1}',
+            '{"glance": 1, "stages": "x"}',
+            '{"glance":1,"since":7}',
+            '{"glance":1,"since":',
+            ',"since":7}',
+        ):
             self.assertIsNone(read(Glance("r", 1, 1, said)))
         self.assertIsNone(read(None))
 
     def test_glances_that_differ_by_a_moment(self):
         """.. are read once, and so is one of another version, in which more stands."""
-        whole = ('{"glance":1,"stages":2,"open":1,"waits":[[0,",\\"since\\":8}","ready"]],"claims":[],"ready":[],'
-                 '"tries":0,')
+        whole = '{"glance":1,"stages":2,"open":1,"waits":[[0,",\\"since\\":8}","ready"]],"claims":[],"ready":[],' '"tries":0,'
         seen = read(Glance("r", 1, 1, whole + '"since":7.5}'))
         self.assertEqual((seen.since, seen.waits[0].name), (7.5, ',"since":8}'))
         self.assertEqual(read(Glance("r", 1, 1, whole + '"since":8}')), seen._replace(since=8.0))

@@ -13,8 +13,7 @@ from case import Case, STORES
 import shared_functions as f
 from cf.service.words import COMPLETE
 from cf.store.host import Host
-from cf.store import (Broken, connect, DurableService, Functions, Memory, new_session, RowView,
-                       service as shared_service, StoreError, Unknown)
+from cf.store import Broken, connect, DurableService, Functions, Memory, new_session, RowView, service as shared_service, StoreError, Unknown
 
 
 class Hasty(Host):
@@ -28,6 +27,7 @@ class Outages(Case):
     def test_a_store_that_is_away_for_long(self):
         """A claim and finishes that the store was silent about are not lost: what was claimed runs once, and what
         was run is told."""
+
         class Away(Memory):
             left, lands, many = 0, False, 0
 
@@ -38,6 +38,7 @@ class Outages(Case):
                 if self.lands:
                     super().append_groups(puts)
                 raise Unknown("away")
+
         ran = []
         functions = Functions()
         function = functions.function("f")(lambda k: ran.append(k))
@@ -61,6 +62,7 @@ class Outages(Case):
     def test_a_store_that_takes_nothing_for_a_while(self):
         """What a function came to is kept and put once the store takes words again: it wasn't the value that it
         refused."""
+
         class Shut(Memory):
             is_shut = False
 
@@ -74,6 +76,7 @@ class Outages(Case):
                 if self.is_shut:
                     raise StoreError("it can only be read")
                 super().beat(session)
+
         functions, refused, ran = Functions(), [], []
 
         def function(k, fails):
@@ -82,6 +85,7 @@ class Outages(Case):
             if fails:
                 raise KeyError(k)
             return k
+
         failing_store, function = Shut(), functions.function("f")(function)
         service = DurableService(failing_store, 1, functions=functions)
         self.services.append(service)
@@ -91,8 +95,7 @@ class Outages(Case):
                 outlasting_stage = outlasting.supply(function, 17, fails)
                 self.until(lambda: len(refused) > 1)  # what it came to, and that it was refused
                 failing_store.is_shut = False
-                self.assertEqual(repr(outlasting_stage.exception(20)) if fails else outlasting_stage.result(20),
-                                 "KeyError(17)" if fails else 17)
+                self.assertEqual(repr(outlasting_stage.exception(20)) if fails else outlasting_stage.result(20), "KeyError(17)" if fails else 17)
             self.assertIn("nothing can be put: it can only be read", "".join(logs.output))
             refused.clear()
         self.assertEqual(ran, [17, 17])
@@ -100,6 +103,7 @@ class Outages(Case):
 
     def test_a_store_that_takes_nothing_and_then_all(self):
         """Whichever try is the last that is refused, the value isn't lost."""
+
         class Shut(Memory):
             left = 0
 
@@ -116,12 +120,14 @@ class Outages(Case):
                 if self.left > 0:
                     self.refuses()
                 super().beat(session)
+
         functions = Functions()
 
         @functions.function("shuts")
         def shuts(many):
             store.left = many
             return many
+
         for many in range(1, 8):
             store = Shut()
             service = DurableService(store, 1, functions=functions, lease=1e6)
@@ -141,6 +147,7 @@ class Outages(Case):
                     self.many += 1
                     raise Unknown("silent")
                 return super().append_groups(puts)
+
         store, functions = Silent(), Functions()
         waits = functions.function("waits")(lambda: goes.wait(20) and "done")
         with unittest.mock.patch.object(shared_service, "PATIENCE", 0.01):
@@ -167,6 +174,7 @@ class Outages(Case):
                 if silent.is_set():
                     raise Unknown("silent")
                 return super().append_groups(puts)
+
         functions = Functions()
         last = functions.function("last")(silent.set)
         with unittest.mock.patch.object(shared_service, "PATIENCE", 0.01):
@@ -193,6 +201,7 @@ class Outages(Case):
                     cursor.execute("select pg_reload_conf()")
                     time.sleep(0.5)
                     return "done"
+
                 shut = functions.function("shut")(shut)
                 service = DurableService(connect(address), 1, functions=functions, lease=1)
                 self.services.append(service)
@@ -204,18 +213,19 @@ class Outages(Case):
                     cursor.execute("select pg_reload_conf()")
                 self.assertEqual(outlasting_stage.result(30), "done")
                 cursor.execute("create table if not exists one (k int unique deferrable initially deferred)")
-                twice = service.function("twice",
-                                         transactional=True)(lambda it: [it.execute("insert into one values (1), (1)")][1:])
+                twice = service.function("twice", transactional=True)(lambda it: [it.execute("insert into one values (1), (1)")][1:])
                 self.assertIn("one", str(service.request(self.name).supply(twice).exception(20)))
                 cursor.execute("drop table one")
 
     def test_what_a_store_refuses(self):
         """A value that is too large for the store fails its stage; the function isn't run again, and others go on."""
+
         class Small(Memory):
             def append_groups(self, puts):
                 if any(len(it) > 1000 for put in puts for it in put.payloads.values()):
                     raise StoreError("it is too large")
                 return super().append_groups(puts)
+
         ran, functions = [], Functions()
         large = functions.function("large")(lambda: ran.append(1) or "x" * 2000)
         service = DurableService(Small(), 2, functions=functions)
@@ -227,6 +237,7 @@ class Outages(Case):
 
         def raises():
             raise KeyError("x" * 2000)
+
         self.assertIn("it is too large", str(outlasting.supply(service.function("raises")(raises)).exception(20)))
         with self.assertRaises(StoreError):
             outlasting.promise("p").complete("y" * 2000)
@@ -235,6 +246,7 @@ class Outages(Case):
     def test_what_was_read_before_a_call_failed(self):
         """A put loses its place, and then the store is silent or its row is at fault: what others have settled is
         shown."""
+
         class Loses(Memory):
             meanwhile = None
 
@@ -246,6 +258,7 @@ class Outages(Case):
 
             def silent(self):
                 raise Unknown("away")
+
         for at_fault in (False, True):
             failing_store = Loses()
             service = DurableService(failing_store, 0, functions=f.functions, lease=1e6)
@@ -261,6 +274,7 @@ class Outages(Case):
                 if at_fault:
                     failing_store._rows["r"].append((99 << 56, 1))
                 return True
+
             failing_store.meanwhile = meanwhile
             with self.assertRaises(Broken if at_fault else Unknown):
                 outlasting.promise("more")
@@ -271,6 +285,7 @@ class Outages(Case):
 
     def test_a_payload_that_cant_be_read_for_a_while(self):
         """A value is shown once the store answers, and what a claim is called with is read then."""
+
         class Away(Memory):
             left = 0
 
@@ -279,6 +294,7 @@ class Outages(Case):
                 if self.left >= 0:
                     raise Unknown("away")
                 return super().payloads(name, places, number)
+
         failing_store = Away()
         asks = DurableService(failing_store, 0, functions=f.functions)
         self.services.append(asks)

@@ -19,8 +19,15 @@ class PostgreSQL(Case):
     def test_what_a_server_of_postgresql_says(self):
         """One that can only be read for now is away; what it refuses for good is told as such, also at a commit."""
         from cf.store import postgres
-        said = {"ReadOnlySqlTransaction": Unknown, "AdminShutdown": Unknown, "UniqueViolation": StoreError,
-                "DataError": StoreError, "ProgramLimitExceeded": StoreError, "InFailedSqlTransaction": StoreError}
+
+        said = {
+            "ReadOnlySqlTransaction": Unknown,
+            "AdminShutdown": Unknown,
+            "UniqueViolation": StoreError,
+            "DataError": StoreError,
+            "ProgramLimitExceeded": StoreError,
+            "InFailedSqlTransaction": StoreError,
+        }
         for name, kind in said.items():
             with self.assertRaises(kind), postgres.Postgres._telling(None):
                 raise getattr(postgres.errors, name, getattr(postgres.psycopg2, name, None))("why")
@@ -42,6 +49,7 @@ class PostgreSQL(Case):
             if left:
                 raise left.pop()
             return db
+
         postgres_store._connected = connected
         with unittest.mock.patch.object(threading.Thread, "start", side_effect=RuntimeError("can't start new thread")):
             postgres_store._notify()

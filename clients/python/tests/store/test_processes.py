@@ -46,9 +46,11 @@ class Processes(Case):
         self.assertEqual(second.open("r")["number"].result(20), 5)
 
     def test_a_timer_outlives_who_set_it(self):
-        code = ("import sys, os; sys.path[:0] = %r; import shared_functions as f; from cf.store import *; "
-                "s = DurableService(connect(%r), 0, functions=f.functions); "
-                "s.request('r').promise('p').or_timeout(0.5); os._exit(0)")
+        code = (
+            "import sys, os; sys.path[:0] = %r; import shared_functions as f; from cf.store import *; "
+            "s = DurableService(connect(%r), 0, functions=f.functions); "
+            "s.request('r').promise('p').or_timeout(0.5); os._exit(0)"
+        )
         paths = [str(HERE)] + ([] if os.environ.get("CF_INSTALLED") else [str(CLIENT)])
         subprocess.run([sys.executable, "-c", code % (paths, self.address)], check=True, timeout=60)
         asking = self.service()
@@ -80,8 +82,7 @@ class Processes(Case):
         order = elsewhere.promise()
         stage_elsewhere = order.compose(f.marking)
         order.complete(path)
-        self.assertIn("sorry, the worker that ran mark is gone",
-                      self.killed(stage_elsewhere, path, lambda: elsewhere._view.links).result(30))
+        self.assertIn("sorry, the worker that ran mark is gone", self.killed(stage_elsewhere, path, lambda: elsewhere._view.links).result(30))
 
     def test_again(self):
         asking, path = self.service(), f"{self.folder.name}/mark"

@@ -86,6 +86,7 @@ class SQLite(Case):
                     sqlite_store.append(Put("r", 0, [(1, 1)], {}))
                 except Unknown as error:
                     told.append(str(error))
+
         with unittest.mock.patch.object(shared_sqlite, "LONGEST_WAIT", 0.1):
             threading.Thread(target=puts, daemon=True).start()
             self.until(lambda: len(told) == 3)
@@ -114,6 +115,7 @@ class SQLite(Case):
             db.execute("insert into cf_beat values (1, 1)")
             db.set_authorizer(lambda *_: sqlite3.SQLITE_DENY)
             raise KeyError("what the act raises")
+
         with self.assertRaises((KeyError, StoreError)):
             sqlite_store._in_turn(act)
         self.assertIsNone(connect(self.address).append(Put("r", 0, [(1, 1)], {})))
@@ -161,9 +163,9 @@ class SQLite(Case):
         sqlite_store, told = connect(self.address), []
 
         def ask():
-            told.append([sqlite_store._db.execute(f"pragma {it}").fetchone()[0]
-                         for it in ("journal_mode", "synchronous")])
+            told.append([sqlite_store._db.execute(f"pragma {it}").fetchone()[0] for it in ("journal_mode", "synchronous")])
             sqlite_store._db.close()
+
         ask()
         thread = threading.Thread(target=ask)
         thread.start()
@@ -236,8 +238,7 @@ class Halves(Case):
             "two": lambda store: store.append(Put("open", 2, [(3, 13), (4, 14)], {3: b"three"})),
             "two large ones": lambda store: store.append(Put("open", 2, [(3, 13), (4, 14)], large)),
             "70": lambda store: store.append(Put("open", 2, [(k, k) for k in range(3, 73)], {})),
-            "of two requests": lambda store: store.append_groups([Put("open", 2, [(3, 13)], {}),
-                                                                  Put("other", 2, [(3, 13), (4, 14)], {})]),
+            "of two requests": lambda store: store.append_groups([Put("open", 2, [(3, 13)], {}), Put("other", 2, [(3, 13), (4, 14)], {})]),
             "that opens": lambda store: store.append(Put("ended", 2, [(3, 13)], {}, 0, True)),
             "end": lambda store: store.end("open", 2),
             "reopen": lambda store: store.reopen("ended"),
@@ -248,7 +249,8 @@ class Halves(Case):
             "timer": lambda store: store.set_timer(Timer("open", 0, 2.0, b"V1")),
             "drop timer": lambda store: store.drop_timer("open", 0),
             "glances": lambda store: store.keep_glances([Glance("open", 1, 2, "else"), Glance("other", 3, 2, "else")]),
-            "effect": self.effect}
+            "effect": self.effect,
+        }
         before, changes = self.rows(self.first), {}
         for name, call in calls.items():
             for k in range(1, 100):

@@ -24,8 +24,7 @@ class Stores(Case):
         for address in ["memory://", self.address, self.address + "2", *STORES]:
             store = connect(address)
             made = Grouped(store) if address[-1] == "2" else store
-            made.again = ((lambda made=made: made) if address == "memory://" else
-                          (lambda address=address: connect(address)))
+            made.again = (lambda made=made: made) if address == "memory://" else (lambda address=address: connect(address))
             yield made
 
     def test_appends(self):
@@ -39,17 +38,13 @@ class Stores(Case):
                 self.assertIsNone(store.append(Put(name, 0, [(1, 11)], {1: b"one"})))
                 self.assertEqual(store.append(Put(name, 0, [(2, 12)], {})), [(1, 11)])
                 self.assertIsNone(store.append(Put(name, 1, [(3, 13), (4, 14)], {2: b"x" * 5000})))
-                self.assertEqual(store.append(Put(name, 1, [(5, 15), (6, 16), (7, 17)], {2: b"lost"})),
-                                 [(3, 13), (4, 14)])
-                self.assertEqual((store.read(name), store.read(name, 2), store.read(name, 9)),
-                                 ([(1, 11), (3, 13), (4, 14)], [(4, 14)], []))
+                self.assertEqual(store.append(Put(name, 1, [(5, 15), (6, 16), (7, 17)], {2: b"lost"})), [(3, 13), (4, 14)])
+                self.assertEqual((store.read(name), store.read(name, 2), store.read(name, 9)), ([(1, 11), (3, 13), (4, 14)], [(4, 14)], []))
                 self.assertEqual(store.payloads(name, [1, 2, 3, 9]), {1: b"one", 2: b"x" * 5000})
-                told = store.append_groups([Put(other, 0, [(8, 18)], {}), Put(name, 1, [(9, 19)], {}), ])
+                told = store.append_groups([Put(other, 0, [(8, 18)], {}), Put(name, 1, [(9, 19)], {})])
                 self.assertEqual(told, [None, [(3, 13), (4, 14)]])
-                self.assertEqual({key: value for key, value in store.ends().items() if key.startswith(name)},
-                                 {name: 3, other: 1})
-                self.assertEqual({key: value for key, value in store.news(None)[0].items() if key.startswith(name)},
-                                 {name: 3, other: 1})
+                self.assertEqual({key: value for key, value in store.ends().items() if key.startswith(name)}, {name: 3, other: 1})
+                self.assertEqual({key: value for key, value in store.news(None)[0].items() if key.startswith(name)}, {name: 3, other: 1})
                 store.end(name, 2)
                 self.assertIn(name, store.ends())
                 store.end(name, 3)
@@ -73,6 +68,7 @@ class Stores(Case):
 
                 def mine(told):
                     return {name: many for name, many in told.items() if name.startswith(self.name)}
+
                 told, mark = store.news(None)
                 self.assertEqual(mine(told), {names[0]: 1, names[1]: 0, names[2]: 0})
                 told, mark = store.news(mark)
@@ -195,9 +191,14 @@ class Stores(Case):
                 self.assertTrue(store.again().drop(name))
                 number = store.again().open(name, "plan").number
                 store.again().append(Put(name, 0, [(2, 12)], {1: b"new"}, number))
-                calls = [lambda: store.read(name, 0, old), lambda: store.read(name, 1, old),
-                         lambda: store.payloads(name, [1], old), lambda: store.end(name, 1, old),
-                         lambda: store.set_timer(Timer(name, 0, 0.0, b"N", old)), lambda: store.reopen(name, old)]
+                calls = [
+                    lambda: store.read(name, 0, old),
+                    lambda: store.read(name, 1, old),
+                    lambda: store.payloads(name, [1], old),
+                    lambda: store.end(name, 1, old),
+                    lambda: store.set_timer(Timer(name, 0, 0.0, b"N", old)),
+                    lambda: store.reopen(name, old),
+                ]
                 for call in calls:
                     with self.assertRaises(Broken) as told:
                         call()
@@ -207,8 +208,7 @@ class Stores(Case):
                 self.assertEqual(store.read(name, 1, number), [])
                 self.assertIn(name, store.ends())
                 store.set_timer(Timer(name, 3, 1.0, b"N", number))
-                self.assertEqual([it for it in store.due(2.0) if it.request == name],
-                                 [Timer(name, 3, 1.0, b"N", number)])
+                self.assertEqual([it for it in store.due(2.0) if it.request == name], [Timer(name, 3, 1.0, b"N", number)])
                 store.drop_timer(name, 3, number)
                 self.assertEqual([it for it in store.due(2.0) if it.request == name], [])
                 store.end(name, 1, number)
@@ -230,6 +230,7 @@ class Stores(Case):
                 other.append(Put(self.name, 1, [(2, 12)], {}))
                 other.end(self.name, 2)
                 return real(*given)
+
             store._txn = others_first
             store.reopen(self.name, number)
             self.assertEqual(store.ends()[self.name], 2)
@@ -251,6 +252,7 @@ class Stores(Case):
                 def closes(name=name, number=number, both=both):
                     both.wait()
                     other.end(name, 1, number)
+
                 closing = threading.Thread(target=closes)
                 closing.start()
                 both.wait()
@@ -296,11 +298,12 @@ class Stores(Case):
                 with self.assertRaises((Unknown, StoreError)) as told:
                     connect(address)
                 self.assertNotIn("secret", str(told.exception))
-                done = subprocess.run([sys.executable, "-m", "cf.requests", "--store", address, "list"],
-                                      stderr=subprocess.PIPE, timeout=60,
-                                      env=dict(os.environ,
-                                               PYTHONPATH=os.pathsep.join([str(CLIENT),
-                                                                           os.environ.get("PYTHONPATH", "")])))
+                done = subprocess.run(
+                    [sys.executable, "-m", "cf.requests", "--store", address, "list"],
+                    stderr=subprocess.PIPE,
+                    timeout=60,
+                    env=dict(os.environ, PYTHONPATH=os.pathsep.join([str(CLIENT), os.environ.get("PYTHONPATH", "")])),
+                )
                 self.assertEqual(done.returncode, 2, done.stderr)
                 self.assertTrue(done.stderr.startswith(b"cf.requests: "), done.stderr)
 
@@ -334,8 +337,10 @@ class Drops(Case):
     def waits(self, store, call):
         """A call that another thread has begun, once it is done or waits for a lock."""
         doing = self.pool.submit(call)
-        self.until(lambda: doing.done() or store._ask("select 1 from pg_locks where not granted and pid in (select pid "
-                                                      "from pg_stat_activity where datname = current_database())"))
+        self.until(
+            lambda: doing.done()
+            or store._ask("select 1 from pg_locks where not granted and pid in (select pid from pg_stat_activity where datname = current_database())")
+        )
         return doing
 
     def left(self, store, number):
@@ -345,20 +350,24 @@ class Drops(Case):
 
     def puts(self, store, name, number):
         """All that is put for a request."""
+
         def in_a_transaction():
             with store.transaction() as transaction:
                 if not transaction.append(Put(name, 0, [(1, 11)], {}, number)):
                     raise Broken(name, 0, "the store has no such request")
                 transaction.commit()
+
         other = f"{name} / other"
         its = store.open(other, "plan").number
-        return [lambda: store.append(Put(name, 0, [(1, 11)], {}, number)),
-                lambda: store.append(Put(name, 0, [(1, 11), (2, 12)], {}, number)),
-                lambda: store.append(Put(name, 0, [(1, 11), (2, 12), (3, 13)], {}, number)),
-                lambda: store.append_groups([Put(name, 0, [(1, 11)], {}, number), Put(other, 0, [(1, 11)], {}, its)]),
-                in_a_transaction,
-                lambda: store.set_timer(Timer(name, 1, 1.0, b"N", number)),
-                lambda: store.name_session(7, "somebody", name, number)]
+        return [
+            lambda: store.append(Put(name, 0, [(1, 11)], {}, number)),
+            lambda: store.append(Put(name, 0, [(1, 11), (2, 12)], {}, number)),
+            lambda: store.append(Put(name, 0, [(1, 11), (2, 12), (3, 13)], {}, number)),
+            lambda: store.append_groups([Put(name, 0, [(1, 11)], {}, number), Put(other, 0, [(1, 11)], {}, its)]),
+            in_a_transaction,
+            lambda: store.set_timer(Timer(name, 1, 1.0, b"N", number)),
+            lambda: store.name_session(7, "somebody", name, number),
+        ]
 
     def test_puts_behind_a_drop_that_isnt_done_yet(self):
         """Each is told that the request is gone, and leaves nothing behind."""
@@ -372,8 +381,7 @@ class Drops(Case):
                         dropping = self.waits(store, lambda: store.drop(self.name))
                         self.assertFalse(dropping.done())
                         putting = self.pool.submit(self.puts(store, self.name, number)[k])
-                        self.until(lambda: putting.done() or len(store._ask(
-                            "select 1 from pg_locks where not granted")) > 1)
+                        self.until(lambda: putting.done() or len(store._ask("select 1 from pg_locks where not granted")) > 1)
                     self.assertTrue(dropping.result(20))
                     with self.assertRaises(Broken) as told:
                         putting.result(20)
@@ -428,6 +436,7 @@ class Groups(Case):
                 told[name] = grouped.append(Put(name, 0, [(1, 11), (2, 12)], {}))
             except StoreError as error:
                 told[name] = str(error)
+
         threads = [threading.Thread(target=put, args=[name]) for name in names]
         with grouped._change:  # so that all wait for one commit
             for thread in threads:
@@ -443,8 +452,7 @@ class Groups(Case):
         """One writer puts them one after the other, since both are for one place: each is told what came of its own."""
         grouped, told = Grouped(connect(self.address)), {}
         grouped.open("r", "plan")
-        threads = [threading.Thread(target=lambda k=k: told.update({k: grouped.append(Put("r", 0, [(k, k)], {}))}),
-                                    daemon=True) for k in (1, 2, 3)]
+        threads = [threading.Thread(target=lambda k=k: told.update({k: grouped.append(Put("r", 0, [(k, k)], {}))}), daemon=True) for k in (1, 2, 3)]
         with grouped._change:  # so that all wait for one commit
             for thread in threads:
                 thread.start()

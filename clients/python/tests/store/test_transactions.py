@@ -15,8 +15,7 @@ from case import Case, STORES
 import shared_functions as f
 from cf.service import Flow
 from cf.service.words import CLAIM
-from cf.store import (connect, DurableService, Functions, Memory, Put, service as shared_service,
-                       sqlite as shared_sqlite, Unknown)
+from cf.store import connect, DurableService, Functions, Memory, Put, service as shared_service, sqlite as shared_sqlite, Unknown
 
 
 class Effects(Memory):
@@ -46,6 +45,7 @@ class Effects(Memory):
             def commit():
                 paid_store.append(put[0])
                 paid_store.effects.extend(done)
+
         yield Open
 
 
@@ -74,8 +74,7 @@ class Transactions(Case):
             paid = first.then(same)
             last = paid.then(f.inc)
             transacting, heard = paying.start(flow, name=name), []
-            transacting[paid].add_done_callback(
-                lambda _: heard.append(paying.request(f"{name} mail").promise("sent").number))
+            transacting[paid].add_done_callback(lambda _: heard.append(paying.request(f"{name} mail").promise("sent").number))
             transacting[first].complete(1)
             self.assertEqual(transacting[last].result(20), 2)
             self.until(lambda: heard)
@@ -92,14 +91,14 @@ class Transactions(Case):
                 begun.set()
                 time.sleep(0.3)
                 return x
+
             slow = paying.function(name, transactional=True)(slow)
             paid_stage, other, gate = transacting.promise(), transacting.promise(), transacting.promise()
             behind = paid_stage.then(slow)
             paid_stage.complete(1)
             self.assertTrue(begun.wait(20))
             told = []
-            threads = [threading.Thread(target=lambda it=it: told.append(it.complete(2)), daemon=True)
-                       for it in (other, gate)]
+            threads = [threading.Thread(target=lambda it=it: told.append(it.complete(2)), daemon=True) for it in (other, gate)]
             for thread in threads:
                 thread.start()
             for thread in threads:
@@ -115,11 +114,13 @@ class Transactions(Case):
             with self.subTest(groups=groups):
                 paying, other = self.service(groups=groups), self.service()
                 transacting = paying.request(self.name)
-                puts = [lambda: transacting.promise(), lambda: paying.request(f"{self.name} another").promise(),
-                        lambda: other.request(self.name).promise()]
+                puts = [
+                    lambda: transacting.promise(),
+                    lambda: paying.request(f"{self.name} another").promise(),
+                    lambda: other.request(self.name).promise(),
+                ]
                 puts = puts + [paying.request("there").promise] if groups else puts
-                function = paying.function(f"puts {groups}",
-                                           transactional=True)(lambda connection, k: puts[k]().number)
+                function = paying.function(f"puts {groups}", transactional=True)(lambda connection, k: puts[k]().number)
                 for k in range(len(puts)):
                     error = transacting.supply(function, k).exception(20)
                     self.assertIn("transactional function", str(error))
@@ -128,8 +129,12 @@ class Transactions(Case):
     def test_what_a_transactional_function_does_to_its_connection(self):
         """Whatever it is, its stage ends with an error and others can put. A function that ends its transaction would
         have a finish without its effect, also if it begins another one."""
-        acts = [lambda db: db.close(), lambda db: db.execute("no statement"), lambda db: db.execute("rollback"),
-                lambda db: [db.execute("rollback"), db.execute("begin")]]
+        acts = [
+            lambda db: db.close(),
+            lambda db: db.execute("no statement"),
+            lambda db: db.execute("rollback"),
+            lambda db: [db.execute("rollback"), db.execute("begin")],
+        ]
         for address in [self.address, *[it for it in STORES if it.startswith("postgres")]]:
             with self.subTest(address=address):
                 paying = self.service(address)
@@ -157,9 +162,11 @@ class Transactions(Case):
                 told = [cursor.fetchone()[0], rows.fetchall(), list(connection.execute(f"select * from {table}"))]
                 connection.execute(f"drop table {table}")
                 return told
+
             pay = paying.function(name, transactional=True)(pay)
-            with unittest.mock.patch.object(paying.codec, "write", lambda value: repr(value).encode()), \
-                    unittest.mock.patch.object(paying.codec, "read", lambda given: given.decode()):
+            with unittest.mock.patch.object(paying.codec, "write", lambda value: repr(value).encode()), unittest.mock.patch.object(
+                paying.codec, "read", lambda given: given.decode()
+            ):
                 told = paying.request(name).supply(pay, "a").result(20)
             self.assertEqual(told, "[3, [('a',), ('c',)], [('a', '100'), ('c', '100%?')]]")
 
@@ -170,9 +177,12 @@ class Transactions(Case):
             with store.transaction() as transaction:
                 db = transaction.connection
                 for statement, values, wanted in (
-                        ("select ?, '?%', \"?\".x from (values (2)) as \"?\"(x) where 7 % 4 = ?", (1, 3), (1, "?%", 2)),
-                        ("select %s::int, '%%'", (1,), (1, "%")), ("select %(a)s::int, '?'", {"a": 1}, (1, "?")),
-                        ("select '?%'", None, ("?%",)), ("select '{\"a\": 1}'::jsonb ? %s", ("a",), (True,))):
+                    ('select ?, \'?%\', "?".x from (values (2)) as "?"(x) where 7 % 4 = ?', (1, 3), (1, "?%", 2)),
+                    ("select %s::int, '%%'", (1,), (1, "%")),
+                    ("select %(a)s::int, '?'", {"a": 1}, (1, "?")),
+                    ("select '?%'", None, ("?%",)),
+                    ("select '{\"a\": 1}'::jsonb ? %s", ("a",), (True,)),
+                ):
                     self.assertEqual(db.execute(statement, values).fetchone(), wanted)
                 db.execute("select 1")
                 self.assertEqual((db.fetchone(), db.rowcount), ((1,), 1))  # (as psycopg2's cursor, too)
@@ -203,6 +213,7 @@ class Transactions(Case):
                     if meanwhile:
                         settle()
                     assert len(called) < 5
+
                 paid_store.transaction = transaction
                 paying = DurableService(paid_store, 1, functions=functions)
                 pay = paying.function("pay", transactional=True)(pay)
@@ -222,13 +233,13 @@ class Transactions(Case):
             connection.append("paid")
             if len(called) == 1:
                 other.open("r").promise()
+
         paying = DurableService(paid_store, 1, functions=functions)
         pay = paying.function("pay", transactional=True)(pay)
         transacting = paying.request("r")
         self.assertIsNone(transacting.supply(pay).result(20))
         self.assertEqual((paid_store.effects, len(called)), (["paid"], 2))
         paying.shutdown(), other.shutdown()
-
 
     def test_a_place_that_a_transaction_loses_in_postgresql(self):
         """As above: another service puts to the request just before the transaction does."""
@@ -241,6 +252,7 @@ class Transactions(Case):
                 if len(called) == 1:
                     other.open(self.name).promise()
                 return real(transaction, put)
+
             with paying.store.transaction() as transaction:
                 transaction.connection.execute("create table if not exists lost (name text)")
                 transaction._db.commit()
@@ -248,6 +260,7 @@ class Transactions(Case):
             def pay(connection, called=called):
                 called.append(1)
                 connection.execute("insert into lost values (?)", (self.name,))
+
             pay = paying.function(self.name, transactional=True)(pay)
             with unittest.mock.patch.object(postgres._Transaction, "append", append):
                 self.assertIsNone(paying.request(self.name).supply(pay).result(20))
@@ -282,6 +295,7 @@ class KilledTransactions(Case):
     def test_a_commit_whose_reply_is_lost(self):
         """The connection drops around the commit: the effect stands exactly once, whether it had landed or not."""
         from cf.store import sqlite as store_of
+
         path, real, notes = f"{self.folder.name}/db", store_of._Transaction.commit, []
         db = sqlite3.connect(path, isolation_level=None)
         db.execute("create table paid (account text)")
@@ -295,6 +309,7 @@ class KilledTransactions(Case):
                         real(transaction)
                     if left[0] >= 0:
                         raise Unknown("cut")
+
                 store_of._Transaction.commit = commit
                 name = f"lands {lands}"
                 with self.assertLogs("cf.store", "WARNING") as logged:
@@ -320,6 +335,7 @@ class KilledTransactions(Case):
                 other.append(Put(self.name + "2", 0, [(1, 11)], {}))
                 other.close()
                 took.append(time.monotonic())
+
             with store.transaction() as transaction:
                 self.assertTrue(transaction.append(Put(self.name, 0, [(1, 11)], {})))
                 threading.Thread(target=connects, daemon=True).start()

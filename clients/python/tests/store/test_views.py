@@ -16,7 +16,7 @@ from case import Case, EMPTY
 from cf.service import RequestFull
 from cf.service.words import ATTACH, CANCEL, CLAIM, COMPLETE, FAIL, FINISH
 from cf.store.host import Host
-from cf.store import (Broken, DurableService, Json, Memory, new_session, Put, RowView, StoreError, Unknown, Watcher)
+from cf.store import Broken, DurableService, Json, Memory, new_session, Put, RowView, StoreError, Unknown, Watcher
 
 
 class Silent(Memory):
@@ -44,18 +44,41 @@ class OneNumber(Host):
         return 7
 
 
+class Hosts(unittest.TestCase):
+    def test_a_rest_ends_as_the_service_stops(self):
+        stops, began = threading.Event(), time.monotonic()
+        Host().rest(stops, 0.05)
+        self.assertGreaterEqual(time.monotonic() - began, 0.05)
+        stops.set()
+        Host().rest(stops, 100)
+        self.assertLess(time.monotonic() - began, 20)
+
+
 class Views(Case):
     def view(self, store, session=None):
-        return RowView(store,
-                       store.open("r",
-                                  json.dumps({"cf": 3, "flow": "",
-                                              "stages": [{"form": "supply", "name": "s", "fn": "inc", "version": 1}]})),
-                       session or new_session())
+        return RowView(
+            store,
+            store.open("r", json.dumps({"cf": 3, "flow": "", "stages": [{"form": "supply", "name": "s", "fn": "inc", "version": 1}]})),
+            session or new_session(),
+        )
 
     def claim(self, view):
         view.catch_up()
         done, _ = view.act(lambda view: [(CLAIM << 56 | view.who << 48, None)] if 0 in view.ready else None)
         return done is not None and not done[0].reply[0]
+
+    def test_what_is_said_of_many_stages_is_read_in_one_call(self):
+        store, asked = Memory(), []
+        service = DurableService(store, 0)
+        self.services.append(service)
+        request = service.request("r")
+        names = [request.promise(f"stage {k}").name for k in range(3)]
+        view, real = RowView(store, store.find("r"), new_session()), store.payloads
+        view.catch_up()
+        store.payloads = lambda *given: asked.append(given) or real(*given)
+        for _ in range(2):
+            view.look_up(range(3))
+            self.assertEqual(([view.said(k)["name"] for k in range(3)], len(asked)), (names, 1))
 
     def test_a_lost_reply(self):
         """What was put is known by its token, and isn't put twice."""
@@ -90,11 +113,11 @@ class Views(Case):
 
         def work(view):
             for stage in range(80):
-                done, _ = view.act(lambda view: None if stage not in view.ready else
-                                   [(CLAIM << 56 | view.who << 48 | stage << 36, None)])
+                done, _ = view.act(lambda view: None if stage not in view.ready else [(CLAIM << 56 | view.who << 48 | stage << 36, None)])
                 if done and not done[0].reply[0]:
                     granted.append(stage)
                     view.act(lambda view: [(FINISH << 56 | view.who << 48 | stage << 36, None)])
+
         granted = []
         threads = [threading.Thread(target=work, args=[view]) for view in views]
         for thread in threads:
@@ -109,11 +132,11 @@ class Views(Case):
         """Of two sessions with one number each knows whose a claim is, and who is gone. The claim is open until its own
         session finishes it, also once the stage was failed for that."""
         store = Memory()
-        plan = json.dumps({"cf": 3, "flow": "",
-                           "stages": [{"form": "supply", "name": "s", "fn": "inc", "version": 1}] * 2})
+        plan = json.dumps({"cf": 3, "flow": "", "stages": [{"form": "supply", "name": "s", "fn": "inc", "version": 1}] * 2})
 
         def view(session):
             return RowView(store, store.open("r", plan), session)
+
         for session in range(64):
             other = view(session)
             other.catch_up()
@@ -125,8 +148,7 @@ class Views(Case):
             self.assertEqual((done[0].reply[0], each.who), (0 if each is one else 2, 36))
         one.catch_up()
         for each in (one, two):
-            self.assertEqual((each.claims(), each.open_claims(), each.held(100), each.held(164)),
-                             ({1: 100}, {1: 100}, [1], []))
+            self.assertEqual((each.claims(), each.open_claims(), each.held(100), each.held(164)), ({1: 100}, {1: 100}, [1], []))
             self.assertEqual([each.holder(stage) for stage in (0, 1)], [None, 100])
             self.assertEqual([each.abandoned(100, 0), each.abandoned(164, 1)], [None, None])
         fails = two.abandoned(100, 1)
@@ -135,20 +157,20 @@ class Views(Case):
         self.assertEqual(done[0].reply[0], 1)
         one.catch_up()
         for each in (one, two):
-            self.assertEqual((each.claims(), each.open_claims(), each.held(100), each.abandoned(100, 1)),
-                             ({1: 100}, {}, [], None))
+            self.assertEqual((each.claims(), each.open_claims(), each.held(100), each.abandoned(100, 1)), ({1: 100}, {}, [], None))
         one.act(lambda view: [(FINISH << 56 | view.who << 48 | 1 << 36, None)])
         self.assertEqual((one.claims(), one.holder(1)), ({}, None))
 
     def test_a_stale_read(self):
         """Reads that lack the last words change nothing: the put decides, and who loses is told what stands."""
+
         class Stale(Memory):
             def read(self, name, at=0, number=0):
                 return super().read(name, at, number)[:1] if at == 0 else []
+
         store = Stale()
         first, second = self.view(store), self.view(store)
-        first.act(lambda view: [(ATTACH << 56 | view.who << 48, b'{"name":"one"}'),
-                                (ATTACH << 56 | view.who << 48, b'{"name":"two"}')])
+        first.act(lambda view: [(ATTACH << 56 | view.who << 48, b'{"name":"one"}'), (ATTACH << 56 | view.who << 48, b'{"name":"two"}')])
         self.assertTrue(self.claim(first))
         second.catch_up()
         self.assertEqual(second.seen, 1)
@@ -201,6 +223,7 @@ class Views(Case):
                     if store.lands is None:
                         raise StoreError("it takes nothing now")
                     append(put)
+
                 store.append = refuses
                 if lands:
                     self.assertTrue(self.claim(view))
@@ -234,7 +257,7 @@ class Views(Case):
             self.claim(view)
         del store.append
         store.lands = None
-        lost, = view._doubt
+        (lost,) = view._doubt
         other.act(lambda view: [(COMPLETE << 56 | view.who << 48, None)])
         view.catch_up()
         self.assertEqual(view._doubt, {})
@@ -268,11 +291,16 @@ class Views(Case):
         store = Memory()
         view = self.view(store)
         attach = (ATTACH << 56, b'{"name":"p"}')
-        for words in ([(99 << 56, None)], [(CLAIM << 56 | 7 << 36, None)], [(COMPLETE << 56 | 5 << 48, None)],
-                      [(COMPLETE << 56, None), (FINISH << 56 | 1 << 36, None)],
-                      [(ATTACH << 56 | 1 << 32 | 3 << 24 | 1 | 2 << 36, None)],
-                      [attach, attach, (COMPLETE << 56 | 3 << 36, None)], [(-1, None)],
-                      [(1 << 64 | COMPLETE << 56, None)]):
+        for words in (
+            [(99 << 56, None)],
+            [(CLAIM << 56 | 7 << 36, None)],
+            [(COMPLETE << 56 | 5 << 48, None)],
+            [(COMPLETE << 56, None), (FINISH << 56 | 1 << 36, None)],
+            [(ATTACH << 56 | 1 << 32 | 3 << 24 | 1 | 2 << 36, None)],
+            [attach, attach, (COMPLETE << 56 | 3 << 36, None)],
+            [(-1, None)],
+            [(1 << 64 | COMPLETE << 56, None)],
+        ):
             with self.subTest(words), self.assertRaises(ValueError) as told:
                 view.act(lambda view: words)
             self.assertIn("'r', place 1: one of the words", str(told.exception))
@@ -327,6 +355,7 @@ class Views(Case):
         class Away(Memory):
             def append(self, put):
                 raise Unknown("no connection")
+
         store = Away()
         view = RowView(store, store.open("r", EMPTY), new_session(), patience=0.1)
         with self.assertRaises(Unknown) as told:
@@ -346,16 +375,14 @@ class Views(Case):
         shared = [own["sessions"] for own in account["callers"] if isinstance(own, dict)]
         self.assertTrue(shared)
         self.assertEqual(sum(len(own) - 1 for own in shared), 6)
-        records = [record for own in account["callers"] for it in (own["sessions"] if isinstance(own, dict) else [own])
-                   for record in it]
+        records = [record for own in account["callers"] for it in (own["sessions"] if isinstance(own, dict) else [own]) for record in it]
         self.assertEqual(sorted(record[1] for record in records if record[0] == "did"), list(range(1, 71)))
         self.look(json.dumps(account))
 
     def look(self, account):
         """By `cf_look check`, where CF_LOOK names it."""
         if os.environ.get("CF_LOOK"):
-            done = subprocess.run([os.environ["CF_LOOK"], "check"], input=account, stdout=subprocess.PIPE,
-                                  universal_newlines=True)
+            done = subprocess.run([os.environ["CF_LOOK"], "check"], input=account, stdout=subprocess.PIPE, universal_newlines=True)
             self.assertEqual(done.stdout, "fits\n")
 
 
@@ -392,6 +419,7 @@ class Watchers(unittest.TestCase):
             host.now += 8
             store.beat(5)
             return Memory.beats(store)
+
         with unittest.mock.patch.object(store, "beats", beats):
             watcher.look()
         self.assertEqual(self.gone_at(watcher, host, 5), 22)
@@ -426,6 +454,7 @@ class Watchers(unittest.TestCase):
             view = RowView(store, store.open(name, EMPTY), session, 60, None, host)
             view.catch_up()
             view.act(lambda view: [(ATTACH << 56 | view.who << 48, b'{"name": "p"}')])
+
         puts(gone, "old")
         puts(other, "r")
         request = asks.open("r")

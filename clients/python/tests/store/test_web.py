@@ -22,13 +22,14 @@ import unittest.mock
 from pathlib import Path
 from urllib.parse import urlencode
 
-from case import Case, CLIENT, STORES
+from case import Case, CLIENT
 import shared_functions as f
 from cf.service import Flow
-from cf.store import (connect, DurableService, Functions, Memory, new_session, Put, RowView, StoreError, Unknown)
+from cf.store import Broken, connect, DurableService, Functions, Memory, new_session, Put, RowView, StoreError, Unknown
 from cf.store.plans import text_of
 from cf.store.rows import Changes
 from cf.store.web import server
+from cf.store.web.reading import Readings
 from cf.store.web.server import Server
 from cf.store.web.wording import TEXTS
 
@@ -93,8 +94,7 @@ class WebCase(Case):
 
     def act(self, action, name, stage=None, value=None, who="Ada", **more):
         headers = {"Origin": f"http://127.0.0.1:{self.port}", "X_CF_Token": self.page.door.post_token}
-        asked = {"action": action, "name": name, "stage": stage, "value": value, "who": who,
-                 "number": self.one(name)["number"]}
+        asked = {"action": action, "name": name, "stage": stage, "value": value, "who": who, "number": self.one(name)["number"]}
         status, _, body = self.ask("POST", "/act", json.dumps({**asked, **more}).encode(), **headers)
         return status, json.loads(body)
 
@@ -112,8 +112,7 @@ class Door(WebCase):
     def test_a_token_is_changed_for_a_cookie(self):
         door = self.page.door
         status, headers, body = self.ask("GET", f"/?token={door.token}", cookie=None)
-        self.assertEqual((status, headers["Set-Cookie"].split("; ")[1:]), (200, ["Path=/", "HttpOnly",
-                                                                               "SameSite=Strict"]))
+        self.assertEqual((status, headers["Set-Cookie"].split("; ")[1:]), (200, ["Path=/", "HttpOnly", "SameSite=Strict"]))
         self.assertNotIn(door.token, headers["Set-Cookie"] + body.decode())
         again, is_page = self.ask("GET", "/"), headers["Content-Security-Policy"] == self.page.page.policy
         self.assertEqual((again[0], is_page, again[2][:99]), (200, True, body[:99]))
@@ -135,12 +134,10 @@ class Door(WebCase):
         port = self.port
         for host in (f"localhost:{port}", f"LOCALHOST:{port}", f"[::1]:{port}"):
             self.assertEqual(self.ask("GET", "/", Host=host)[0], 200, host)
-        for host in ("evil.example", f"evil.example:{port}", "127.0.0.1", f"127.0.0.1:{port + 1}", "",
-                     f"127.0.0.1.evil.example:{port}"):
+        for host in ("evil.example", f"evil.example:{port}", "127.0.0.1", f"127.0.0.1:{port + 1}", "", f"127.0.0.1.evil.example:{port}"):
             self.assertEqual(self.ask("GET", "/", Host=host)[0], 421, host)
             self.assertEqual(self.ask("GET", f"/?token={self.page.door.token}", cookie=None, Host=host)[0], 421, host)
-        for origin in ("http://evil.example", f"https://127.0.0.1:{port}", f"http://127.0.0.1:{port + 1}", "null",
-                       f"http://localhost:{port}"):
+        for origin in ("http://evil.example", f"https://127.0.0.1:{port}", f"http://127.0.0.1:{port + 1}", "null", f"http://localhost:{port}"):
             self.assertEqual(self.ask("GET", "/data", Origin=origin)[0], 403, origin)
         self.assertEqual(self.ask("GET", "/data", Origin=f"http://127.0.0.1:{port}")[0], 200)
         for site in ("cross-site", "same-site"):
@@ -159,20 +156,34 @@ class Door(WebCase):
         cookie = self.ask("GET", f"/?token={page.door.token}", cookie=None, Host="ops.example")[1]["Set-Cookie"]
         self.assertEqual(cookie.split("; ")[1:], ["Path=/", "HttpOnly", "SameSite=Strict", "Secure"])
         own = f"127.0.0.1:{self.port}"
-        for host, origin, status in (("ops.example", "https://ops.example", 400), (own, "https://ops.example", 400),
-                                     ("ops.example:443", "https://ops.example", 400), (own, f"http://{own}", 400),
-                                     ("ops.example", "http://ops.example", 403), (own, "http://ops.example", 403),
-                                     ("ops.example", "https://evil.example", 403), (own, "", 403),
-                                     ("ops.example", f"http://{own}", 403), ("evil.example", "https://ops.example", 421),
-                                     (f"ops.example:{self.port}", "https://ops.example", 421)):
+        for host, origin, status in (
+            ("ops.example", "https://ops.example", 400),
+            (own, "https://ops.example", 400),
+            ("ops.example:443", "https://ops.example", 400),
+            (own, f"http://{own}", 400),
+            ("ops.example", "http://ops.example", 403),
+            (own, "http://ops.example", 403),
+            ("ops.example", "https://evil.example", 403),
+            (own, "", 403),
+            ("ops.example", f"http://{own}", 403),
+            ("evil.example", "https://ops.example", 421),
+            (f"ops.example:{self.port}", "https://ops.example", 421),
+        ):
             with self.subTest(f"{host} {origin}"):
                 headers = {"Host": host, "Origin": origin, "X_CF_Token": page.door.post_token}
                 self.assertEqual(self.ask("POST", "/act", b"{}", **headers)[0], status)
         self.page_over(Memory(), public="http://[::1]:8080")
         self.assertTrue(self.page.address.startswith("http://[::1]:8080/?token="))
         self.assertEqual(self.ask("GET", "/", Host="[::1]:8080")[0], 200)
-        for wrong in ("ops.example", "ftp://ops.example", "https://", "https://ops.example/cf", "https://a@ops.example",
-                      "https://ops.example?a=1", "https://ops.example:x"):
+        for wrong in (
+            "ops.example",
+            "ftp://ops.example",
+            "https://",
+            "https://ops.example/cf",
+            "https://a@ops.example",
+            "https://ops.example?a=1",
+            "https://ops.example:x",
+        ):
             with self.subTest(wrong), self.assertRaises(ValueError):
                 Server(Memory(), public=wrong)
 
@@ -184,8 +195,10 @@ class Door(WebCase):
         slow = [socket.create_connection(("127.0.0.1", self.port), 20) for _ in range(3)]
         slow[0].sendall(b"GET / HTTP/1.1\r\n")
         own = f"127.0.0.1:{self.port}"
-        slow[1].sendall(f"POST /act HTTP/1.1\r\nHost: {own}\r\nOrigin: http://{own}\r\nCookie: {self.cookie}\r\n"
-                        f"X-CF-Token: {self.page.door.post_token}\r\nContent-Length: 9\r\n\r\n{{".encode())
+        slow[1].sendall(
+            f"POST /act HTTP/1.1\r\nHost: {own}\r\nOrigin: http://{own}\r\nCookie: {self.cookie}\r\n"
+            f"X-CF-Token: {self.page.door.post_token}\r\nContent-Length: 9\r\n\r\n{{".encode()
+        )
         self.until(lambda: self.page._free._value == 0)
         with socket.create_connection(("127.0.0.1", self.port), 20) as late:
             self.assertTrue(late.makefile("rb").read().startswith(b"HTTP/1.1 503 "))
@@ -202,11 +215,18 @@ class Door(WebCase):
         opened = store.open("r", text_of(None, f.functions))
         body = json.dumps({"action": "end", "name": "r", "number": opened.number, "who": "Eve"}).encode()
         right = {"Origin": f"http://127.0.0.1:{self.port}", "X_CF_Token": self.page.door.post_token}
-        for wrong, status in (({"X_CF_Token": None}, 403), ({"X_CF_Token": self.page.door.token}, 403),
-                              ({"X_CF_Token": ""}, 403), ({"Origin": None}, 403), ({"Origin": "null"}, 403),
-                              ({"Origin": "http://evil.example"}, 403), ({"Host": "evil.example"}, 421),
-                              ({"Sec_Fetch_Site": "cross-site"}, 403), ({"cookie": None}, 401),
-                              ({"cookie": "x=y"}, 401)):
+        for wrong, status in (
+            ({"X_CF_Token": None}, 403),
+            ({"X_CF_Token": self.page.door.token}, 403),
+            ({"X_CF_Token": ""}, 403),
+            ({"Origin": None}, 403),
+            ({"Origin": "null"}, 403),
+            ({"Origin": "http://evil.example"}, 403),
+            ({"Host": "evil.example"}, 421),
+            ({"Sec_Fetch_Site": "cross-site"}, 403),
+            ({"cookie": None}, 401),
+            ({"cookie": "x=y"}, 401),
+        ):
             with self.subTest(wrong):
                 self.assertEqual(self.ask("POST", "/act", body, **{**right, **wrong})[0], status)
         asked = urlencode({"action": "end", "name": "r", "number": opened.number, "who": "Eve"})
@@ -222,9 +242,18 @@ class Door(WebCase):
         right = {"Origin": f"http://127.0.0.1:{self.port}", "X_CF_Token": self.page.door.post_token}
         for length in ("-1", "x", "", "\u00b2", "0x10", "1" * 30):
             self.assertEqual(self.ask("POST", "/act", **{**right, "Content_Length": length})[0], 413, length)
-        for body in (b"", b"{", b"[]", b"7", b"\xff", b"{}", b'{"action": "end"}', b"[" * 100_000,
-                     b'{"action": "shout", "name": "r", "number": 1, "who": "a"}',
-                     b'{"action": "end", "name": 7, "number": 1, "who": "a"}'):
+        for body in (
+            b"",
+            b"{",
+            b"[]",
+            b"7",
+            b"\xff",
+            b"{}",
+            b'{"action": "end"}',
+            b"[" * 100_000,
+            b'{"action": "shout", "name": "r", "number": 1, "who": "a"}',
+            b'{"action": "end", "name": 7, "number": 1, "who": "a"}',
+        ):
             self.assertEqual(self.ask("POST", "/act", body, **right)[0], 400, body)
         many = {**right, "Content_Length": "10000000"}
         connection = http.client.HTTPConnection("127.0.0.1", self.port, timeout=20)
@@ -245,8 +274,12 @@ class Door(WebCase):
             self.assertIn(f"{name}-src 'sha256-{digest}'", policy)
         for path in ("/", "/data", "/metrics", "/nowhere"):
             headers = self.ask("GET", path)[1]
-            wanted = {"X-Content-Type-Options": "nosniff", "Referrer-Policy": "no-referrer",
-                      "Cache-Control": "no-store", "Cross-Origin-Resource-Policy": "same-origin"}
+            wanted = {
+                "X-Content-Type-Options": "nosniff",
+                "Referrer-Policy": "no-referrer",
+                "Cache-Control": "no-store",
+                "Cross-Origin-Resource-Policy": "same-origin",
+            }
             self.assertEqual({name: headers[name] for name in wanted}, wanted)
             self.assertNotIn("Access-Control-Allow-Origin", headers)
         elsewhere = re.findall(r"(?:src|href|url|import|from)\s*[=(]?\s*[\"']?(?:https?:)?//[^\s\"')]+", text)
@@ -263,8 +296,7 @@ class Door(WebCase):
         self.until(lambda: "r" in self.rows() and self.rows()["r"]["state"] == "waiting")
         for action in ("cancel", "complete", "fail", "end", "drop"):
             right = {"Origin": f"http://127.0.0.1:{self.port}", "X_CF_Token": self.page.door.post_token}
-            body = json.dumps({"action": action, "name": "r", "number": store.find("r").number, "stage": 0,
-                               "value": "1", "who": "Ada"}).encode()
+            body = json.dumps({"action": action, "name": "r", "number": store.find("r").number, "stage": 0, "value": "1", "who": "Ada"}).encode()
             status, _, said = self.ask("POST", "/act", body, **right)
             self.assertEqual((status, TEXTS["read_only"] in said.decode()), (403, True))
         time.sleep(2.5)  # (in which a page that may write keeps a glance)
@@ -291,9 +323,14 @@ class Hostile(WebCase):
         with_names = self.one(HOSTILE)
         self.assertEqual(with_names["name"], HOSTILE)
         self.assertIn("<b> (by hand) completes 0 </script>", json.dumps(with_names["lines"]))
-        paths = ["/data?view=requests", "/data?" + urlencode({"view": "request", "name": HOSTILE}),
-                 "/payload?" + urlencode({"name": HOSTILE, "number": 0, "place": 1}), "/data?view=sessions",
-                 "/data?view=queues", "/metrics"]
+        paths = [
+            "/data?view=requests",
+            "/data?" + urlencode({"view": "request", "name": HOSTILE}),
+            "/payload?" + urlencode({"name": HOSTILE, "number": 0, "place": 1}),
+            "/data?view=sessions",
+            "/data?view=queues",
+            "/metrics",
+        ]
         for path in paths:
             _, headers, body = self.ask("GET", path)
             with self.subTest(path):
@@ -339,7 +376,8 @@ class Hostile(WebCase):
     @unittest.skipIf(os.name != "posix", "takes a shell")
     def test_a_picture_has_an_origin_of_its_own(self):
         (program := Path(self.folder.name, "cf_look")).write_text(
-            f"#!/bin/sh\nprintf '<script type=x>1</script><script>run()</script>'; cat > {self.folder.name}/account\n")
+            f"#!/bin/sh\nprintf '<script type=x>1</script><script>run()</script>'; cat > {self.folder.name}/account\n"
+        )
         program.chmod(0o755)
         store = Memory()
         service = DurableService(store, 0, functions=f.functions)
@@ -384,14 +422,13 @@ class Lists(WebCase):
             flow.promise("answer")
             service.start(flow, name=name + " waits")
             service.request(name + " runs").supply(f.hold)
-            self.elsewhere(service.store, name[len(self.name):], name + " ready")
+            self.elsewhere(service.store, name[len(self.name) :], name + " ready")
             service.request(name + " done").supply(f.inc, 1).result(20)
             service.request(name + " closed").end()
             wanted = {" waits": "waiting", " runs": "running", " done": "done", " ready": "ready"}
-            self.until(lambda: {key[len(name):]: it["state"] for key, it in self.rows(part=name).items()} == wanted)
+            self.until(lambda: {key[len(name) :]: it["state"] for key, it in self.rows(part=name).items()} == wanted)
             rows = self.rows(part=name)
-            self.assertEqual((rows[name + " waits"]["flow"], rows[name + " waits"]["waits"]),
-                             ("of a kind", [[0, "answer", "pending"]]))
+            self.assertEqual((rows[name + " waits"]["flow"], rows[name + " waits"]["waits"]), ("of a kind", [[0, "answer", "pending"]]))
             self.assertEqual(rows[name + " runs"]["sessions"][0]["id"], f"{service.session:010x}")
             self.assertEqual(list(self.rows(part=name, state="waiting")), [name + " waits"])
             self.assertEqual(list(self.rows(part=name, flow="of a kind")), [name + " waits"])
@@ -406,8 +443,10 @@ class Lists(WebCase):
             self.assertEqual({key: it["state"] for key, it in closed.items()}, {name + " closed": "closed"})
             queues = [[it["version"], it["many"]] for it in self.data(view="queues")["rows"] if it["function"] == name]
             self.assertEqual(queues, [[3, 1]])
+
             def its(number=f"{service.session:010x}"):
                 return [it for it in self.data(view="sessions")["rows"] if it["id"] == number]
+
             self.until(lambda: [it["there"] for it in its()] == [True])
             self.assertEqual(its()[0]["name"], f"{socket.gethostname()} {os.getpid()}")
             self.assertEqual([run[0] for run in its()[0]["runs"]], [name + " runs"])
@@ -415,7 +454,7 @@ class Lists(WebCase):
     def elsewhere(self, store, address, name):
         """A request whose function no process knows that works on it."""
         unknown = Functions()
-        function = unknown.function(name[:-len(" ready")], version=3)(lambda: 1)
+        function = unknown.function(name[: -len(" ready")], version=3)(lambda: 1)
         asks = DurableService(store if address == "memory://" else connect(address), 0, functions=unknown)
         self.services.append(asks)
         asks.request(name).supply(function)
@@ -427,10 +466,12 @@ class Lists(WebCase):
 
     def test_a_page_comes_with_its_list(self):
         """It waits for a store that tells its first requests a moment later."""
+
         class Late(Memory):
             def overview(self):
                 time.sleep(0.2)
                 return super().overview()
+
         store = Late()
         store.open(HOSTILE, text_of(self.flow(), f.functions))
         self.page_over(store)
@@ -456,6 +497,7 @@ class Lists(WebCase):
             def overview(self):
                 answers.wait(30)
                 return super().overview()
+
         began = time.monotonic()
         self.page_over(Silent())
         self.assertLess(time.monotonic() - began, 5)
@@ -464,6 +506,7 @@ class Lists(WebCase):
 
     def test_looks_take_turns_by_what_they_cost(self):
         """A store that is slow since others take the processors is looked at as often as it answers."""
+
         class Slow(Memory):
             looks = 0
 
@@ -471,6 +514,7 @@ class Lists(WebCase):
                 self.looks += 1
                 time.sleep(0.2)
                 return super().overview()
+
         store = Slow()
         self.page_over(store)
         time.sleep(2)
@@ -484,6 +528,7 @@ class Lists(WebCase):
             def keep_glances(self, glances):
                 waits.set()
                 goes_on.wait(30)
+
         store = Slow()
         store.open("a", text_of(self.flow(), f.functions))
         self.page_over(store)
@@ -499,6 +544,7 @@ class Lists(WebCase):
             def read_rows(self, wanted):
                 self.reads += 1
                 return super().read_rows(wanted)
+
         store = Counting()
         page = self.page_over(store)
         for k in range(20):
@@ -518,8 +564,7 @@ class Lists(WebCase):
         self.until(lambda: self.rows().get("r", {}).get("state") == "running")
         self.until(lambda: self.rows()["r"]["state"] == "gone")
         (session,) = self.data(view="sessions")["rows"]
-        self.assertEqual((session["there"], session["name"], session["runs"][0][:4]),
-                         (False, "host 7", ["r", "r", 0, "load"]))
+        self.assertEqual((session["there"], session["name"], session["runs"][0][:4]), (False, "host 7", ["r", "r", 0, "load"]))
         self.assertIn('cf_sessions{state="gone"} 1', self.ask("GET", "/metrics")[2].decode())
         self.assertIs(self.one("r")["stages"][0]["session"]["there"], False)
 
@@ -535,6 +580,7 @@ class Lists(WebCase):
 
     def test_a_row_that_is_read_before_its_last_word_is_there(self):
         """A member of etcd that lags behind knows fewer words than are told. The row is read again."""
+
         class Lagging(Memory):
             late = 3
 
@@ -548,17 +594,22 @@ class Lists(WebCase):
             def changes(self, mark):
                 changes, names = super().changes(mark)
                 return (changes if mark is None else Changes([], {}, [])), names  # (each is told once)
+
         for is_looked_at in (True, False):
             store = Lagging()
             opened = store.open("r", text_of(self.flow(), f.functions))
             view = RowView(store, opened, new_session())
             view.act(lambda view: [(4 << 56 | view.who << 48, None)])
             page = self.page_over(store)
-            self.until(lambda: (self.rows()["r"]["state"], store.late) == ("running", 0) if is_looked_at else
-                       (page.board.line("r") or view).seen and page.board.line("r").state == "running")
+            self.until(
+                lambda: (self.rows()["r"]["state"], store.late) == ("running", 0)
+                if is_looked_at
+                else (page.board.line("r") or view).seen and page.board.line("r").state == "running"
+            )
 
     def test_rows_that_are_read_together(self):
         """.. are told each for itself, also where one of them can't be read, or isn't there any more."""
+
         class Counting(Memory):
             reads = 0
 
@@ -566,19 +617,17 @@ class Lists(WebCase):
                 self.reads += 1
                 self.drop("gone")
                 return super().read_rows(wanted)
+
         store = Counting()
         for k in range(20):
             opened = store.open(f"r{k:02}", text_of(self.flow(), f.functions))
-            RowView(store, opened, new_session()).act(
-                lambda view: [(7 << 56 | view.who << 48 | 0 << 24, json.dumps({"name": f"more {k}"}).encode())])
+            RowView(store, opened, new_session()).act(lambda view: [(7 << 56 | view.who << 48 | 0 << 24, json.dumps({"name": f"more {k}"}).encode())])
         store.open("gone", text_of(self.flow(), f.functions))
         store.append(Put("r07", 1, [(77, 7)], {}))
         store.open("r08 of another kind", "{}")
         self.page_over(store)
-        self.until(lambda: "gone" not in self.rows() and
-                   all(it["state"] in ("ready", "broken") for it in self.rows().values()))
-        self.assertEqual(sorted(name for name, it in self.rows().items() if it["state"] == "broken"),
-                         ["r07", "r08 of another kind"])
+        self.until(lambda: "gone" not in self.rows() and all(it["state"] in ("ready", "broken") for it in self.rows().values()))
+        self.assertEqual(sorted(name for name, it in self.rows().items() if it["state"] == "broken"), ["r07", "r08 of another kind"])
         self.assertEqual(self.rows()["r19"]["waits"], [[0, "load", "ready"], [1, "more 19", "pending"]])
         self.assertLess(store.reads, 5)
 
@@ -595,6 +644,7 @@ class Lists(WebCase):
             def read(self, name, at=0, number=0):
                 self.reads += 1
                 return super().read(name, at, number)
+
         store = Counting()
         plan = text_of(None, f.functions)
         for k in range(250):
@@ -713,8 +763,7 @@ class Acting(WebCase):
             self.page_over(service.store)
             request = service.request(name)
             stages = [request.promise(f"p{k}") for k in range(5)]
-            self.assertEqual(self.act("complete", name, 0, '{"a": [1, null]}'),
-                             (200, {"done": True, "said": TEXTS["done"]}))
+            self.assertEqual(self.act("complete", name, 0, '{"a": [1, null]}'), (200, {"done": True, "said": TEXTS["done"]}))
             self.assertEqual(stages[0].result(20), {"a": [1, None]})
             self.assertEqual(self.act("complete", name, 1, "null", who="Bob")[1]["done"], True)
             self.assertIsNone(stages[1].result(20))
@@ -724,9 +773,12 @@ class Acting(WebCase):
             self.until(stages[3].cancelled)
             self.assertEqual(self.one(name)["words"], 9)
             text = self.text_of(name)
-            for said in ("Ada (by hand) completes 0 p0 with {'a': [1, None]}", "Bob (by hand) completes 1 p1 with nil",
-                         "Ada (by hand) fails 2 p2 with RuntimeError('no <b>stock</b>')",
-                         "Eve\\u202e (by hand) cancels 3 p3"):
+            for said in (
+                "Ada (by hand) completes 0 p0 with {'a': [1, None]}",
+                "Bob (by hand) completes 1 p1 with nil",
+                "Ada (by hand) fails 2 p2 with RuntimeError('no <b>stock</b>')",
+                "Eve\\u202e (by hand) cancels 3 p3",
+            ):
                 self.assertIn(said, text)
             self.assertIn("Ada (by hand) completes", str(request.history()))  # in each process
             self.assertEqual(self.act("drop", name), (200, {"done": False, "said": TEXTS["drop_open"]}))
@@ -741,10 +793,20 @@ class Acting(WebCase):
         service = self.service()
         service.request("r").promise()
         self.page_over(service.store)
-        for asked in (("complete", "r", 0, "{"), ("complete", "r", 0, ""), ("fail", "r", 0, " "),
-                      ("complete", "r", 0, "[" * 100_000), ("complete", "r", 0, "NaN"), ("complete", "r", 0, "[-Infinity]"),
-                      ("fail", "r", 0, "x" * 3000), ("cancel", "r", 1), ("cancel", "r", -1), ("cancel", "r", "0"),
-                      ("cancel", "r", True), ("cancel", "r")):
+        for asked in (
+            ("complete", "r", 0, "{"),
+            ("complete", "r", 0, ""),
+            ("fail", "r", 0, " "),
+            ("complete", "r", 0, "[" * 100_000),
+            ("complete", "r", 0, "NaN"),
+            ("complete", "r", 0, "[-Infinity]"),
+            ("fail", "r", 0, "x" * 3000),
+            ("cancel", "r", 1),
+            ("cancel", "r", -1),
+            ("cancel", "r", "0"),
+            ("cancel", "r", True),
+            ("cancel", "r"),
+        ):
             self.assertEqual(self.act(*asked)[0], 400, asked)
         self.assertEqual(self.act("cancel", "r", 0, who=" ")[0], 400)
         self.assertEqual(self.act("cancel", "r", 0, who="x" * 65)[0], 400)
@@ -759,8 +821,10 @@ class Acting(WebCase):
             for k in range(8):
                 request.promise()
                 told = []
+
                 def act(who, k=k, told=told):
                     told.append(self.act("complete", name, k, f'"{who}"', who))
+
                 both = [threading.Thread(target=act, args=(who,)) for who in ("Ada", "Bob")]
                 for it in both:
                     it.start()
@@ -817,14 +881,16 @@ class Away(WebCase):
             def closed(self, behind, most, part=""):
                 self._may()
                 return super().closed(behind, most, part)
+
         store = Silent()
         store.open("r", text_of(None, f.functions))
         self.page_over(store)
         self.until(lambda: "r" in self.rows())
         number = self.one("r")["number"]
         for fault, status in ((Unknown("away <b>"), 503), (StoreError("no <b>"), 409)):
-            store.fault = fault
+            began, store.fault = time.time(), fault
             self.until(lambda: self.data(view="requests")["away"] == str(fault))
+            self.assertTrue(began <= self.data(view="requests")["awaySince"] <= time.time())
             self.assertIn("r", self.rows())  # what was known is shown
             self.assertIn("cf_store_up 0\n", self.ask("GET", "/metrics")[2].decode())
             with unittest.mock.patch.object(self, "one", lambda name: {"number": number}):
@@ -839,6 +905,30 @@ class Away(WebCase):
             self.assertIn("cf_store_up 1\n", self.ask("GET", "/metrics")[2].decode())
         self.assertRegex(self.ask("GET", "/metrics")[2].decode(), r"cf_unknown_answers_total [1-9]")
 
+    def test_rows_that_are_read_together_of_a_store_that_is_away(self):
+        """A row that is broken is left out; what the store raises is raised, and is asked again."""
+        store = Memory()
+        number = store.open("r", text_of(None, f.functions)).number
+        readings = Readings(store)
+        for fault in (Unknown("away"), Broken("r", 1, "it doesn't fit"), None):
+            with self.subTest(fault=fault), unittest.mock.patch.object(RowView, "catch_up", side_effect=fault):
+                if isinstance(fault, Unknown):
+                    self.assertRaises(Unknown, readings.reading_all, {"r": number}, True)
+                else:
+                    self.assertEqual(list(readings.reading_all({"r": number}, True)), [] if fault else ["r"])
+
+    def test_a_request_that_is_dropped_before_its_row_is_read(self):
+        store = Memory()
+        board = self.page_over(store).board
+        with unittest.mock.patch.object(type(board), "_read_some", lambda _: None):
+            self.until(lambda: self.data(view="requests")["known"])
+            store.open("r", text_of(None, f.functions))
+            self.until(lambda: "r" in self.rows())
+            self.assertIn("r", board._behind)
+            store.drop("r")
+            self.until(lambda: "r" not in self.rows())
+            self.assertNotIn("r", board._behind)
+
     def test_whatever_a_store_raises(self):
         class Odd(Memory):
             left = 3
@@ -848,6 +938,7 @@ class Away(WebCase):
                 if self.left > 0:
                     raise KeyError("odd")
                 return super().overview()
+
         store = Odd()
         store.open("r", text_of(None, f.functions))
         with self.assertLogs("cf.requests", "ERROR"):
@@ -879,8 +970,7 @@ class Command(WebCase):
         words = [sys.executable, "-m", "cf.requests", "--store", self.address, "serve", "--token-file", str(token)]
         env = dict(os.environ, PYTHONPATH=str(CLIENT)) if not os.environ.get("CF_INSTALLED") else None
         for end in (signal.SIGTERM, signal.SIGINT):
-            process = subprocess.Popen([*words, "--who", "Ada"], stdout=subprocess.PIPE, stderr=subprocess.PIPE,
-                                       env=env, universal_newlines=True)
+            process = subprocess.Popen([*words, "--who", "Ada"], stdout=subprocess.PIPE, stderr=subprocess.PIPE, env=env, universal_newlines=True)
             self.processes.append(process)
             line = process.stdout.readline()
             address = re.search(r"http://127\.0\.0\.1:(\d+)/\?token=t{24}$", line.strip())
@@ -900,8 +990,7 @@ class Command(WebCase):
     def test_an_address_is_told_without_its_password(self):
         from cf.requests import _without_secrets
 
-        self.assertEqual(_without_secrets("postgresql://ada:secret@db:5432/orders?sslpassword=x"),
-                         "postgresql://db:5432/orders")
+        self.assertEqual(_without_secrets("postgresql://ada:secret@db:5432/orders?sslpassword=x"), "postgresql://db:5432/orders")
         self.assertEqual(_without_secrets("sqlite:////at/a.db"), "sqlite:////at/a.db")
         self.assertEqual(_without_secrets("etcd://a:1,b:2"), "etcd://a:1,b:2")
 

@@ -22,9 +22,7 @@ class Working(Case):
         """A stage whose function runs elsewhere isn't failed by one that looks, as long as who has it is there."""
         functions, goes, store = Functions(), threading.Event(), Memory()
         waits = functions.function("waits")(lambda: goes.wait(20))
-        first, second = DurableService(store, 1,
-                                       functions=functions), DurableService(store, 0, functions=functions,
-                                                                            takes_all=True)
+        first, second = DurableService(store, 1, functions=functions), DurableService(store, 0, functions=functions, takes_all=True)
         stage = first.request("r").supply(waits)
         seen = second.open("r")
         self.until(lambda: seen._view.claims())
@@ -35,6 +33,7 @@ class Working(Case):
 
     def test_a_long_start(self):
         """Who reads many long rows for the first time says meanwhile that he is there."""
+
         class Slow(Memory):
             def read(self, name, at=0, number=0):
                 time.sleep(0.02)
@@ -43,6 +42,7 @@ class Working(Case):
             def beat(self, session):
                 times.append(time.monotonic())
                 super().beat(session)
+
         store, times = Slow(), []
         for k in range(100):
             store.open(f"r{k}", EMPTY)
@@ -92,6 +92,7 @@ class Working(Case):
 
         def deep():
             raise KeyError("why")
+
         fails = functions.function("raises")(lambda *_: deep())
         composes = functions.function("composes")(lambda request, _: deep())
         functions.add(f.functions)
@@ -102,8 +103,9 @@ class Working(Case):
             first = worked_on.supply(fails)
             self.assertIsInstance(first.again(2).then(f.inc).exception(20), KeyError)
             self.assertIsInstance(worked_on.supply(f.load, 1).compose(composes).exception(20), KeyError)
-        self.assertEqual([it.getMessage() for it in logs.records],
-                         ["request 'r', stage 0: raises has raised", "request 'r', stage 6: composes has raised"])
+        self.assertEqual(
+            [it.getMessage() for it in logs.records], ["request 'r', stage 0: raises has raised", "request 'r', stage 6: composes has raised"]
+        )
         for it in logs.records:
             self.assertEqual(traceback.extract_tb(it.exc_info[2])[-1].name, "deep")
 
@@ -118,6 +120,7 @@ class Working(Case):
                 refused.append(act.__name__)
                 raise RuntimeError("can't start new thread")
             return submit(call, name, act, *given)
+
         with unittest.mock.patch.object(working._pool, "submit", submits), self.assertLogs("cf.store", "WARNING"):
             worked_on = working.request("r")
             self.assertEqual(worked_on.supply(f.inc, 1).result(20), 2)

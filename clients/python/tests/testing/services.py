@@ -13,6 +13,7 @@ class Outage(Exception):
 
 # A payment that takes too long is tried again.
 
+
 def charged_twice(world, once=False):
     charges = []
 
@@ -32,6 +33,7 @@ def charged_by_key(world):
 
 
 # A second backend is asked where the first one is slow. Each answer holds a connection until it is given back.
+
 
 def loser_keeps_connection(world, lets_go=False):
     held, request = [], world.service.request("hedge")
@@ -62,6 +64,7 @@ def loser_gives_back(world):
 
 # A cache is filled by a load that began before what it holds was changed.
 
+
 def stale_cache(world, sees_version=False):
     source, cache = {"value": 1, "version": 1}, {}
 
@@ -88,6 +91,7 @@ def cache_by_version(world):
 
 # An order is cancelled while its function runs.
 
+
 def cancelled_and_shipped(world, asks=False):
     told, shipped, request = [], [], world.service.request("order")
     ship = request.supply(shipped.append, 17).named("ship")
@@ -108,6 +112,7 @@ def cancelled_if_so(world):
 
 # Two functions count in two steps.
 
+
 def lost_count(world, in_one=False):
     count, request = [0], world.service.request("count")
 
@@ -126,6 +131,7 @@ def counted_in_one(world):
 
 
 # A reader that finds nothing leaves a promise to be woken by, and the writer has been there before.
+
 
 def lost_wake(world, looks_again=False):
     items, waiting, request = [], [], world.service.request("queue")
@@ -157,6 +163,7 @@ def looks_again(world):
 
 # The winner of two closes what the loser still uses.
 
+
 def closed_by_winner(world, waits=False):
     is_open, request = [True], world.service.request("file")
 
@@ -175,6 +182,7 @@ def closed_by_last(world):
 
 
 # Two functions take two locks.
+
 
 class Lock:
     """A lock whose owners wait by stages."""
@@ -203,8 +211,7 @@ def opposite_locks(world, in_order=False):
         second.free()
         first.free()
 
-    return [request.supply(transfer, one, two).named("there"),
-            request.supply(transfer, *((one, two) if in_order else (two, one))).named("back")]
+    return [request.supply(transfer, one, two).named("there"), request.supply(transfer, *((one, two) if in_order else (two, one))).named("back")]
 
 
 def locks_in_order(world):
@@ -212,6 +219,7 @@ def locks_in_order(world):
 
 
 # A function of a service with one worker waits for another function of it.
+
 
 def waits_in_pool(world, behind=False):
     request = world.service.request("report")
@@ -226,6 +234,7 @@ def waits_behind(world):
 
 
 # A default is told after a while, and the late answer is written down all the same.
+
 
 def told_otherwise(world, behind=False):
     written, request = {}, world.service.request("rate")
@@ -245,6 +254,7 @@ def told_as_written(world):
 
 # Of two replicas one fails.
 
+
 def failure_first(world, falls_back=False):
     request = world.service.request("replicas")
     one = request.adopt(world.arrives(1, "one"))
@@ -260,6 +270,7 @@ def falls_back(world):
 
 
 # Two parts are to be written together or not at all.
+
 
 def half_written(world, together=False):
     written, request = [], world.service.request("both")
@@ -279,6 +290,7 @@ def written_together(world):
 
 
 # What is made on the first use is made twice.
+
 
 def made_twice(world, keeps_stage=False):
     made, kept, request = [], {}, world.service.request("pool")
@@ -307,6 +319,7 @@ def made_once(world):
 
 # Two messages of one sender come, and the later one may come first.
 
+
 def older_overwrites(world, by_version=False):
     state, request = {"version": 0}, world.service.request("profile")
 
@@ -324,6 +337,7 @@ def newest_stands(world):
 
 
 # Two withdrawals look at the balance in one function, and take from it in the next.
+
 
 def overdrawn(world, in_one=False):
     account, request = {"cents": 100}, world.service.request("account")
@@ -345,6 +359,7 @@ def never_overdrawn(world):
 
 # A listener that has unsubscribed is told.
 
+
 def told_after_end(world, looks=False):
     listener, request = {"is_on": True}, world.service.request("news")
 
@@ -364,6 +379,7 @@ def told_before_end(world):
 
 
 # Coroutines on a loop.
+
 
 def lost_update_on_loop(world, locks=False):
     total = {"cents": 0}
@@ -417,6 +433,7 @@ def released(world):
 
 # A payment that took too long is refunded, though it may still be made.
 
+
 def refunded_before(world, waits=False):
     moved, request = [], world.service.request("refund")
     charge = request.supply(lambda: moved.append("charge")).named("charge")
@@ -431,8 +448,7 @@ def refunded_before(world, waits=False):
         told = limited.recover_compose(lambda error: charge.handle(lambda *_: refund(error)))
     else:
         told = limited.recover(refund)
-    world.at_end(lambda: told.result() == "paid" or moved.count("refund") == moved.count("charge"),
-                 "what isn't paid is refunded")
+    world.at_end(lambda: told.result() == "paid" or moved.count("refund") == moved.count("charge"), "what isn't paid is refunded")
     return told
 
 
@@ -441,6 +457,7 @@ def refunded_behind(world):
 
 
 # A message is delivered twice.
+
 
 def handled_twice(world, first_marks=False):
     seen, effects, request = set(), [], world.service.request("messages")
@@ -464,23 +481,46 @@ def handled_once(world):
 
 DEADLOCK = "deadlock"
 FAULTY = [
-    (charged_twice, "charged at most once", {}), (loser_keeps_connection, "no connection is left", {}),
+    (charged_twice, "charged at most once", {}),
+    (loser_keeps_connection, "no connection is left", {}),
     (stale_cache, "the cache isn't stale", {}),
     (cancelled_and_shipped, "what is told to be cancelled isn't shipped", {}),
-    (lost_count, "both are counted", {}), (lost_wake, "a reader that waits is woken", {}),
-    (closed_by_winner, "AssertionError('the file is closed')", {}), (opposite_locks, DEADLOCK, {}),
-    (waits_in_pool, DEADLOCK, {"workers": 1}), (told_otherwise, "what is told is what is written", {}),
-    (failure_first, "one good answer is enough", {}), (half_written, "both are written or none", {}),
-    (made_twice, "one is made", {}), (older_overwrites, "the last message stands", {}),
-    (overdrawn, "never overdrawn", {}), (told_after_end, "AssertionError('told after its end')", {}),
-    (lost_update_on_loop, "both are added", {}), (never_released, "it is released", {}),
-    (refunded_before, "what isn't paid is refunded", {}), (handled_twice, "handled once", {}),
+    (lost_count, "both are counted", {}),
+    (lost_wake, "a reader that waits is woken", {}),
+    (closed_by_winner, "AssertionError('the file is closed')", {}),
+    (opposite_locks, DEADLOCK, {}),
+    (waits_in_pool, DEADLOCK, {"workers": 1}),
+    (told_otherwise, "what is told is what is written", {}),
+    (failure_first, "one good answer is enough", {}),
+    (half_written, "both are written or none", {}),
+    (made_twice, "one is made", {}),
+    (older_overwrites, "the last message stands", {}),
+    (overdrawn, "never overdrawn", {}),
+    (told_after_end, "AssertionError('told after its end')", {}),
+    (lost_update_on_loop, "both are added", {}),
+    (never_released, "it is released", {}),
+    (refunded_before, "what isn't paid is refunded", {}),
+    (handled_twice, "handled once", {}),
 ]
 SOUND = [
-    (charged_by_key, {}), (loser_gives_back, {}), (cache_by_version, {}), (cancelled_if_so, {}),
-    (counted_in_one, {}), (looks_again, {}),
-    (closed_by_last, {}), (locks_in_order, {}), (waits_behind, {"workers": 1}), (told_as_written, {}), (falls_back, {}),
-    (written_together, {}), (made_once, {}), (newest_stands, {}), (never_overdrawn, {}),
-    (told_before_end, {}), (locked_on_loop, {}),
-    (released, {}), (refunded_behind, {}), (handled_once, {}),
+    (charged_by_key, {}),
+    (loser_gives_back, {}),
+    (cache_by_version, {}),
+    (cancelled_if_so, {}),
+    (counted_in_one, {}),
+    (looks_again, {}),
+    (closed_by_last, {}),
+    (locks_in_order, {}),
+    (waits_behind, {"workers": 1}),
+    (told_as_written, {}),
+    (falls_back, {}),
+    (written_together, {}),
+    (made_once, {}),
+    (newest_stands, {}),
+    (never_overdrawn, {}),
+    (told_before_end, {}),
+    (locked_on_loop, {}),
+    (released, {}),
+    (refunded_behind, {}),
+    (handled_once, {}),
 ]

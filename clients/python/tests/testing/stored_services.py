@@ -26,6 +26,7 @@ def shop_and_workers(world, functions, workers=2, **faults):
 
 # A payment is made by a function that may be called again.
 
+
 def charged_again(world, by_key=False):
     charges, functions = [], Functions()
 
@@ -44,6 +45,7 @@ def charged_by_key(world):
 
 
 # A function goes on, though its process was taken for gone, and another has its place.
+
 
 def goes_on_without_claim(world, in_transaction=False):
     written, functions = [], Functions()
@@ -67,6 +69,7 @@ def books_in_transaction(world):
 
 
 # A client tells an outcome whose put wasn't answered.
+
 
 def told_unanswered(world, asks_again=False):
     told, functions = [], Functions()
@@ -92,6 +95,7 @@ def told_once_answered(world):
 
 
 # A client that got no answer begins the order anew.
+
 
 def opened_twice(world, same_name=False):
     charges, functions = [], Functions()
@@ -122,6 +126,7 @@ def opened_by_name(world):
 
 # A clock runs ahead, and what somebody holds is given to another too early.
 
+
 def freed_too_early(world, by_row=False):
     sold, store = [], world.store()
     shop, cleaner = store.process("the shop"), store.process("the cleaner", ahead=60)
@@ -147,6 +152,7 @@ def freed_by_row(world):
 
 
 # A limit says that nobody waits any longer, and not that nothing was done.
+
 
 def charged_behind_limit(world, before=False):
     charges, functions = [], Functions()
@@ -176,6 +182,7 @@ def limit_before_charge(world):
 
 # A client that got no answer asks again, and takes it for another's that his own word stands.
 
+
 def own_word_for_anothers(world, reads=False):
     told, store = [], world.store(silent=1)
     shop = store.process("the shop")
@@ -199,6 +206,7 @@ def reads_who_has_it(world):
 
 
 # A process decides by what it has read before.
+
 
 def asked_by_old_view(world, by_cancel=False):
     orders_, store = [], world.store()
@@ -225,6 +233,7 @@ def asked_by_cancel(world):
 
 # What was abandoned may have been done.
 
+
 def abandoned_and_done(world, by_hand=False):
     charges, functions = [], Functions()
 
@@ -250,6 +259,7 @@ def looked_into_by_hand(world):
 
 # A transactional function is called again where its commit never came, and what it did elsewhere stands.
 
+
 def done_elsewhere(world, by_connection=False):
     mails, functions = [], Functions()
 
@@ -270,6 +280,7 @@ def written_by_connection(world):
 
 # A put that was given up comes later.
 
+
 def told_before_it_came(world, asks_again=False):
     told, store = [], world.store(silent=1, late=1)
     shop = store.process("the shop")
@@ -283,8 +294,7 @@ def told_before_it_came(world, asks_again=False):
         told.append("cancelled" if did else "not cancelled")
 
     shop.calls(cancel, "a client")
-    world.at_end(lambda: told != ["not cancelled"] or not store.is_settled("order 17", "order"),
-                 "what is told not to be cancelled isn't")
+    world.at_end(lambda: told != ["not cancelled"] or not store.is_settled("order 17", "order"), "what is told not to be cancelled isn't")
 
 
 def told_behind_it(world):
@@ -292,14 +302,28 @@ def told_behind_it(world):
 
 
 FAULTY = [
-    (charged_again, "charged at most once"), (goes_on_without_claim, "booked at most once"),
-    (told_unanswered, "what is told to be approved is"), (opened_twice, "ordered at most once"),
-    (freed_too_early, "sold once"), (charged_behind_limit, "charged at most once"),
-    (own_word_for_anothers, "nobody else has it"), (asked_by_old_view, "ordered at one place"),
-    (abandoned_and_done, "charged at most once"), (done_elsewhere, "exactly one mail"),
+    (charged_again, "charged at most once"),
+    (goes_on_without_claim, "booked at most once"),
+    (told_unanswered, "what is told to be approved is"),
+    (opened_twice, "ordered at most once"),
+    (freed_too_early, "sold once"),
+    (charged_behind_limit, "charged at most once"),
+    (own_word_for_anothers, "nobody else has it"),
+    (asked_by_old_view, "ordered at one place"),
+    (abandoned_and_done, "charged at most once"),
+    (done_elsewhere, "exactly one mail"),
     (told_before_it_came, "what is told not to be cancelled isn't"),
 ]
 SOUND = [
-    charged_by_key, books_in_transaction, told_once_answered, opened_by_name, freed_by_row, limit_before_charge,
-    reads_who_has_it, asked_by_cancel, looked_into_by_hand, written_by_connection, told_behind_it,
+    charged_by_key,
+    books_in_transaction,
+    told_once_answered,
+    opened_by_name,
+    freed_by_row,
+    limit_before_charge,
+    reads_who_has_it,
+    asked_by_cancel,
+    looked_into_by_hand,
+    written_by_connection,
+    told_behind_it,
 ]

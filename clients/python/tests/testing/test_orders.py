@@ -36,8 +36,7 @@ class Services(unittest.TestCase):
             with self.subTest(service.__name__):
                 failure = orders(service, seconds=SECONDS, **options).failed[0]
                 again = orders(service, row=failure.row, **options)
-                self.assertEqual((again.orders, again.failed[0].why, again.failed[0].row),
-                                 (1, failure.why, failure.row))
+                self.assertEqual((again.orders, again.failed[0].why, again.failed[0].row), (1, failure.why, failure.row))
 
     def test_each_sound_service_is_sound_in_all_orders(self):
         for service, options in services.SOUND:
@@ -55,15 +54,15 @@ class Failures(unittest.TestCase):
         self.failure = orders(charged).failed[0]
 
     def test_it_reads_like_a_story(self):
-        self.assertEqual([told.text for told in self.failure.told],
-                         ["price comes: 4900", "charge is claimed", "charge is called", "the limit of charge passes",
-                          "<lambda> is claimed", "<lambda> is called"])
+        self.assertEqual(
+            [told.text for told in self.failure.told],
+            ["price comes: 4900", "charge is claimed", "charge is called", "the limit of charge passes", "<lambda> is claimed", "<lambda> is called"],
+        )
         self.assertEqual(self.failure.told[3].settled[0][:28], "charge ends: TimeoutError('c")
 
     def test_the_pair_that_decides_is_named(self):
         self.assertEqual([tuple(pair) for pair in self.failure.pairs], [(1, 3)])
-        self.assertIn("It is so if 4 (the limit of charge passes) comes before 2 (charge is claimed).",
-                      str(self.failure))
+        self.assertIn("It is so if 4 (the limit of charge passes) comes before 2 (charge is claimed).", str(self.failure))
 
     def test_its_row_is_printed(self):
         self.assertIn(f'row="{self.failure.row}"', str(self.failure))
@@ -154,6 +153,7 @@ class Waiting(unittest.TestCase):
 
     def test_those_who_wait_for_several_futures(self):
         for waits in (concurrent.futures.wait, lambda stages: list(concurrent.futures.as_completed(stages))):
+
             def test(world):
                 request = world.service.request()
                 stages = [request.adopt(world.arrives(number, f"arrival {number}")) for number in range(2)]
@@ -211,14 +211,17 @@ class Faults(unittest.TestCase):
         def check(world):
             world.check(raises, "checked")
 
-        for test, why in [(raises, "the test raised KeyError('x')"), (callback, "raises raised KeyError('x')"),
-                          (caller, "a caller raised KeyError('x')"), (check, "checked: it raised KeyError('x')")]:
+        for test, why in [
+            (raises, "the test raised KeyError('x')"),
+            (callback, "raises raised KeyError('x')"),
+            (caller, "a caller raised KeyError('x')"),
+            (check, "checked: it raised KeyError('x')"),
+        ]:
             with self.subTest(why):
                 self.assertEqual(orders(test).failed[0].why, why)
 
     def test_what_is_never_settled(self):
-        self.assertEqual(orders(lambda world: world.service.request().promise("a promise")).failed[0].why,
-                         "a promise is never settled")
+        self.assertEqual(orders(lambda world: world.service.request().promise("a promise")).failed[0].why, "a promise is never settled")
 
     def test_threads_of_ones_own_are_outside(self):
         def test(world):
@@ -265,8 +268,7 @@ class Faults(unittest.TestCase):
     def test_what_outlives_a_run_is_told(self):
         numbers = itertools.count()
         with self.assertRaises(NotDeterministic):
-            orders(lambda world: world.service.submit(next, numbers).then(
-                lambda number: number and world.service.submit(int)))
+            orders(lambda world: world.service.submit(next, numbers).then(lambda number: number and world.service.submit(int)))
 
 
 class LeftOut(unittest.TestCase):
@@ -299,6 +301,7 @@ class LeftOut(unittest.TestCase):
             world.calls(lambda: "one" in done and promise.complete(1), name="three")
 
         for fault in (checked, called, run, waits):
+
             def test(world, fault=fault):
                 done = []
                 world.calls(lambda: done.append("one"), name="one")
@@ -306,8 +309,10 @@ class LeftOut(unittest.TestCase):
                 fault(world, done)
 
             with self.subTest(fault.__name__):
-                every, some = [orders(test, reduce=reduce, failures=10**9, smaller=False,
-                                      ends=lambda world: tuple(world.outcomes())) for reduce in (False, True)]
+                every, some = [
+                    orders(test, reduce=reduce, failures=10**9, smaller=False, ends=lambda world: tuple(world.outcomes()))
+                    for reduce in (False, True)
+                ]
                 self.assertEqual((some.whole, set(some.ends)), (True, set(every.ends)))
                 self.assertEqual({it.why for it in some.failed}, {it.why for it in every.failed})
                 self.assertEqual((len(every.ends), len({it.why for it in every.failed})), (1, 1))
@@ -344,6 +349,7 @@ class LeftOut(unittest.TestCase):
 
     def test_a_relay_that_was_let_go(self):
         """What arrives behind a change touches nothing of it, and would have come to something else before it."""
+
         def test(world):
             request = world.service.request()
             price = request.adopt(world.arrives(3, "price"))
@@ -439,23 +445,26 @@ class Turns(unittest.TestCase):
         self.assertEqual(self.ordered(lambda request: [request.promise().complete_on_timeout(1, 1)]), {("paid", "packed")})
 
     def test_beside_a_function(self):
-        self.assertEqual(self.ordered(lambda request: [request.supply(lambda: None)]),
-                         {("paid", "packed"), ("packed", "paid")})
+        self.assertEqual(self.ordered(lambda request: [request.supply(lambda: None)]), {("paid", "packed"), ("packed", "paid")})
 
     def test_beside_one_that_is_ready_later(self):
         def beside(request):
             return [request.promise().complete_on_timeout(1, 1).then(lambda _: None)]
+
         self.assertEqual(self.ordered(beside), {("paid", "packed"), ("packed", "paid")})
 
     def test_beside_one_that_was_cancelled(self):
         """A thread comes for it all the same."""
+
         def beside(request):
             request.supply(lambda: None).cancel()
             return []
+
         self.assertEqual(self.ordered(beside), {("paid", "packed"), ("packed", "paid")})
 
     def test_each_turn_claims_one(self):
         """Where another thread takes the function behind a stage, the one that settled that stage takes the other's."""
+
         def test(world):
             claimed, request = [], world.service.request()
             first = request.supply(pure(lambda: None)).named("first")

@@ -36,8 +36,7 @@ class Services(unittest.TestCase):
             with self.subTest(service.__name__):
                 failure = orders(service, seconds=SECONDS).failed[0]
                 again = orders(service, row=failure.row)
-                self.assertEqual((again.orders, again.failed[0].why, again.failed[0].row),
-                                 (1, failure.why, failure.row))
+                self.assertEqual((again.orders, again.failed[0].why, again.failed[0].row), (1, failure.why, failure.row))
 
     def test_each_sound_service_is_sound_in_all_orders(self):
         for service in services.SOUND:
@@ -52,10 +51,19 @@ class Failures(unittest.TestCase):
 
     def test_it_reads_like_a_story(self):
         lines = [it.text for it in self.failure.told]
-        self.assertEqual(lines, [
-            "worker 1 looks what is new", "worker 1 puts to order 17: charge is claimed", "worker 1 calls charge",
-            "worker 1 is killed", "worker 2 takes worker 1 for gone", "worker 2 puts to order 17: charge is failed",
-            "worker 2 puts to order 17: charge again is claimed", "worker 2 calls charge"])
+        self.assertEqual(
+            lines,
+            [
+                "worker 1 looks what is new",
+                "worker 1 puts to order 17: charge is claimed",
+                "worker 1 calls charge",
+                "worker 1 is killed",
+                "worker 2 takes worker 1 for gone",
+                "worker 2 puts to order 17: charge is failed",
+                "worker 2 puts to order 17: charge again is claimed",
+                "worker 2 calls charge",
+            ],
+        )
         self.assertEqual(self.failure.told[5].settled[0][:23], "charge ends: Abandoned(")
 
     def test_the_pair_that_decides_is_named(self):
@@ -63,8 +71,7 @@ class Failures(unittest.TestCase):
 
     def test_what_was_lost_is_told(self):
         failure = orders(services.own_word_for_anothers).failed[0]
-        self.assertIn("a client puts to lock: owner is completed; it stands, and the store is silent for a minute",
-                      [it.text for it in failure.told])
+        self.assertIn("a client puts to lock: owner is completed; it stands, and the store is silent for a minute", [it.text for it in failure.told])
 
     def test_it_has_histories(self):
         self.assertEqual(len(self.failure.histories), 1)
@@ -75,6 +82,7 @@ class Failures(unittest.TestCase):
 class Callbacks(unittest.TestCase):
     def test_a_function_behind_a_stage_beside_its_callback(self):
         """Another process may call that before, or this one has its claim by then."""
+
         def test(world):
             log, functions = [], Functions()
             pay = functions.function("pay")(lambda: log.append("pay"))
@@ -95,6 +103,7 @@ class Callbacks(unittest.TestCase):
 
 def tried(call, promise="promise", **faults):
     """What a client's call comes to in all orders, with what stands then: the end of each order."""
+
     def test(world):
         world.test = store = world.store(**faults)
         shop = store.process("shop")
@@ -130,8 +139,7 @@ class Faults(unittest.TestCase):
                 self.assertGreater(report.orders, 1)
 
     def test_a_silent_store_leaves_it_unknown(self):
-        self.assertEqual(set(tried(completed, silent=1).ends),
-                         {(True, self.DONE), ("unknown", self.DONE), ("unknown", self.OPEN)})
+        self.assertEqual(set(tried(completed, silent=1).ends), {(True, self.DONE), ("unknown", self.DONE), ("unknown", self.OPEN)})
 
     def test_a_put_that_was_given_up_comes_later_or_finds_its_place_taken(self):
         def test(world):
@@ -146,8 +154,7 @@ class Faults(unittest.TestCase):
             shop.calls(act)
 
         report = orders(test, ends=lambda world: tuple(world.test.outcomes()), **ENOUGH)
-        self.assertEqual((report.whole, set(report.ends)),
-                         (True, {("order: promise ends: 7",), ("order: promise ends: KeyError('x')",)}))
+        self.assertEqual((report.whole, set(report.ends)), (True, {("order: promise ends: 7",), ("order: promise ends: KeyError('x')",)}))
         told = orders(failing(test)).failed[0].told
         self.assertTrue(any("the put that was on its way comes" in it.text for it in told), told)
 
@@ -172,8 +179,7 @@ class Faults(unittest.TestCase):
 
         options = {"ends": lambda world: tuple(world.log), **ENOUGH}
         report = orders(test, **options)
-        self.assertEqual(set(report.ends),
-                         {("seen False", "told True"), ("seen True", "told True"), ("told True", "seen True")})
+        self.assertEqual(set(report.ends), {("seen False", "told True"), ("seen True", "told True"), ("told True", "seen True")})
         self.assertEqual(report.ends.keys(), orders(test, reduce=False, **options).ends.keys())
 
     def test_a_killed_process_does_nothing_more(self):
@@ -193,9 +199,16 @@ class Faults(unittest.TestCase):
             world.log = log
 
         report = orders(test, ends=lambda world: (tuple(world.log), world.test.outcomes()[0][:21]), **ENOUGH)
-        self.assertEqual(set(report.ends), {
-            (("begun", "ended"), "order: slow ends: Non"), ((), "order: slow ends: Aba"), ((), "order: slow is open"),
-            (("begun",), "order: slow ends: Aba"), (("begun", "ended"), "order: slow ends: Aba")})
+        self.assertEqual(
+            set(report.ends),
+            {
+                (("begun", "ended"), "order: slow ends: Non"),
+                ((), "order: slow ends: Aba"),
+                ((), "order: slow is open"),
+                (("begun",), "order: slow ends: Aba"),
+                (("begun", "ended"), "order: slow ends: Aba"),
+            },
+        )
 
     def test_a_process_that_is_there_may_be_taken_for_gone(self):
         def test(world):
@@ -218,10 +231,12 @@ class Faults(unittest.TestCase):
 
 def failing(test):
     """A test that fails where a put comes late."""
+
     def fails(world):
         test(world)
         store = world.test
         world.at_end(lambda: not store._landed, "no put comes late")
+
     return fails
 
 
@@ -327,6 +342,7 @@ class Working(unittest.TestCase):
             @functions.function("load")
             def load():
                 assert world is None, "it is"
+
             world.store().worker("one", functions).request("order").supply(load)
 
         self.assertEqual(self.made(test).failed[0].why, "load raised AssertionError('it is')")
@@ -360,6 +376,7 @@ class Working(unittest.TestCase):
 
 def small(plan, workers=2, **faults):
     """A small plan that a worker or two run, with what `cf.store` promises of it."""
+
     def test(world):
         functions = Functions()
         load = functions.function("load")(touches()(lambda *_: 1))
@@ -377,7 +394,8 @@ def small(plan, workers=2, **faults):
         def stands_once():
             entries = [entry for name in rows.names for entry in rows.memory.read(name)]
             return len({token for _, token in entries}) == len(entries) and all(
-                rows.memory.read(name)[place - 1][0] == word for _, name, place, word in store.answered)
+                rows.memory.read(name)[place - 1][0] == word for _, name, place, word in store.answered
+            )
 
         def is_paid():
             return len(store.effects) == int(store.is_settled("order", "write") and store.outcome("order", "write") is None)
@@ -385,8 +403,8 @@ def small(plan, workers=2, **faults):
         world.at_end(is_paid, "an effect stands exactly if its finish does")
         world.at_end(granted_once, "no claim is granted twice")
         world.at_end(stands_once, "a put stands once or never, and where its process was told")
-        world.at_end(lambda: one.is_dead and workers == 1 or rows.views["order"].is_done(lambda _: True),
-                     "all stages are settled")
+        world.at_end(lambda: one.is_dead and workers == 1 or rows.views["order"].is_done(lambda _: True), "all stages are settled")
+
     return test
 
 
@@ -408,10 +426,10 @@ class Properties(unittest.TestCase):
                 report = orders(small(PLANS[name], **{fault: 1}), **ENOUGH)
                 self.assertEqual((report.whole, list(map(str, report.failed))), (True, []))
 
-
     def test_a_further_try_is_called_with_the_same(self):
         """Of two sources it is the one that the first try had: the first that was settled, or that was named if both were
         settled before."""
+
         def test(world):
             functions, called = Functions(), []
             load = functions.function("load")(lambda number: called.append(number))
@@ -475,9 +493,20 @@ class Reduction(unittest.TestCase):
             return "+".join(process for process, _, _ in world.test.granted), "paid last" if last == 0 else "loaded last"
 
         report = orders(test, ends=end, seconds=100, most=2_000)
-        self.assertEqual((report.whole, set(report.ends)), (True, {
-            ("one+one", "loaded last"), ("one+two", "loaded last"), ("one+two", "paid last"),
-            ("two+one", "loaded last"), ("two+one", "paid last"), ("two+two", "loaded last")}))
+        self.assertEqual(
+            (report.whole, set(report.ends)),
+            (
+                True,
+                {
+                    ("one+one", "loaded last"),
+                    ("one+two", "loaded last"),
+                    ("one+two", "paid last"),
+                    ("two+one", "loaded last"),
+                    ("two+one", "paid last"),
+                    ("two+two", "loaded last"),
+                },
+            ),
+        )
 
     def test_functions_in_two_processes_are_tried_in_both_orders(self):
         def test(world):

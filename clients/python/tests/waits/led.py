@@ -316,14 +316,14 @@ class Written:
             self.add(tuple(sorted(it, key=lambda each: getattr(each, "name", repr(each)))))
         elif kind is dict:
             self.add(tuple(it.items()))
-        elif kind is types.FunctionType:
+        elif kind is types.FunctionType:  # noqa: E721
             self.add((it.__qualname__, it.__code__.co_firstlineno, it.__defaults__))
             for cell in it.__closure__ or ():
                 try:
                     self.add(cell.cell_contents)
                 except ValueError:
                     self.words.append("empty")
-        elif kind is types.MethodType:
+        elif kind is types.MethodType:  # noqa: E721
             self.add((it.__func__.__qualname__, it.__self__))
         elif kind is functools.partial:
             self.add((it.func, it.args))
@@ -397,8 +397,13 @@ class Condition:
         ends = None if timeout is None else self.led.time + round(timeout * 1e9)
         far = ends is not None and self.led.is_far(ends)
         try:
-            way = self.led.step("wait", self, lambda: ticket.is_told and lock.owner is None,
-                                no if ends is None or far else lambda: not ticket.is_told and lock.owner is None, far)
+            way = self.led.step(
+                "wait",
+                self,
+                lambda: ticket.is_told and lock.owner is None,
+                no if ends is None or far else lambda: not ticket.is_told and lock.owner is None,
+                far,
+            )
         finally:
             lock.owner, lock.count = owner, count
             if ticket in self.tickets:

@@ -79,6 +79,7 @@ def waiting(led):
         with told:
             is_told.append(1)
             told.notify_all()
+
     return first, last
 
 
@@ -89,6 +90,7 @@ class TurnsOfThreads(Case):
             for turn in "ab":
                 led.plays(lambda turn=turn: said.update({turn: pool.put(turn)}))
             led.at_end(lambda: [self.assertEqual((said[turn], pool.came_to(turn)), (True, (1, 0))) for turn in "ab"])
+
         self.in_every_order(world)
 
     def closing(self, many, **given):
@@ -99,6 +101,7 @@ class TurnsOfThreads(Case):
                 pool.close()
                 pool.join()
                 self.assertEqual(pool._alive, 0)
+
             for turn in "ab"[:many]:
                 led.plays(lambda turn=turn: said.update({turn: pool.put(turn)}))
             led.plays(close)
@@ -106,7 +109,9 @@ class TurnsOfThreads(Case):
             def ended():
                 for turn in said:
                     self.assertEqual(sum(pool.came_to(turn)), said[turn], turn)
+
             led.at_end(ended)
+
         self.in_every_order(world, **given)
 
     def test_a_turn_that_is_put_meanwhile_is_used_or_refused(self):
@@ -125,7 +130,9 @@ class TurnsOfThreads(Case):
                 pool.close()
                 pool.join()
                 self.assertEqual((pool.came_to("a"), pool.came_to("b")), ((1, 0), (1, 0)))
+
             led.plays(ends)
+
         self.in_every_order(world)
 
     def test_what_a_function_puts_behind_the_end_is_used(self):
@@ -138,11 +145,14 @@ class TurnsOfThreads(Case):
                 pool.close()
                 pool.join()
                 self.assertEqual((said, pool.came_to("behind")), ([True], (1, 0)))
+
             led.plays(ends)
+
         self.in_every_order(world)
 
     def test_a_start_that_fails_is_tried_again(self):
         for most in (1, 2):
+
             def world(led):
                 pool = Pool(most)
 
@@ -153,22 +163,28 @@ class TurnsOfThreads(Case):
                     for turn, is_taken in zip("abc", said):
                         self.assertEqual(pool.came_to(turn), (int(is_taken), 0))
                     self.assertGreaterEqual(sum(said), 2)
+
                 led.plays(put)
+
             self.in_every_order(world, fails=1)
 
     def test_a_function_may_wait_for_another_one(self):
         """Which needs a thread of its own."""
+
         def world(led):
             pool, (first, last) = Pool(2), waiting(led)
             led.plays(lambda: pool.put("a"))
             led.plays(lambda: self.assertTrue(pool.put(first) and pool.put(last)))
+
         self.in_every_order(world)
 
     def test_so_it_may_where_a_start_failed(self):
         """The next turn has the thread started."""
+
         def world(led):
             pool, (first, last) = Pool(2), waiting(led)
             led.plays(lambda: [pool.put(turn) for turn in ("a", "b", first, last, "c")])
+
         self.in_every_order(world, fails=1)
 
     def test_so_it_may_for_one_that_is_put_behind_the_end(self):
@@ -179,11 +195,14 @@ class TurnsOfThreads(Case):
                 pool.put("a")
                 pool.put(lambda: (pool.put(last), first()))
                 pool.close()
+
             led.plays(ends)
+
         self.in_every_order(world)
 
     def test_an_interrupt_loses_no_turn(self):
         for most in (1, 2):
+
             def world(led):
                 pool, said = Pool(most), {}
 
@@ -194,13 +213,16 @@ class TurnsOfThreads(Case):
                     put("a")
                     surely(pool.close)
                     surely(pool.join)
+
                 led.plays(ends)
 
                 def ended():
                     used, refused = pool.came_to("a")
                     self.assertTrue(used >= 1 if said["a"] else not used, (used, refused))
                     self.assertTrue(all(player.is_done for player in led.players))
+
                 led.at_end(ended)
+
             self.in_every_order(world, interrupts=1)
             self.in_every_order(world, interrupts=1, fails=1)
 
@@ -211,12 +233,15 @@ class TurnsOfThreads(Case):
             def put():
                 surely(lambda: pool.put("a"))
                 self.assertTrue(surely(lambda: pool.put("b")))
+
             led.plays(put)
             led.at_end(lambda: self.assertTrue(min(pool.came_to("a")[0], pool.came_to("b")[0]) >= 1))
+
         self.in_every_order(world, interrupts=1)
 
     def test_what_is_collected_meanwhile_may_put_turns(self):
         for most in (1, 2):
+
             def world(led):
                 pool, said = Pool(most), {}
 
@@ -227,13 +252,16 @@ class TurnsOfThreads(Case):
                     put("a")
                     pool.close()
                     pool.join()
+
                 led.plays(ends)
                 led.drops(lambda: put("dropped"))
 
                 def ended():
                     self.assertEqual(pool.came_to("a"), (1, 0))
                     self.assertEqual(sum(pool.came_to("dropped")), said.get("dropped", 0))
+
                 led.at_end(ended)
+
             self.in_every_order(world)
 
     def test_a_thread_that_cannot_begin_breaks_the_pool(self):
@@ -243,10 +271,12 @@ class TurnsOfThreads(Case):
             def begins():
                 begun.append(1)
                 return len(begun) == 1
+
             pool = Pool(2, begins)
 
             def put(turn):
                 said[turn] = pool.put(turn)
+
             led.plays(lambda: put("a"))
             led.plays(lambda: put("b"))
 
@@ -254,7 +284,9 @@ class TurnsOfThreads(Case):
                 for turn in "ab":
                     self.assertEqual(sum(pool.came_to(turn)), said[turn])
                 self.assertEqual(pool.broken, len(begun) > 1)
+
             led.at_end(ended)
+
         self.in_every_order(world)
 
     def test_turns_are_taken_back_once(self):
@@ -265,9 +297,11 @@ class TurnsOfThreads(Case):
                 pool.close()
                 back.extend(pool.take_back())
                 pool.join()
+
             led.plays(lambda: said.update(a=pool.put("a")))
             led.plays(ends)
             led.at_end(lambda: self.assertEqual(sum(pool.came_to("a")) + back.count("a"), said["a"]))
+
         self.in_every_order(world)
 
 
@@ -326,6 +360,7 @@ class Times(Case):
             led.plays(lambda: request.limit(10))
             led.plays(lambda: other.limit(15))
             led.at_end(lambda: self.assertEqual((sorted(request.rung), other.rung), ([10, 20], [15])))
+
         self.in_every_order(world)
 
     def test_a_limit_that_is_set_while_another_one_comes(self):
@@ -337,8 +372,10 @@ class Times(Case):
                 request.limit(10)
                 request.limit(5)
                 request.limit(30)
+
             led.plays(limits)
             led.at_end(lambda: self.assertEqual(sorted(request.rung), [5, 10, 30]))
+
         self.in_every_order(world)
 
     def test_a_limit_that_is_not_needed_holds_up_no_other(self):
@@ -349,9 +386,11 @@ class Times(Case):
             def settled():
                 request.limit(10)
                 request.settle(10)
+
             led.plays(settled)
             led.plays(lambda: request.limit(20))
             led.at_end(lambda: self.assertEqual((request.rung in ([20], [10, 20]), dict(request._limits)), (True, {})))
+
         self.in_every_order(world)
 
     def test_behind_it_the_first_of_several_is_asked_for(self):
@@ -362,13 +401,16 @@ class Times(Case):
             def settled():
                 request.limit(10)
                 request.settle(10)
+
             led.plays(settled)
             led.plays(lambda: (request.limit(20), request.limit(30)))
 
             def ended():
                 moment, number = request._limits.alarm
                 self.assertEqual((moment, number in clock._wanted, set(request._limits)), (20, True, {20, 30}))
+
             led.at_end(ended)
+
         self.in_every_order(world)
 
     def test_a_start_that_fails_is_tried_again(self):
@@ -383,8 +425,10 @@ class Times(Case):
                     except RuntimeError:
                         one._limits.clear()
                 other.limit(30)
+
             led.plays(limits)
             led.at_end(lambda: self.assertEqual((request._limits, other._limits, 30 in other.rung), ({}, {}, True)))
+
         self.in_every_order(world, fails=1)
 
     def test_an_interrupt_leaves_a_clock_that_goes(self):
@@ -398,8 +442,10 @@ class Times(Case):
                 except KeyboardInterrupt:
                     request._limits.clear()
                 surely(lambda: other.limit(20))
+
             led.plays(limits)
             led.at_end(lambda: self.assertEqual((request._limits, other.rung), ({}, [20])))
+
         self.in_every_order(world, interrupts=1)
 
     def test_what_is_collected_meanwhile_may_set_limits(self):
@@ -409,6 +455,7 @@ class Times(Case):
             led.plays(lambda: request.limit(10))
             led.drops(lambda: dropped.limit(5))
             led.at_end(lambda: self.assertEqual((request.rung, dropped._limits), ([10], {})))
+
         self.in_every_order(world)
 
     def test_the_end_waits_for_no_limit(self):
@@ -419,8 +466,10 @@ class Times(Case):
             def limits():
                 request.limit(10)
                 request.limit(1000)
+
             led.plays(limits)
             led.plays(clock.end)
+
         self.in_every_order(world)
 
 
@@ -432,6 +481,7 @@ class Hooks(Case):
             for k in range(many):
                 surely(lambda k=k: aside.put(lambda: do(done, k), lambda: lost.append(k)), caught)
             said.append(surely(lambda: aside.wait(seconds), caught))
+
         led.plays(ends)
         return aside, done, lost, said, caught
 
@@ -441,7 +491,9 @@ class Hooks(Case):
             look("done")
             self.assertEqual(done.pop(), "begun")
             done.append(it)
+
         for given in ({}, {"fails": 1}, {"fails": 2}):
+
             def world(led):
                 aside, done, lost, said, _ = self.world(led, do=do)
                 led.plays(lambda: aside.put(lambda: do(done, "other"), None))
@@ -449,24 +501,30 @@ class Hooks(Case):
                 def ended():
                     if said == [True] and "other" in done:
                         self.assertEqual(sorted(map(str, done)), ["0", "1", "other"])
+
                 led.at_end(ended)
+
             self.in_every_order(world, **given)
 
     def test_an_interrupt_loses_nothing(self):
         """It comes to who called, also as a thread is started."""
+
         def world(led):
             aside, done, lost, said, caught = self.world(led)
 
             def ended():
                 self.assertTrue(said == [False] or {0, 1} <= set(done), (said, done))
                 self.assertEqual(led.interrupts + len(caught), 1)
+
             led.at_end(ended)
+
         self.in_every_order(world, interrupts=1)
 
     def test_too_many_are_told_once(self):
         def world(led):
             aside, done, lost, _, _ = self.world(led, 3, 30.0, 1)
             led.at_end(lambda: self.assertTrue(len(done) + len(lost) >= 2 and len(done) >= 1 and len(lost) <= 1, done))
+
         self.in_every_order(world)
 
 
@@ -505,6 +563,7 @@ class WaitsForStages(Case):
                 with stage._condition:
                     if not stage._shown:
                         stage._waiters.append(told)
+
             led.plays(waits_long)
             led.plays(lambda: (stage._wait(1), stage._wait(None)))
             led.plays(waits_by_a_waiter)
@@ -512,7 +571,9 @@ class WaitsForStages(Case):
 
             def ended():
                 self.assertEqual((woken, len(told.told)), ([True], len(stage._waiters)))
+
             led.at_end(ended)
+
         self.in_every_order(world)
 
     def test_an_interrupt_keeps_the_end_from_nobody(self):
@@ -525,10 +586,12 @@ class WaitsForStages(Case):
                     stage._wait(None)
                 except KeyboardInterrupt:
                     stage._wait(None)
+
             led.plays(waits_long)
             led.plays(lambda: stage._wait(None), is_main=False)
             led.plays(stage.show)
             led.at_end(lambda: self.assertEqual(len(told.told), 1))
+
         self.in_every_order(world, interrupts=1)
 
 
@@ -612,6 +675,7 @@ class Loops(Case):
             led.plays(lambda: self.assertTrue(wakes.put("a") and wakes.put("b")))
             led.plays(lambda: self.assertTrue(wakes.put("c")))
             led.at_end(lambda: self.assertEqual(sorted(wakes.used), ["a", "b", "c"]))
+
         self.in_every_order(world)
 
     def test_none_is_lost_by_an_interrupt_or_what_leaves_the_loop(self):
@@ -627,10 +691,12 @@ class Loops(Case):
                     loop.run()
                 except KeyboardInterrupt:
                     loop.run()
+
             led.plays(runs, is_main=False)
             led.plays(lambda: (surely(lambda: wakes.put(leaves)), surely(lambda: wakes.put("a"))))
             led.plays(lambda: wakes.put("b"), is_main=False)
             led.at_end(lambda: self.assertTrue({"a", "b"} <= set(map(str, wakes.used))))
+
         self.in_every_order(world)
         self.in_every_order(lambda led: self.interrupted(led), interrupts=1)
 
@@ -653,7 +719,9 @@ class Loops(Case):
             def ended():
                 self.assertTrue(said[1] or said[0] or loop.is_shut)
                 self.assertTrue(not said[0] or not said[1])
+
             led.at_end(ended)
+
         self.in_every_order(world)
 
     def test_each_limit_comes(self):
@@ -667,21 +735,26 @@ class Loops(Case):
 
             def ended():
                 self.assertEqual((request.rung in ([3000], [1500, 3000]), dict(request._limits), loop.timers), (True, {}, []))
+
             led.at_end(ended)
+
         self.in_every_order(world)
 
 
 class Searches(Case):
     def test_no_end_is_lost_as_states_are_met_again(self):
         """The ends are those of all orders, of which many lead through one state."""
+
         def world(led):
             pool, said = Pool(1), {}
 
             def ended():
                 self.told.add((said["a"], pool.came_to("a")))
+
             led.plays(lambda: said.update(a=pool.put("a")))
             led.plays(pool.close)
             led.at_end(ended)
+
         ends = []
         for matches in (True, False):
             self.told = set()
@@ -697,6 +770,7 @@ class Searches(Case):
             def takes(first, second):
                 with first, second:
                     pass
+
             led.plays(lambda: takes(one, other))
             led.plays(lambda: takes(other, one))
 
@@ -712,6 +786,7 @@ class Searches(Case):
                 is_so.append(1)
                 with condition:
                     condition.notify()
+
             led.plays(waits_for_it)
             led.plays(wakes)
 
@@ -721,8 +796,10 @@ class Searches(Case):
             def turn():
                 while True:
                     turns.put(turns.get())
+
             turns.items.append(1)
             led.plays(turn)
+
         for world, what in ((two_locks, "for good rests"), (lost_wake, "for good rests"), (spins, "it spins")):
             with self.assertRaisesRegex(Broken, what):
                 every_order(world, waits)

@@ -8,6 +8,9 @@
 //! what words did, as texts. What C owes by docs/C.md is met by the types: nothing copies a handle, and dropping frees it. `src/handle.rs`
 //! says how each thing owed is met, and `tests/owners.rs` tries to break it.
 //!
+//! What is left needs `unsafe` of your own anyway: make no call in a signal handler, and none in the child of a fork of a process with threads. A
+//! refused call gives [`Refused`] and changes nothing. Notices of desks aren't there yet.
+//!
 //! No owner is `Clone`:
 //!
 //! ```compile_fail

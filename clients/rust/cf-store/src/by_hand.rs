@@ -4,11 +4,11 @@ use crate::flow::Flow;
 use crate::functions::Functions;
 use crate::host::{Host, Machine};
 use crate::request::{Request, Stage};
-use crate::service::{Job, Looks, Options, Service};
-use crate::store::{Mark, Opened, Put, Store, Timer};
+use crate::service::{Job, Looks, Options, Service, Shared};
+use crate::store::{Mark, News, Opened, Put, Store, Timer};
 use crate::testing::Memory;
-use crate::view::Wanted;
-use cf_graph::{Call, Entry, Event};
+use crate::view::{View, Wanted};
+use cf_graph::{Answer, Call, Entry, Event};
 use std::collections::{BTreeMap, VecDeque};
 use std::sync::atomic::{AtomicBool, AtomicU32, Ordering::SeqCst};
 use std::sync::{mpsc, Arc, Mutex};
@@ -42,6 +42,8 @@ struct ByHand {
     clock: Clock,
     session: u64,
     jobs: Mutex<VecDeque<Job>>,
+    /// What was told that can't be done.
+    told: Mutex<Vec<String>>,
 }
 
 impl Host for ByHand {
@@ -65,6 +67,10 @@ impl Host for ByHand {
         self.jobs.lock().unwrap().push_back(job);
         None
     }
+
+    fn warns(&self, _tells: fn(&str), _request: &str, text: &str) {
+        self.told.lock().unwrap().push(text.to_owned());
+    }
 }
 
 /// A machine with threads, on which nobody has to sleep.
@@ -81,7 +87,7 @@ impl Host for Hurried {
     }
 }
 
-/// Is told of each call of a store, with what it puts, and may answer in its place.
+/// Is told of each call of a store, with what it puts, and may answer in its place; of a put behind it, too, as `appended`.
 type Called = Arc<dyn Fn(&'static str, &[Entry]) -> Result<(), StoreError> + Send + Sync>;
 
 /// A store in memory that tells of its calls.
@@ -105,10 +111,9 @@ impl Store for Told {
         fn find(name: &str) -> Option<Opened>;
         fn read(name: &str, number: i64, at: usize) -> Vec<Entry>;
         fn payload(name: &str, number: i64, place: usize) -> Option<Vec<u8>>;
-        fn news(since: Option<Mark>) -> (BTreeMap<String, usize>, Mark);
+        fn news(since: Option<Mark>) -> (News, Mark);
         fn changed(wait: Duration) -> ();
         fn end(name: &str, number: i64, at: usize) -> bool;
-        fn reopen(name: &str, number: i64) -> ();
         fn beat(session: u64) -> ();
         fn beats() -> BTreeMap<u64, i64>;
         fn drop_beat(session: u64) -> ();
@@ -121,7 +126,9 @@ impl Store for Told {
 
     fn append(&self, put: Put<'_>) -> Result<Option<Vec<Entry>>, StoreError> {
         (self.called)("append", put.entries)?;
-        self.memory.append(put)
+        let told = self.memory.append(put);
+        (self.called)("appended", put.entries)?;
+        told
     }
 }
 
@@ -134,7 +141,7 @@ struct Process {
 
 impl Process {
     fn new(memory: &Arc<Memory>, clock: &Clock, session: u64, threads: usize, functions: Functions, called: Called) -> Process {
-        let host = Arc::new(ByHand { clock: clock.clone(), session, jobs: Mutex::default() });
+        let host = Arc::new(ByHand { clock: clock.clone(), session, jobs: Mutex::default(), told: Mutex::default() });
         let store = Arc::new(Told { memory: Arc::clone(memory), called });
         let options = Options { threads, lease: LEASE, takes_all: true, warns: |_| {}, ..Options::default() };
         let service = Service::hosted(store, functions, options, Arc::clone(&host) as Arc<dyn Host>).unwrap();
@@ -143,8 +150,12 @@ impl Process {
 
     /// A turn of its pump, and what its threads do then.
     fn turn(&self) {
-        self.service.shared.round(&mut self.looks.lock().unwrap()).unwrap();
+        self.look();
         self.work();
+    }
+
+    fn look(&self) {
+        self.service.shared.round(&mut self.looks.lock().unwrap()).unwrap();
     }
 
     fn work(&self) {
@@ -339,24 +350,193 @@ fn a_value_that_is_refused_for_a_while_is_not_lost() {
 }
 
 #[test]
-fn who_stops_puts_no_value_for_ever() {
-    let (asks, asked) = mpsc::channel();
-    let asks = Mutex::new(asks);
-    let called = move |call: &str, entries: &[Entry]| {
-        let finishes = |entry: &Entry| matches!(Event::of_word(entry.word).unwrap().call, Call::Finish(..));
-        if call == "append" && entries.iter().any(finishes) {
-            let _nobody_counts = asks.lock().unwrap().send(());
-            return Err(StoreError::Refused("never".into()));
+fn who_stops_puts_a_value_for_a_minute() {
+    const SECOND: Duration = Duration::from_secs(1);
+    // What becomes of its finish from when on (from its function's end on) until when (from the stop on), and when it stops; whether the value stands.
+    let (unknown, refused) = (StoreError::Unknown("away".into()), StoreError::Refused("away".into()));
+    let rows = [
+        (unknown.clone(), 0, 50, true),
+        (unknown.clone(), 59, 50, true),
+        (unknown.clone(), 1000, 50, true),
+        (unknown, 59, 10_000, false),
+        (refused.clone(), 0, 50, true),
+        (refused.clone(), 1000, 50, true),
+        (refused, 59, 10_000, false),
+    ];
+    for (answer, stops, ends, is_kept) in rows {
+        let (clock, shared) = (Clock::new(), Arc::new(Mutex::new(None::<Arc<Shared>>)));
+        let (time, its, begun) = (clock.clone(), Arc::clone(&shared), Mutex::new(None));
+        let said = answer.clone();
+        let called = move |call: &str, entries: &[Entry]| {
+            let finishes = |entry: &Entry| matches!(Event::of_word(entry.word).unwrap().call, Call::Finish(..));
+            let is_its = call == "append" && entries.iter().any(finishes);
+            let (now, mut begun) = (time.now(), begun.lock().unwrap());
+            if !is_its && (call != "beat" || begun.is_none()) {
+                return Ok(());
+            }
+            let stop = *begun.get_or_insert(now) + stops * SECOND;
+            let its = its.lock().unwrap();
+            let its = its.as_ref().unwrap();
+            if now >= stop && !its.is_over() {
+                its.stop();
+            }
+            if now < stop + ends * SECOND {
+                return Err(said.clone());
+            }
+            Ok(())
+        };
+        let memory = Arc::new(Memory::default());
+        let process = Process::new(&memory, &clock, 1, 1, Functions::new().with("seven", 1, || Ok::<_, String>(7)), Arc::new(called));
+        *shared.lock().unwrap() = Some(Arc::clone(&process.service.shared));
+        process.service.request("r").unwrap().supply("seven", &[]).unwrap();
+        let began = clock.now();
+        process.work();
+        let took = clock.now() - began;
+        assert!(took <= (stops + 150) * SECOND, "{answer} at {stops}, and it ends {took:?} later");
+        let other = Process::new(&memory, &clock, 2, 0, Functions::new(), silent());
+        let stands = other.service.open("r").unwrap().stage(0).unwrap().peek::<i64>();
+        assert_eq!(stands, Ok(is_kept.then_some(7)), "{answer} at {stops} until {ends}");
+        let lost = "request \"r\": stage 0: what its function came to is lost: ";
+        let is_told = process.host.told.lock().unwrap().iter().any(|it| it.starts_with(lost));
+        assert_eq!(is_told, !is_kept, "{answer} at {stops} until {ends}");
+    }
+}
+
+#[test]
+fn a_word_that_may_stand_is_not_told_as_refused() {
+    // Whether the first put lands whose answer is lost, and how often it is refused then; what is told.
+    for (lands, refusals, wanted) in [(true, 1, Some(true)), (true, 2000, Some(true)), (false, 1, Some(true)), (false, 2000, None)] {
+        let (tries, is_on) = (AtomicU32::new(0), Arc::new(AtomicBool::new(false)));
+        let on = Arc::clone(&is_on);
+        let called = move |call: &str, _: &[Entry]| {
+            let number = if on.load(SeqCst) && call == "append" { tries.fetch_add(1, SeqCst) } else { tries.load(SeqCst) };
+            match call {
+                "append" | "appended" if !on.load(SeqCst) => Ok(()),
+                "append" if number == 0 && !lands => Err(StoreError::Unknown("no answer".into())),
+                "append" if (1..=refusals).contains(&number) => Err(StoreError::Refused("it can only be read".into())),
+                "appended" if number == 1 => Err(StoreError::Unknown("no answer".into())),
+                _ => Ok(()),
+            }
+        };
+        let process = Process::new(&Arc::default(), &Clock::new(), 1, 0, Functions::new(), Arc::new(called));
+        let stage = process.service.request("r").unwrap().promise("p").unwrap();
+        is_on.store(true, SeqCst);
+        let told = stage.complete(&7);
+        match wanted {
+            Some(won) => assert_eq!((told, stage.peek()), (Ok(won), Ok(Some(7))), "it lands: {lands}, {refusals} refusals"),
+            None => assert_eq!(told, Err(StoreError::Unknown("it can only be read".into()))),
+        }
+    }
+    let refuses = |call: &str, entries: &[Entry]| match Event::of_word(entries.first().map_or(0, |it| it.word)).map(|it| it.call) {
+        Ok(Call::Complete(..)) if call == "append" => Err(StoreError::Refused("it is too large".into())),
+        _ => Ok(()),
+    };
+    let process = Process::new(&Arc::default(), &Clock::new(), 1, 0, Functions::new(), Arc::new(refuses));
+    let stage = process.service.request("r").unwrap().promise("p").unwrap();
+    assert_eq!(stage.complete(&7), Err(StoreError::Refused("it is too large".into())), "what is refused at once doesn't stand");
+}
+
+/// A flow's request whose one stage is open, and the service that has begun it.
+fn begun(memory: &Arc<Memory>, clock: &Clock, called: Called) -> (Stage, Process) {
+    let process = Process::new(memory, clock, 1, 0, Functions::new(), called);
+    let mut flow = Flow::new("one");
+    let step = flow.promise("p");
+    let stage = process.service.start(&flow, "r", &[]).unwrap().step(step).unwrap();
+    process.turn();
+    (stage, process)
+}
+
+/// Completes that stage in another process, which closes the request.
+fn completed_elsewhere(memory: &Arc<Memory>, clock: &Clock) {
+    let other = Process::new(memory, clock, 2, 0, Functions::new(), silent());
+    assert!(other.service.open("r").unwrap().stage(0).unwrap().complete(&7).unwrap());
+    other.work();
+    assert!(!memory.is_open("r"));
+}
+
+#[test]
+fn who_waits_is_told_of_the_last_word_of_a_request_that_was_closed() {
+    let (memory, clock) = (Arc::new(Memory::default()), Clock::new());
+    let (stage, process) = begun(&memory, &clock, silent());
+    completed_elsewhere(&memory, &clock);
+    process.look();
+    let jobs = || process.host.jobs.lock().unwrap().len();
+    assert_eq!(jobs(), 1, "without a look at all that is open");
+    clock.pass(LEASE);
+    process.look();
+    assert_eq!(jobs(), 1, "one thread reads it");
+    process.work();
+    assert_eq!(stage.peek(), Ok(Some(7)));
+    // and again, once it was let go
+    let other = Process::new(&memory, &clock, 3, 0, Functions::new(), silent());
+    let late = other.service.open("r").unwrap().promise("late").unwrap();
+    process.turn();
+    let waits = process.service.open("r").unwrap().stage(1).unwrap();
+    assert!(late.complete(&8).unwrap());
+    other.work();
+    assert!(!memory.is_open("r"));
+    process.turn();
+    assert_eq!(waits.peek(), Ok(Some(8)));
+    // and where it was let go before it was opened and closed again
+    let later = other.service.open("r").unwrap().promise("later").unwrap();
+    assert!(later.complete(&9).unwrap());
+    other.work();
+    assert!(!memory.is_open("r"));
+    process.turn();
+    assert_eq!(waits.request.stage(2).unwrap().peek(), Ok(Some(9)));
+}
+
+#[test]
+fn what_others_have_put_is_read_when_asked_for() {
+    let (memory, clock) = (Arc::new(Memory::default()), Clock::new());
+    let (stage, _process) = begun(&memory, &clock, silent());
+    let other = Process::new(&memory, &clock, 2, 0, Functions::new(), silent());
+    other.service.open("r").unwrap().promise("late").unwrap();
+    assert!(stage.request.stage(1).is_none());
+    stage.request.refresh().unwrap();
+    assert!(stage.request.stage(1).is_some());
+}
+
+#[test]
+fn a_request_that_goes_on_as_it_is_let_go() {
+    let (memory, clock) = (Arc::new(Memory::default()), Clock::new());
+    let (stage, process) = begun(&memory, &clock, silent());
+    completed_elsewhere(&memory, &clock);
+    process.look(); // it sees that the request is closed
+    stage.request.promise("late").unwrap();
+    drop(stage);
+    process.work();
+    assert!(process.service.shared.kept_as("r").is_some(), "it goes on with what was opened again meanwhile");
+    let (memory, clock) = (Arc::new(Memory::default()), Clock::new());
+    let (stage, process) = begun(&memory, &clock, silent());
+    completed_elsewhere(&memory, &clock);
+    process.turn();
+    drop(stage);
+    assert!(process.service.shared.kept_as("r").is_none(), "it forgets what is closed");
+}
+
+#[test]
+fn an_attach_that_the_store_is_silent_about() {
+    let (memory, clock) = (Arc::new(Memory::default()), Clock::new());
+    let is_silent = Arc::new(AtomicBool::new(false));
+    let says = Arc::clone(&is_silent);
+    let called = move |call: &str, _: &[Entry]| {
+        if call == "appended" && says.load(SeqCst) {
+            return Err(StoreError::Unknown("silent".into()));
         }
         Ok(())
     };
-    let functions = Functions::new().with("seven", 1, || Ok::<_, String>(7));
-    let options = Options { warns: |_| {}, ..Options::default() };
-    let store = Arc::new(Told { memory: Arc::default(), called: Arc::new(called) });
-    let service = Service::hosted(store, functions, options, Arc::new(Hurried::default())).unwrap();
-    service.request("r").unwrap().supply("seven", &[]).unwrap();
-    asked.recv_timeout(LONG).unwrap();
-    soon(move || drop(service));
+    let (stage, process) = begun(&memory, &clock, Arc::new(called));
+    completed_elsewhere(&memory, &clock);
+    process.turn();
+    is_silent.store(true, SeqCst);
+    assert_eq!(stage.request.promise("late").map(|_| ()), Err(StoreError::Unknown("silent".into())));
+    drop(stage);
+    assert_eq!(process.service.shared.goes_on_with().len(), 1, "it may stand, so the service works on it");
+    is_silent.store(false, SeqCst);
+    process.turn();
+    let late = process.service.open("r").unwrap().stage(1).unwrap();
+    assert!(late.complete(&1).unwrap());
 }
 
 /// A stage of a service with threads, which another one has completed with 7, and that service. Its store is told of calls.
@@ -425,4 +605,72 @@ fn a_wait_keeps_its_limit_whoever_hangs() {
     assert_eq!(ask(&stage), (Ok(None), Ok(None)), "another thread has the view");
     drop(view);
     assert_eq!(soon(move || stage.wait_timeout::<i64>(Duration::from_secs(60))), Ok(Some(7)));
+}
+
+#[test]
+fn a_put_whose_answer_was_lost_is_told_what_it_did_and_no_more() {
+    let (memory, clock) = (Arc::new(Memory::default()), Clock::new());
+    let other = Process::new(&memory, &clock, 2, 0, Functions::new(), silent());
+    let is_lost = Arc::new(AtomicBool::new(false));
+    let loses = Arc::clone(&is_lost);
+    let called = move |call: &str, _: &[Entry]| {
+        if call == "appended" && loses.swap(false, SeqCst) {
+            other.service.open("r").unwrap().promise("another's").unwrap(); // (behind it, before it is asked for again)
+            return Err(StoreError::Unknown("no answer".into()));
+        }
+        Ok(())
+    };
+    let process = Process::new(&memory, &clock, 1, 0, Functions::new(), Arc::new(called));
+    let request = process.service.request("r").unwrap();
+    is_lost.store(true, SeqCst);
+    let own = request.promise("own").unwrap();
+    assert_eq!((own.number(), own.name().unwrap()), (0, "own".into()));
+    assert_eq!(request.stage(1).unwrap().name().unwrap(), "another's");
+}
+
+#[test]
+fn a_stage_whose_function_runs_is_abandoned_and_not_cancelled() {
+    let process = Process::new(&Arc::default(), &Clock::new(), 1, 0, Functions::new(), silent());
+    let request = process.service.request("r").unwrap();
+    let stage = request.supply("cf.gather", &[1.into()]).unwrap();
+    request.inner.act(|_| Ok(vec![Wanted { call: Call::Claim(stage.number()), payload: None }])).unwrap();
+    assert_eq!(stage.cancel(), Ok(false));
+    assert_eq!(stage.abandon(), Ok(true));
+    assert_eq!(stage.peek::<i64>(), Err(Error::Cancelled));
+}
+
+#[test]
+fn a_stage_that_ends_as_one_that_is_not_there() {
+    let functions = Functions::new().composing("gives", 1, |request: &Request, _: i64| request.promise("p"));
+    let process = Process::new(&Arc::default(), &Clock::new(), 1, 0, functions, silent());
+    let request = process.service.request("r").unwrap();
+    let number = request.promise("number").unwrap();
+    let stage = number.compose("gives").unwrap();
+    assert!(number.complete(&1).unwrap());
+    let (composes, promise) = (stage.number(), stage.number() - 1);
+    request.inner.act(|_| Ok(vec![Wanted { call: Call::Claim(composes), payload: None }])).unwrap();
+    let said = format!("{{\"stage\":{}}}", composes + 1).into_bytes();
+    let links = |view: &mut View| Ok(view.finish(composes, Answer::Link(promise), Some(said.clone()))?.into_iter().collect());
+    request.inner.act(links).unwrap();
+    process.turn();
+    assert!(matches!(stage.peek::<i64>(), Err(Error::Store(StoreError::Broken { .. }))), "the row names a stage that isn't there");
+}
+
+#[test]
+fn what_goes_wrong_in_a_look_is_told() {
+    static TOLD: AtomicU32 = AtomicU32::new(0);
+    let left = AtomicU32::new(1);
+    let called = move |call: &str, _: &[Entry]| match call {
+        "due" if left.swap(0, SeqCst) > 0 => Err(StoreError::Unknown("no answer".into())),
+        _ => Ok(()),
+    };
+    let tells = |text: &str| drop(TOLD.fetch_add(u32::from(text == "the store doesn't answer: no answer"), SeqCst));
+    let options = Options { warns: tells, ..Options::default() };
+    let store = Arc::new(Told { memory: Arc::default(), called: Arc::new(called) });
+    let _service = Service::hosted(store, Functions::new(), options, Arc::new(Machine)).unwrap();
+    let until = Instant::now() + LONG;
+    while TOLD.load(SeqCst) == 0 {
+        assert!(Instant::now() < until);
+        thread::yield_now();
+    }
 }

@@ -1,7 +1,7 @@
 //! Rows in keys of an etcd cluster, by its JSON gateway: for few and important requests that outlive machines. Python's processes share them.
 use crate::error::StoreError;
 use crate::http::Connection;
-use crate::store::{in_a_row, Mark, Opened, Put, Store, Timer};
+use crate::store::{in_a_row, Mark, News, Opened, Put, Store, Timer};
 use cf_graph::Entry;
 use serde_json::{json, Value as Json};
 use std::collections::BTreeMap;
@@ -193,6 +193,7 @@ impl Store for Etcd {
             puts.push(put(&at(&row, place), format!("{:x} {:x}", entry.word, entry.token).as_bytes()));
         }
         puts.extend(it.payloads.iter().map(|(place, payload)| put(&at(&payloads, *place), payload)));
+        // (with that it is open, whether it was before or not)
         puts.push(put(&key("o", it.request), (it.at + it.entries.len()).to_string().as_bytes()));
         let first = at(&row, it.at);
         let free = json!([absent(&first), is_of(it.request, it.number)]);
@@ -239,15 +240,16 @@ impl Store for Etcd {
         Ok(told)
     }
 
-    fn news(&self, since: Option<Mark>) -> Result<(BTreeMap<String, usize>, Mark), StoreError> {
+    fn news(&self, since: Option<Mark>) -> Result<(News, Mark), StoreError> {
         // Since a mark any member's answer will do. Of all, a request that a member that lags behind doesn't know yet would seem closed.
         let known = since.map_or(0, |(revision, _)| revision);
         let later = [("min_mod_revision", json!(known + 1)), ("serializable", json!(true))];
         let (found, revision) = self.keys(b"cf/o/", b"cf/o0", if since.is_none() { &[] } else { &later })?;
-        let mut ends = BTreeMap::new();
+        let mut ends = News::new();
         for pair in found {
-            let words = text(&pair.value).and_then(|it| it.parse().ok());
-            ends.insert(name_in(&pair.key)?, words.ok_or_else(|| StoreError::Refused("an end of a row in etcd is no number".into()))?);
+            let words: Option<usize> = text(&pair.value).and_then(|it| it.parse().ok());
+            let words = words.ok_or_else(|| StoreError::Refused("an end of a row in etcd is no number".into()))?;
+            ends.insert(name_in(&pair.key)?, Some(words));
         }
         Ok((ends, (revision.max(known), 0))) // (a member that lags behind has a lower one)
     }
@@ -295,25 +297,6 @@ impl Store for Etcd {
             self.is_there(name, number)?;
         }
         Ok(closes)
-    }
-
-    fn reopen(&self, name: &str, number: i64) -> Result<(), StoreError> {
-        let (row, open) = (row("w", name, number), key("o", name));
-        loop {
-            // others may put and close it meanwhile: with a count that is too low nobody could close it again
-            let (words, _) = self.keys(&row, &after(&row), &[("keys_only", json!(true))])?;
-            let many = words.len();
-            let is_so = json!([is_of(name, number), absent(&open), absent(&at(&row, many))]);
-            let opened = put(&open, many.to_string().as_bytes());
-            let (reopened, found) = self.txn(is_so, json!([opened]), json!([{"request_range": {"key": b64(&open)}}]))?;
-            if reopened {
-                return Ok(());
-            }
-            self.is_there(name, number)?;
-            if !found.is_empty() {
-                return Ok(()); // it is open
-            }
-        }
     }
 
     fn beat(&self, session: u64) -> Result<(), StoreError> {

@@ -92,4 +92,4 @@ pub use request::{Request, Stage};
 pub use service::{Options, Service};
 #[cfg(feature = "sqlite")]
 pub use sqlite::SQLite;
-pub use store::{Mark, Opened, Put, Store, Timer, Transaction};
+pub use store::{Mark, News, Opened, Put, Store, Timer, Transaction};

@@ -1,11 +1,11 @@
 //! Rows in tables of a PostgreSQL database, which machines share, Python's processes too.
 use crate::error::StoreError;
-use crate::store::{in_a_row, Mark, Opened, Put, Store, Timer, Transaction};
+use crate::store::{in_a_row, Mark, News, Opened, Put, Store, Timer, Transaction};
 use cf_graph::Entry;
 use std::any::Any;
 use std::collections::{BTreeMap, HashMap};
 use std::fmt;
-use std::future::poll_fn;
+use std::future::{poll_fn, Future};
 use std::sync::atomic::{AtomicBool, AtomicI32, Ordering};
 use std::sync::{mpsc, Arc, Mutex, MutexGuard, PoisonError, Weak};
 use std::thread;
@@ -14,7 +14,7 @@ use tokio::runtime::{Builder, Runtime};
 use tokio::sync::mpsc as messages;
 use tokio_postgres::error::SqlState;
 use tokio_postgres::types::ToSql;
-use tokio_postgres::{AsyncMessage, Client, Config, NoTls, Row, Statement};
+use tokio_postgres::{AsyncMessage, Client, Config, NoTls, Row, SimpleQueryMessage, Statement};
 
 const SCHEMA: &str = "
     create table if not exists cf_request (id bigserial primary key, name text not null unique, plan text not null,
@@ -145,11 +145,54 @@ impl Connection {
         Ok(made)
     }
 
-    /// What comes of a question, where it comes in time.
-    fn within<T>(&self, asked: impl std::future::Future<Output = Result<T, Failed>>) -> Result<T, StoreError> {
-        let answered = self.runtime.block_on(async { tokio::time::timeout(SILENCE, asked).await });
-        answered.map_err(|_| StoreError::Unknown(format!("no answer for {SILENCE:?}")))?.map_err(|error| told(&error))
+    /// Puts, and gives how many words stand, or what the database refuses.
+    fn put(&mut self, put: &Put<'_>) -> Result<Result<u64, Failed>, StoreError> {
+        let values = PutValues::new(put);
+        let (statement, values) = values.all();
+        let statement = self.prepared(statement)?;
+        self.in_time(self.client.execute(&statement, &values))
     }
+
+    /// The same, with which the request is open: one question, whose statements are one transaction. (Who closes the request waits meanwhile.)
+    fn put_and_open(&self, put: &Put<'_>) -> Result<Result<u64, Failed>, StoreError> {
+        let (number, lock) = (put.number, lock_of(put.number));
+        let statements = format!(
+            "select pg_advisory_xact_lock({CLOSING}, {lock}); \
+             insert into cf_word select id, v.* from (select id from cf_request where id = {number} for key share) as there, (values {}) as v; \
+             update cf_request set closed = null, made_by = pg_current_xact_id() where id = {number} and closed is not null",
+            literals(put)
+        );
+        let answered = self.in_time(self.client.simple_query(&statements))?;
+        Ok(answered.map(|messages| {
+            let mut ends = messages.iter().filter_map(|it| if let SimpleQueryMessage::CommandComplete(many) = it { Some(*many) } else { None });
+            ends.nth(1).unwrap_or(0)
+        }))
+    }
+
+    /// What comes of a question, where it comes in time.
+    fn within<T>(&self, asked: impl Future<Output = Result<T, Failed>>) -> Result<T, StoreError> {
+        self.in_time(asked)?.map_err(|error| told(&error))
+    }
+
+    fn in_time<T>(&self, asked: impl Future<Output = T>) -> Result<T, StoreError> {
+        let answered = self.runtime.block_on(async { tokio::time::timeout(SILENCE, asked).await });
+        answered.map_err(|_| StoreError::Unknown(format!("no answer for {SILENCE:?}")))
+    }
+}
+
+/// The number of a request's lock of what is closed.
+fn lock_of(number: i64) -> i32 {
+    (number % (1 << 31)) as i32
+}
+
+/// What a put's words are, as rows of SQL.
+fn literals(put: &Put<'_>) -> String {
+    let row = |(at, entry): (usize, &Entry)| {
+        let payload = put.payloads.get(&(at + 1)).map(|payload| payload.iter().map(|byte| format!("{byte:02x}")).collect::<String>());
+        let payload = payload.map_or_else(|| "null::bytea".into(), |digits| format!("decode('{digits}', 'hex')"));
+        format!("({at}, {}::bigint, {}::bigint, {payload})", entry.word as i64, entry.token as i64)
+    };
+    (put.at..).zip(put.entries).map(row).collect::<Vec<_>>().join(", ")
 }
 
 /// What an error of the database's is here. A place that is taken is told by who puts.
@@ -211,7 +254,7 @@ impl Postgres {
             let Connection { runtime, client, .. } = connection;
             let asked = async {
                 let transaction = client.transaction().await?;
-                transaction.query("select pg_advisory_xact_lock($1, $2)", &[&CLOSING, &((number % (1 << 31)) as i32)]).await?;
+                transaction.query("select pg_advisory_xact_lock($1, $2)", &[&CLOSING, &lock_of(number)]).await?;
                 let rows = transaction.query(statement, values).await?;
                 transaction.commit().await.map(|()| rows)
             };
@@ -310,13 +353,9 @@ impl Store for Postgres {
     }
 
     fn append(&self, put: Put<'_>) -> Result<Option<Vec<Entry>>, StoreError> {
-        let values = PutValues::new(&put);
         let landed = self.using(|connection| {
-            let (statement, values) = values.all();
-            let statement = connection.prepared(statement)?;
-            let asked = connection.client.execute(&statement, &values);
-            let answered = connection.runtime.block_on(async { tokio::time::timeout(SILENCE, asked).await });
-            match answered.map_err(|_| StoreError::Unknown(format!("no answer for {SILENCE:?}")))? {
+            let answered = if put.opens { connection.put_and_open(&put)? } else { connection.put(&put)? };
+            match answered {
                 Ok(many) => Ok(many == put.entries.len() as u64),
                 Err(error) if error.code() == Some(&SqlState::UNIQUE_VIOLATION) => Ok(false),
                 Err(error) => Err(told(&error)),
@@ -353,22 +392,22 @@ impl Store for Postgres {
         Ok(at.iter().map(|at| read.remove(at).flatten()).collect())
     }
 
-    fn news(&self, since: Option<Mark>) -> Result<(BTreeMap<String, usize>, Mark), StoreError> {
+    fn news(&self, since: Option<Mark>) -> Result<(News, Mark), StoreError> {
         // All transactions below the mark had ended when the statement began, so what they did is told.
-        let ends = "select name, (select max(at) + 1 from cf_word where request = id) as many from cf_request where closed is null";
+        let ends = "select name, (select coalesce(max(at) + 1, 0) from cf_word where request = id) as many from cf_request where closed is null";
         let longer = "select name, 0 as many from cf_request where closed is null and made_by >= $1::text::xid8 union all \
-                      select name, max(at) + 1 from cf_word w join cf_request on id = request \
-                      where closed is null and w.made_by >= $1::text::xid8 group by name";
+                      select name, case when closed is null then max(at) + 1 end from cf_word w join cf_request on id = request \
+                      where w.made_by >= $1::text::xid8 group by name, closed";
         let marked = |told: &str| format!("select {MARK}, name, many from (select) as one left join ({told}) as told on true");
         let rows = match since {
             None => self.ask(&marked(ends), &[])?,
             Some((since, _)) => self.ask(&marked(longer), &[&since.to_string()])?,
         };
-        let mut told = BTreeMap::new();
+        let mut told = News::new();
         for row in &rows {
             let Some(name) = row.get::<_, Option<String>>(1) else { continue };
-            let many = row.get::<_, Option<i32>>(2).unwrap_or(0) as usize;
-            let known = told.entry(name).or_insert(0);
+            let many = row.get::<_, Option<i32>>(2).map(|many| many as usize);
+            let known = told.entry(name).or_default();
             *known = many.max(*known);
         }
         Ok((told, (rows[0].get(0), 0)))
@@ -399,12 +438,6 @@ impl Store for Postgres {
              select exists (select 1 from closed) from cf_request where id = $1"
         );
         Ok(self.closing(name, number, &statement, &[&number, &(at as i32)])?[0].get(0))
-    }
-
-    fn reopen(&self, name: &str, number: i64) -> Result<(), StoreError> {
-        let statement = "with opened as (update cf_request set closed = null, made_by = pg_current_xact_id() \
-                         where id = $1 and closed is not null returning id) select 1 from cf_request where id = $1";
-        self.closing(name, number, statement, &[&number]).map(|_| ())
     }
 
     fn beat(&self, session: u64) -> Result<(), StoreError> {

@@ -15,7 +15,7 @@ use serde_json::{json, Map, Value as Json};
 use std::cell::{Cell, RefCell};
 use std::collections::{BTreeMap, BTreeSet};
 use std::fmt;
-use std::sync::atomic::{AtomicBool, AtomicUsize, Ordering};
+use std::sync::atomic::{AtomicBool, AtomicU64, AtomicUsize, Ordering};
 use std::sync::{Arc, Condvar, Mutex, MutexGuard, PoisonError, TryLockError};
 use std::thread;
 use std::time::{Duration, Instant};
@@ -83,10 +83,10 @@ pub(crate) struct Inner {
     pub(crate) told: AtomicUsize,
     /// Whether a thread is to look what is to do.
     pub(crate) is_queued: AtomicBool,
-    /// Whether it is closed in the store, as far as is known.
-    pub(crate) is_closed: AtomicBool,
-    /// Whether that has yet to be taken back.
-    pub(crate) reopens: AtomicBool,
+    /// The number of the last time that the service was asked to go on with it.
+    pub(crate) kept: AtomicU64,
+    /// Whether it is being let go.
+    pub(crate) is_leaving: AtomicBool,
     /// Why it can't be gone on with.
     fault: Mutex<Option<StoreError>>,
     /// The stages that somebody was given.
@@ -109,8 +109,8 @@ impl Inner {
             changed: Condvar::new(),
             reads: Mutex::default(),
             is_queued: AtomicBool::new(false),
-            is_closed: AtomicBool::new(false),
-            reopens: AtomicBool::new(false),
+            kept: AtomicU64::new(0),
+            is_leaving: AtomicBool::new(false),
             fault: Mutex::new(None),
             #[cfg(feature = "testing")]
             given: Mutex::default(),
@@ -209,13 +209,18 @@ impl Inner {
 
     /// Puts words: what they did, which is nothing where none was wanted.
     pub(crate) fn act(&self, decide: impl FnMut(&mut View) -> Result<Vec<Wanted>, StoreError>) -> Result<Vec<Done>, StoreError> {
+        self.acts(false, decide)
+    }
+
+    /// The same, with which the request is open, also where it was closed.
+    fn acts(&self, opens: bool, decide: impl FnMut(&mut View) -> Result<Vec<Wanted>, StoreError>) -> Result<Vec<Done>, StoreError> {
         if TRANSACTS.with(Cell::get) == self as *const Inner as usize {
             let why = "its transactional function can't put to it: that takes the place of its finish";
             return Err(StoreError::Refused(format!("request {:?}: {why}", self.name)));
         }
         let _writes = self.writing();
         let mut view = self.view();
-        let told = view.act(decide);
+        let told = view.act(opens, decide);
         self.show(view);
         told.map(|(done, _)| done)
     }
@@ -425,7 +430,6 @@ impl Request {
         if self.service.sure(|| self.service.store.end(&self.inner.name, self.inner.number, seen))? {
             self.service.tell_end(&self.inner);
         }
-        self.inner.is_closed.store(true, Ordering::Relaxed);
         Ok(())
     }
 
@@ -456,7 +460,7 @@ impl Request {
     }
 
     /// Puts words that attach stages, the last of which is of this form, and gives that; or the one that an earlier try of the function has attached
-    /// that runs on this thread.
+    /// that runs on this thread. A request that is closed in the store is opened again with that.
     fn attached(
         &self,
         form: Form,
@@ -479,16 +483,11 @@ impl Request {
             }
             words(view, &said)
         };
-        let may_be_closed = self.inner.view().is_planned() || self.inner.is_closed.load(Ordering::Relaxed);
-        if may_be_closed {
-            // (also where this call fails, a thread of the service does it)
-            self.inner.reopens.store(true, Ordering::Relaxed);
-            self.service.keep(&self.inner);
+        let done = self.inner.acts(true, decide);
+        if matches!(done, Ok(_) | Err(StoreError::Unknown(_))) {
+            self.service.keep(&self.inner); // (behind the put: who has seen it closed before doesn't let it go. Where no answer came it may stand)
         }
-        let done = self.inner.act(decide);
-        let reopened = if done.is_ok() { self.service.reopen(&self.inner) } else { Ok(()) };
         self.service.go_on(&self.inner);
-        reopened?;
         let number = match (found, done?.last().map(|it| it.reply)) {
             (Some(number), _) | (None, Some(Reply::Attached(Some(number)))) => number,
             _ => return Err(StoreError::Full),

@@ -15,7 +15,7 @@ use serde_json::{Map, Value as Json};
 use std::any::Any;
 use std::collections::{BTreeMap, BTreeSet, HashSet, VecDeque};
 use std::fmt;
-use std::sync::atomic::{AtomicBool, Ordering};
+use std::sync::atomic::{AtomicBool, AtomicU64, Ordering};
 use std::sync::{Arc, Condvar, Mutex, MutexGuard, PoisonError, Weak};
 use std::thread::{self, JoinHandle};
 use std::time::{Duration, Instant};
@@ -76,7 +76,8 @@ impl Default for Options {
 }
 
 /// A process, or a part of one, that works on requests of a store. When it is dropped it begins nothing more, and waits for the functions that run;
-/// what is open stays in the store, and others go on with it.
+/// what is open stays in the store, and others go on with it. What these functions come to is put for a minute, also where the store doesn't answer;
+/// then [`Options::warns`] is told what is lost.
 #[derive(Debug)]
 pub struct Service {
     pub(crate) shared: Arc<Shared>,
@@ -93,9 +94,13 @@ pub(crate) struct Shared {
     pub(crate) session: u64,
     sessions: Arc<Sessions>,
     requests: Mutex<BTreeMap<String, Kept>>,
+    /// How often the service was asked to go on with a request.
+    keeps: AtomicU64,
     jobs: Mutex<VecDeque<Job>>,
     work: Condvar,
     stops: AtomicBool,
+    /// Until when it puts what functions came to, once it stops.
+    last_put: Mutex<Option<Instant>>,
     /// Whether no function runs any more.
     rests: AtomicBool,
     /// Functions that aren't known here, of which that was said.
@@ -115,7 +120,20 @@ enum Kept {
 pub(crate) enum Job {
     Look(Arc<Inner>),
     Fire(Timer),
-    LetGo(Arc<Inner>),
+    LetGo(Leaving),
+}
+
+/// A request that is closed in the store, and is to be let go unless somebody has asked for it since.
+pub(crate) struct Leaving {
+    pub(crate) inner: Arc<Inner>,
+    /// How often requests had been asked for before the store was.
+    before: u64,
+}
+
+impl Drop for Leaving {
+    fn drop(&mut self) {
+        self.inner.is_leaving.store(false, Ordering::SeqCst);
+    }
 }
 
 /// A stage that this session has, with its function and what that is called with, or with what it ends in without a call.
@@ -184,9 +202,11 @@ impl Service {
             sessions: Arc::new(Sessions::new(session, options.lease, host.now())),
             host,
             requests: Mutex::default(),
+            keeps: AtomicU64::new(0),
             jobs: Mutex::default(),
             work: Condvar::new(),
             stops: AtomicBool::new(false),
+            last_put: Mutex::default(),
             rests: AtomicBool::new(false),
             unknown: Mutex::default(),
             firing: Mutex::default(),
@@ -287,9 +307,7 @@ impl Service {
 
 impl Drop for Service {
     fn drop(&mut self) {
-        self.shared.stops.store(true, Ordering::SeqCst);
-        drop(self.shared.jobs());
-        self.shared.work.notify_all();
+        self.shared.stop();
         for thread in self.threads.drain(..) {
             let _panicked = thread.join();
         }
@@ -312,6 +330,19 @@ fn locked<T>(mutex: &Mutex<T>) -> MutexGuard<'_, T> {
 impl Shared {
     pub(crate) fn is_over(&self) -> bool {
         self.stops.load(Ordering::SeqCst)
+    }
+
+    /// Begins nothing more. What functions have come to by then is put for a while.
+    pub(crate) fn stop(&self) {
+        *locked(&self.last_put) = Some(self.host.now() + PATIENCE);
+        self.stops.store(true, Ordering::SeqCst);
+        drop(self.jobs());
+        self.work.notify_all();
+    }
+
+    /// Whether it stops, and has put for long enough what functions came to.
+    fn gives_up(&self) -> bool {
+        locked(&self.last_put).map_or(false, |last| self.host.now() > last)
     }
 
     pub(crate) fn sure<T>(&self, call: impl FnMut() -> Result<T, StoreError>) -> Result<T, StoreError> {
@@ -364,7 +395,7 @@ impl Shared {
             }
             known.fail(StoreError::Gone(made.name.clone())); // it was dropped, and another of its name opened
         }
-        requests.insert(made.name.clone(), Kept::Open(Arc::clone(&made)));
+        self.put_in(&mut requests, &made);
         Ok(made)
     }
 
@@ -376,8 +407,14 @@ impl Shared {
             Kept::Closed(inner) => inner.upgrade()?,
             Kept::Broken => return None,
         };
-        requests.insert(name.into(), Kept::Open(Arc::clone(&known)));
+        self.put_in(&mut requests, &known);
         Some(known)
+    }
+
+    /// Has a request among those that it goes on with.
+    fn put_in(&self, requests: &mut BTreeMap<String, Kept>, inner: &Arc<Inner>) {
+        inner.kept.store(self.keeps.fetch_add(1, Ordering::SeqCst) + 1, Ordering::SeqCst);
+        requests.insert(inner.name.clone(), Kept::Open(Arc::clone(inner)));
     }
 
     pub(crate) fn is_broken(&self, name: &str) -> bool {
@@ -385,7 +422,6 @@ impl Shared {
     }
 
     /// A request that is known here, as it is.
-    #[cfg(feature = "testing")]
     pub(crate) fn kept_as(&self, name: &str) -> Option<Arc<Inner>> {
         match locked(&self.requests).get(name)? {
             Kept::Open(inner) => Some(Arc::clone(inner)),
@@ -402,12 +438,18 @@ impl Shared {
 
     fn all(&self) -> Vec<Arc<Inner>> {
         let requests = locked(&self.requests);
-        let open = |kept: &Kept| match kept {
+        let known = |kept: &Kept| match kept {
             Kept::Open(inner) => Some(Arc::clone(inner)),
             Kept::Closed(inner) => inner.upgrade(),
             Kept::Broken => None,
         };
-        requests.values().filter_map(open).collect()
+        requests.values().filter_map(known).collect()
+    }
+
+    /// Those that weren't closed, as far as is known.
+    pub(crate) fn goes_on_with(&self) -> Vec<Arc<Inner>> {
+        let requests = locked(&self.requests);
+        requests.values().filter_map(|kept| if let Kept::Open(inner) = kept { Some(Arc::clone(inner)) } else { None }).collect()
     }
 
     /// Goes on with a request, unless there is another of its name by now.
@@ -420,7 +462,7 @@ impl Shared {
             None => true,
         };
         if is_its {
-            requests.insert(inner.name.clone(), Kept::Open(Arc::clone(inner)));
+            self.put_in(&mut requests, inner);
         }
     }
 
@@ -444,21 +486,17 @@ impl Shared {
         }
     }
 
-    /// Opens it again in the store, where it may be closed and stages were attached.
-    pub(crate) fn reopen(&self, inner: &Arc<Inner>) -> Result<(), StoreError> {
-        if inner.reopens.load(Ordering::Relaxed) {
-            self.sure(|| self.store.reopen(&inner.name, inner.number))?;
-            inner.reopens.store(false, Ordering::Relaxed);
-            inner.is_closed.store(false, Ordering::Relaxed);
-            self.keep(inner);
-        }
-        Ok(())
-    }
-
     /// Lets a thread do what is to do in a request, by what is seen of it, behind a put of this process. (What others put meanwhile the pump is told.)
     pub(crate) fn go_on(&self, inner: &Arc<Inner>) {
-        if self.needs(inner, &mut inner.view()) {
+        if self.needs(&mut inner.view()) {
             self.serve(inner);
+        }
+    }
+
+    /// Lets a thread read the last words of a request that was closed, and let it go.
+    fn leave(&self, inner: Arc<Inner>, before: u64) {
+        if !inner.is_leaving.swap(true, Ordering::SeqCst) {
+            self.submit(Job::LetGo(Leaving { inner, before }));
         }
     }
 
@@ -495,17 +533,22 @@ impl Shared {
             looks.next_timers = now + BETWEEN_TIMERS;
             self.look_for_timers()?;
         }
-        let known = if is_whole { self.all() } else { Vec::new() }; // (before the store is asked: what is opened meanwhile isn't in its answer)
+        let before = self.keeps.load(Ordering::SeqCst); // (before the store is asked: what is opened meanwhile, or again, isn't in its answer)
         let (ends, next) = self.store.news(if is_whole { None } else { looks.mark })?;
-        for inner in known.into_iter().filter(|it| !ends.contains_key(&it.name) && !it.is_closed.load(Ordering::Relaxed)) {
-            self.submit(Job::LetGo(inner));
+        let gone = if is_whole { self.goes_on_with() } else { Vec::new() };
+        for inner in gone.into_iter().filter(|it| !ends.contains_key(&it.name) && it.kept.load(Ordering::SeqCst) <= before) {
+            self.leave(inner, before);
         }
         for (name, end) in ends {
+            let Some(end) = end else {
+                self.kept_as(&name).into_iter().for_each(|inner| self.leave(inner, before));
+                continue;
+            };
             self.beat_if_due(looks)?; // (rows that are read for the first time may be many and long)
             let Some(inner) = self.taken(&name) else { continue };
             inner.told.fetch_max(end, Ordering::SeqCst);
             // (who has the view looks)
-            let needs = |inner: &Inner| inner.try_view().map_or(false, |mut view| self.needs(inner, &mut view));
+            let needs = |inner: &Inner| inner.try_view().map_or(false, |mut view| self.needs(&mut view));
             if end > inner.seen.load(Ordering::Relaxed) || (is_whole || end == 0) && needs(&inner) {
                 self.serve(&inner);
             }
@@ -548,9 +591,8 @@ impl Shared {
     }
 
     /// Whether something is to do in a request without a new word.
-    fn needs(&self, inner: &Inner, view: &mut View) -> bool {
-        let reopens = inner.reopens.load(Ordering::Relaxed);
-        reopens || view.has_left(self.runs()) || self.gone_in(view).map_or(true, |gone| !gone.is_empty()) || self.is_finished(view).unwrap_or(true)
+    fn needs(&self, view: &mut View) -> bool {
+        view.has_left(self.runs()) || self.gone_in(view).map_or(true, |gone| !gone.is_empty()) || self.is_finished(view).unwrap_or(true)
     }
 
     /// Whether it claims stages.
@@ -590,13 +632,13 @@ impl Shared {
         self.store.drop_timer(timer)
     }
 
-    /// Forgets a request that is closed, once all is told.
-    fn let_go(&self, inner: &Arc<Inner>) -> Result<(), StoreError> {
+    /// Forgets a request that is closed, once all is told, unless it was asked for again since the store was asked.
+    fn let_go(&self, leaving: &Leaving) -> Result<(), StoreError> {
+        let inner = &leaving.inner;
         inner.catch_up()?;
-        self.reopen(inner)?;
         let mut requests = locked(&self.requests);
-        if matches!(requests.get(&inner.name), Some(Kept::Open(known)) if Arc::ptr_eq(known, inner)) {
-            inner.is_closed.store(true, Ordering::Relaxed);
+        let is_its = matches!(requests.get(&inner.name), Some(Kept::Open(known)) if Arc::ptr_eq(known, inner));
+        if is_its && inner.kept.load(Ordering::SeqCst) <= leaving.before {
             requests.insert(inner.name.clone(), Kept::Closed(Arc::downgrade(inner)));
         }
         Ok(())
@@ -624,7 +666,7 @@ impl Shared {
     pub(crate) fn do_job(self: &Arc<Shared>, job: &Job) {
         let (name, inner, told) = match job {
             Job::Look(inner) => (&inner.name, Some(inner), self.work_on(inner)),
-            Job::LetGo(inner) => (&inner.name, Some(inner), self.let_go(inner)),
+            Job::LetGo(leaving) => (&leaving.inner.name, Some(&leaving.inner), self.let_go(leaving)),
             Job::Fire(timer) => {
                 let told = self.fire(timer);
                 locked(&self.firing).remove(&(timer.request.clone(), timer.stage));
@@ -641,7 +683,6 @@ impl Shared {
     fn work_on(self: &Arc<Shared>, inner: &Arc<Inner>) -> Result<(), StoreError> {
         inner.is_queued.swap(false, Ordering::SeqCst);
         inner.catch_up_if_told()?;
-        self.reopen(inner)?;
         self.abandon(inner)?;
         self.relay(inner)?;
         let mut task = self.first(inner)?;
@@ -701,10 +742,10 @@ impl Shared {
     }
 
     /// Puts a finish, and with it the claim of the next stage, if there is one; what was claimed. While the store is away, or takes nothing, a finish is
-    /// put again and again: its function has run. Once the service stops that ends after a minute. A value that the store refuses twice fails its stage,
-    /// if the store takes something else meanwhile.
+    /// put again and again: its function has run. That ends a minute after the service stops, and it is told then what is lost. A value that the store
+    /// refuses twice fails its stage, if the store takes something else meanwhile.
     fn next(&self, inner: &Arc<Inner>, ended: Ended) -> Result<Option<Task>, StoreError> {
-        let (mut chosen, mut refusals, mut refused, mut until) = (Vec::new(), 0, None, None);
+        let (mut chosen, mut refusals, mut refused) = (Vec::new(), 0, None);
         let done = loop {
             let told = inner.act(|view| {
                 let mut wanted = Vec::with_capacity(2);
@@ -721,8 +762,15 @@ impl Shared {
             });
             match told {
                 Ok(done) => break done,
-                Err(StoreError::Unknown(why)) if ended.is_some() && !self.is_over() => self.warn(&inner.name, &why),
-                Err(StoreError::Refused(why)) if ended.is_some() && (!self.is_over() || self.is_before(&mut until)) => {
+                Err(error @ (StoreError::Broken { .. } | StoreError::Gone(_))) => return Err(error),
+                Err(error) if self.gives_up() => {
+                    if let Some((stage, _)) = &ended {
+                        self.warn(&inner.name, &format!("stage {stage}: what its function came to is lost: {error}"));
+                    }
+                    return Err(error);
+                }
+                Err(StoreError::Unknown(why)) if ended.is_some() => self.warn(&inner.name, &why),
+                Err(StoreError::Refused(why)) if ended.is_some() => {
                     self.warn(&inner.name, &why);
                     let is_its = refused.take().is_none() && self.store.beat(self.session).is_ok();
                     refusals = if is_its { refusals + 1 } else { 0 };
@@ -748,12 +796,6 @@ impl Shared {
             }
             _ => Ok(None),
         }
-    }
-
-    /// Whether it is before a moment, which is a minute from the first question on.
-    fn is_before(&self, until: &mut Option<Instant>) -> bool {
-        let now = self.host.now();
-        now < *until.get_or_insert(now + PATIENCE)
     }
 
     /// Up to two stages that this session could claim behind the finish of what has ended, and whose functions it knows.

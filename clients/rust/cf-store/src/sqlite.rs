@@ -1,6 +1,6 @@
 //! Rows in a file of SQLite's, which processes of one machine share, Python's too.
 use crate::error::StoreError;
-use crate::store::{in_a_row, Mark, Opened, Put, Store, Timer, Transaction};
+use crate::store::{in_a_row, Mark, News, Opened, Put, Store, Timer, Transaction};
 use cf_graph::Entry;
 use rusqlite::types::ValueRef;
 use rusqlite::{params, Connection, ErrorCode, OptionalExtension, Row, ToSql};
@@ -31,9 +31,10 @@ const SCHEMA: &str = "
         primary key (request, session)) without rowid;
 ";
 const PUT: &str = "insert or ignore into cf_word (request, at, word, token, payload) select id, ?, ?, ?, ? from cf_request where id = ?";
+const OPEN_AGAIN: &str = "update cf_request set closed = null where id = ? and closed is not null";
 const READ: &str = "select at, word, token from cf_request left join cf_word on request = id and at >= ? where id = ? order by at";
 const SMALL_PAYLOAD: &str = "select payload from cf_word where request = ? and at = ?";
-const ENDS: &str = "select name, (select max(at) + 1 from cf_word where request = id) from cf_request where closed is null";
+const ENDS: &str = "select name, (select coalesce(max(at) + 1, 0) from cf_word where request = id) from cf_request where closed is null";
 /// In bytes: a larger payload would make the words' own pages large.
 const SMALL: usize = 512;
 /// Between two looks at the file's version.
@@ -185,7 +186,7 @@ impl Store for SQLite {
 
     fn append(&self, put: Put<'_>) -> Result<Option<Vec<Entry>>, StoreError> {
         // (one statement is a transaction of its own)
-        let is_alone = put.entries.len() == 1 && put.payloads.values().all(|it| it.len() <= SMALL);
+        let is_alone = put.entries.len() == 1 && !put.opens && put.payloads.values().all(|it| it.len() <= SMALL);
         let landed = if is_alone {
             let _turn = self.turn()?;
             self.using(|db| put_in(db, put))?
@@ -236,19 +237,20 @@ impl Store for SQLite {
         }
     }
 
-    fn news(&self, since: Option<Mark>) -> Result<(BTreeMap<String, usize>, Mark), StoreError> {
+    fn news(&self, since: Option<Mark>) -> Result<(News, Mark), StoreError> {
         // Rows are numbered in the order of their commits, since SQLite has one writer. Where the last ones were dropped numbers come again, and
         // what was put by then is told without a mark.
         let last = "select (select coalesce(max(n), 0) from cf_word), (select coalesce(max(id), 0) from cf_request)";
         let mark = self.ask(last, &[], |row| Ok((row.get(0)?, row.get(1)?)))?.pop().unwrap_or((0, 0));
-        let read = |row: &Row<'_>| Ok((row.get::<_, String>(0)?, row.get::<_, Option<usize>>(1)?.unwrap_or(0)));
+        let read = |row: &Row<'_>| Ok((row.get::<_, String>(0)?, row.get::<_, Option<usize>>(1)?));
         let since = match since {
             Some(since) if mark.0 >= since.0 => since,
             _ => return Ok((self.ask(ENDS, &[], read)?.into_iter().collect(), mark)),
         };
         let opened = "select name, 0 from cf_request where id > ? and closed is null";
         // (`+` keeps SQLite from going through all words by the index of requests)
-        let longer = "select name, max(at) + 1 from cf_word join cf_request on id = request where n > ? and closed is null group by +request";
+        let longer = "select name, case when closed is null then max(at) + 1 end from cf_word join cf_request on id = request \
+                      where n > ? group by +request";
         let mut told = self.ask(opened, &[&since.1], read)?;
         told.extend(self.ask(longer, &[&since.0], read)?);
         Ok((told.into_iter().collect(), mark))
@@ -288,11 +290,6 @@ impl Store for SQLite {
             self.is_there(name, number)?;
         }
         Ok(closes)
-    }
-
-    fn reopen(&self, name: &str, number: i64) -> Result<(), StoreError> {
-        self.writing(|db| db.execute("update cf_request set closed = null where id = ? and closed is not null", [number]))?;
-        self.is_there(name, number)
     }
 
     fn beat(&self, session: u64) -> Result<(), StoreError> {
@@ -372,6 +369,9 @@ fn put_in(db: &Connection, put: Put<'_>) -> rusqlite::Result<bool> {
                 db.prepare_cached("insert into cf_large values (?, ?, ?)")?.execute(params![put.number, put.at + 1 + k, payload])?;
             }
         }
+    }
+    if put.opens {
+        db.prepare_cached(OPEN_AGAIN)?.execute([put.number])?;
     }
     Ok(true)
 }

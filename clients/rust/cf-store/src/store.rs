@@ -31,6 +31,8 @@ pub struct Put<'a> {
     pub entries: &'a [Entry],
     /// The payloads of words that have one, by the words' places, which are counted from 1.
     pub payloads: &'a BTreeMap<usize, Vec<u8>>,
+    /// Whether the request is opened again with that, in one step, where it is closed.
+    pub opens: bool,
 }
 
 /// What is to become of a stage at a moment, unless it is settled by then.
@@ -50,6 +52,9 @@ pub struct Timer {
 
 /// Up to where [`Store::news`] has told: two numbers of the store's own.
 pub type Mark = (i64, i64);
+
+/// How many words requests have, by their names, or nothing of one that is closed.
+pub type News = BTreeMap<String, Option<usize>>;
 
 /// The entries of rows of a place, a word and a token, which stand behind `at` of them without a gap.
 #[cfg_attr(not(any(feature = "sqlite", feature = "postgres")), allow(dead_code))]
@@ -94,17 +99,16 @@ pub trait Store: Send + Sync {
         places.iter().map(|place| self.payload(name, number, *place)).collect()
     }
 
-    /// How many words those open requests have that may have changed since a mark, and the next mark. Without one, all of them.
-    fn news(&self, since: Option<Mark>) -> Result<(BTreeMap<String, usize>, Mark), StoreError>;
+    /// How many words those open requests have that may have changed since a mark, and the next mark. Without one, all of them, and none else. One that
+    /// was opened again may be told without a mark alone. Since a mark one that is closed may be told, too, to which words were put meanwhile.
+    fn news(&self, since: Option<Mark>) -> Result<(News, Mark), StoreError>;
 
     /// Waits until others may have put something since the last call, for so long at most. One thread at a time waits so.
     fn changed(&self, wait: Duration) -> Result<(), StoreError>;
 
-    /// Marks a request as closed, where it has just so many words, and forgets its timers. Whether this call has closed it.
+    /// Marks a request as closed, where it has just so many words, and forgets its timers. Whether this call has closed it. A put takes that back that
+    /// [opens](Put::opens) the request.
     fn end(&self, name: &str, number: i64, at: usize) -> Result<bool, StoreError>;
-
-    /// Takes that back.
-    fn reopen(&self, name: &str, number: i64) -> Result<(), StoreError>;
 
     /// Says that a session is there.
     fn beat(&self, session: u64) -> Result<(), StoreError>;

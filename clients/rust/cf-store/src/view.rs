@@ -257,8 +257,13 @@ impl View {
     }
 
     /// Puts words behind all that is seen, and does them. `decide` says by this view which words are wanted, if any; it is asked again each time
-    /// others' words came first. It gives what the words did, or nothing where none was wanted; and what others' had done before.
-    pub(crate) fn act(&mut self, mut decide: impl FnMut(&mut View) -> Result<Vec<Wanted>, StoreError>) -> Result<(Vec<Done>, Vec<Done>), StoreError> {
+    /// others' words came first. With `opens` they open the request again, where it is closed. It gives what the words did, or nothing where none was
+    /// wanted; and what others' had done before.
+    pub(crate) fn act(
+        &mut self,
+        opens: bool,
+        mut decide: impl FnMut(&mut View) -> Result<Vec<Wanted>, StoreError>,
+    ) -> Result<(Vec<Done>, Vec<Done>), StoreError> {
         let mut others = Vec::new();
         loop {
             let wanted = decide(self)?;
@@ -268,9 +273,8 @@ impl View {
             let attached = wanted.iter().filter(|it| matches!(it.call, Call::Attach(..))).count();
             self.make_room(attached)?;
             let (entries, payloads) = self.planned_put(wanted)?;
-            let store = Arc::clone(&self.store);
-            let put = Put { request: &self.opened.name, number: self.opened.number, at: self.seen, entries: &entries, payloads: &payloads };
-            let stands = match sure(&*self.host, || store.append(put)) {
+            let put = Put { request: &self.opened.name, number: self.opened.number, at: self.seen, entries: &entries, payloads: &payloads, opens };
+            let stands = match self.appended(put) {
                 Ok(stands) => stands.unwrap_or_else(|| entries.clone()),
                 Err(error) => {
                     self.leave_in_doubt(&entries)?;
@@ -301,10 +305,32 @@ impl View {
         }
     }
 
+    /// What the store answers to a put. Where it is refused behind a missing answer, it may stand all the same: what stands there is asked for then, and
+    /// as long as nothing does nobody knows.
+    fn appended(&self, put: Put<'_>) -> Result<Option<Vec<Entry>>, StoreError> {
+        let mut is_known = true;
+        sure(&*self.host, || {
+            let told = self.store.append(put);
+            let Err(StoreError::Refused(why)) = told else {
+                is_known &= !matches!(told, Err(StoreError::Unknown(_)));
+                return told;
+            };
+            if is_known {
+                return Err(StoreError::Refused(why));
+            }
+            let stands = self.store.read(put.request, put.number, put.at)?;
+            if stands.is_empty() {
+                return Err(StoreError::Unknown(why));
+            }
+            Ok(Some(stands))
+        })
+    }
+
     /// Puts a word within a transaction, and commits it: whether it stands. It doesn't where another word stands at its place.
     pub(crate) fn act_within(&mut self, transaction: &mut dyn Transaction, wanted: Wanted) -> Result<bool, StoreError> {
         let (entries, payloads) = self.planned_put(vec![wanted])?;
-        let put = Put { request: &self.opened.name, number: self.opened.number, at: self.seen, entries: &entries, payloads: &payloads };
+        let (name, number) = (&self.opened.name, self.opened.number);
+        let put = Put { request: name, number, at: self.seen, entries: &entries, payloads: &payloads, opens: false };
         let stands = transaction.append(put).and_then(|landed| if landed { transaction.commit().map(|()| true) } else { Ok(false) });
         match stands {
             Ok(true) => {

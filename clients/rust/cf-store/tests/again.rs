@@ -2,13 +2,12 @@
 #[macro_use]
 mod common;
 
-use cf_store::{Entry, Error, Flow, Functions, Mark, Opened, Put, Service, Store, StoreError, Timer};
-use common::{quick, settled, AnyStore, Place};
+use cf_store::{Entry, Error, Flow, Functions, Mark, News, Opened, Put, Service, Store, StoreError, Timer};
+use common::{quick, settled, until, AnyStore, Place};
 use std::collections::BTreeMap;
 use std::sync::atomic::{AtomicU32, Ordering::SeqCst};
 use std::sync::{Arc, Mutex};
-use std::thread;
-use std::time::{Duration, Instant};
+use std::time::Duration;
 
 fn add_one(number: i64) -> Result<i64, String> {
     Ok(number + 1)
@@ -43,9 +42,8 @@ impl Store for Fails {
         fn find(name: &str) -> Option<Opened>;
         fn append(put: Put<'_>) -> Option<Vec<Entry>>;
         fn read(name: &str, number: i64, at: usize) -> Vec<Entry>;
-        fn news(since: Option<Mark>) -> (BTreeMap<String, usize>, Mark);
+        fn news(since: Option<Mark>) -> (News, Mark);
         fn changed(wait: Duration) -> ();
-        fn reopen(name: &str, number: i64) -> ();
         fn beat(session: u64) -> ();
         fn beats() -> BTreeMap<u64, i64>;
         fn drop_beat(session: u64) -> ();
@@ -88,15 +86,6 @@ fn drop_request(place: &Place, number: i64) {
     place.query(&format!("delete from cf_request where id = {number}"));
     for table in ["cf_word", "cf_name"] {
         place.query(&format!("delete from {table} where request = {number}"));
-    }
-}
-
-/// Comes back once this is so.
-fn until(is_so: impl Fn() -> bool) {
-    let begun = Instant::now();
-    while !is_so() {
-        assert!(begun.elapsed() < Duration::from_secs(60));
-        thread::sleep(Duration::from_millis(5));
     }
 }
 
@@ -149,4 +138,16 @@ fn a_flow_that_cannot_be_closed_at_first() {
     drop(service.start(&flow, "unclosed", &[serde_json::json!(1)]).unwrap());
     until(|| !store.news(None).unwrap().0.contains_key("unclosed"));
     assert_eq!(store.left.load(SeqCst), 0);
+}
+
+#[test]
+fn who_attaches_to_a_closed_request_opens_it() {
+    let place = Place::new("opens");
+    common::who_attaches_to_a_closed_request_opens_it(|| place.store());
+}
+
+#[test]
+fn who_waits_elsewhere_is_told_of_the_last_word() {
+    let place = Place::new("elsewhere");
+    common::who_waits_elsewhere_is_told_of_the_last_word(|| place.store());
 }

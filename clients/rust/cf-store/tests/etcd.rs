@@ -179,7 +179,7 @@ fn rows_stand_in_keys() {
     let (number, large) = (opened.number, vec![b'x'; 200_000]);
     let payloads = BTreeMap::from([(1, b"\x00\xff".to_vec()), (2, large.clone())]);
     let both = [entry(u64::from(u32::MAX), 5), entry(0, 6)];
-    let put = Put { request: name, number, at: 0, entries: &both, payloads: &payloads };
+    let put = Put { request: name, number, at: 0, entries: &both, payloads: &payloads, opens: false };
     assert_eq!(store.append(put), Ok(None));
     assert_eq!(store.append(put), Ok(Some(both.to_vec())), "where it stood the same put is told what stands");
     let other = [entry(9, 9)];
@@ -198,24 +198,23 @@ fn rows_stand_in_keys() {
     assert_eq!(store.append(Put { number: number + 1, at: 3, ..put }), gone.clone().map(|_: ()| None));
     assert_eq!(store.read(name, number + 1, 0), gone.clone().map(|_: ()| vec![]));
     assert_eq!(store.payload(name, number + 1, 1), gone.clone().map(|_: ()| None));
-    assert_eq!(store.reopen(name, number + 1), gone);
     let many = vec![entry(1, 1); 41];
     assert!(matches!(store.append(Put { at: 3, entries: &many, payloads: &none, ..put }), Err(StoreError::Refused(_))));
     let huge = BTreeMap::from([(4, vec![b'x'; 2_000_000])]);
     assert!(matches!(store.append(Put { at: 3, entries: &other, payloads: &huge, ..put }), Err(StoreError::Refused(_))));
 
     let (all, mark) = store.news(None).unwrap();
-    assert_eq!(all, BTreeMap::from([(name.to_owned(), 3)]));
+    assert_eq!(all, BTreeMap::from([(name.to_owned(), Some(3))]));
     assert_eq!(store.news(Some(before)).unwrap().0, all);
     assert_eq!(store.news(Some(mark)), Ok((BTreeMap::new(), mark)));
     assert_eq!(store.end(name, number, 2), Ok(false), "it has more words");
+    assert_eq!(store.end(name, number + 1, 3), Err(StoreError::Gone(name.into())));
     assert_eq!(store.end(name, number, 3), Ok(true));
     assert_eq!(store.end(name, number, 3), Ok(false));
     assert_eq!(store.news(None).unwrap().0, BTreeMap::new());
-    store.reopen(name, number).unwrap();
-    store.reopen(name, number).unwrap();
-    assert_eq!(store.news(Some(mark)).unwrap().0, all);
-    assert_eq!(store.end(name, number, 3), Ok(true));
+    assert_eq!(store.append(Put { entries: &other, payloads: &none, at: 3, opens: true, ..put }), Ok(None));
+    assert_eq!(store.news(Some(mark)).unwrap().0, BTreeMap::from([(name.to_owned(), Some(4))]));
+    assert_eq!(store.end(name, number, 4), Ok(true));
 }
 
 #[test]
@@ -264,13 +263,19 @@ fn answers_come_in_parts() {
 }
 
 #[test]
+fn who_attaches_to_a_closed_request_opens_it() {
+    let Some(server) = Server::start("opens") else { return };
+    common::who_attaches_to_a_closed_request_opens_it(|| server.store());
+}
+
+#[test]
 fn an_answer_that_is_lost_is_unknown() {
     let Some(mut server) = Server::start("unknown") else { return };
     let between = Between::new(server.ports[0]);
     let store = between.store();
     let number = store.open("lost", PLAN).unwrap().number;
     let (entries, payloads) = ([entry(3, 4)], BTreeMap::new());
-    let put = Put { request: "lost", number, at: 0, entries: &entries, payloads: &payloads };
+    let put = Put { request: "lost", number, at: 0, entries: &entries, payloads: &payloads, opens: false };
     between.loses_answers.store(true, Ordering::SeqCst);
     assert!(matches!(store.append(put), Err(StoreError::Unknown(_))));
     between.loses_answers.store(false, Ordering::SeqCst);
@@ -294,7 +299,7 @@ fn a_watch_tells_that_something_was_put() {
     let number = store.open("watched", PLAN).unwrap().number;
     let put = |at: usize| {
         let (entries, payloads) = ([entry(3, at as u64)], BTreeMap::new());
-        assert_eq!(other.append(Put { request: "watched", number, at, entries: &entries, payloads: &payloads }), Ok(None));
+        assert_eq!(other.append(Put { request: "watched", number, at, entries: &entries, payloads: &payloads, opens: false }), Ok(None));
     };
     let waits = |wait| {
         let began = Instant::now();

@@ -27,7 +27,7 @@ fn entries(many: u64) -> Vec<Entry> {
 }
 
 fn put<'a>(number: i64, entries: &'a [Entry], payloads: &'a BTreeMap<usize, Vec<u8>>) -> Put<'a> {
-    Put { request: "r", number, at: 0, entries, payloads }
+    Put { request: "r", number, at: 0, entries, payloads, opens: false }
 }
 
 #[test]
@@ -48,14 +48,19 @@ fn a_drop_and_what_is_kept_for_its_request_wait_for_each_other() {
     rows(drops.connection(), &format!("delete from cf_request where id = {number}")).unwrap();
     let timer = Timer { request: "r".into(), number, stage: 0, due: 1.0, payload: b"N".to_vec() };
     for many in [1, 2] {
-        assert!(matches!(impatient.append(put(number, &words[..many], &none)), Err(StoreError::Unknown(_))), "a put of {many} waits for the drop");
+        for opens in [false, true] {
+            let told = impatient.append(Put { opens, ..put(number, &words[..many], &none) });
+            assert!(matches!(told, Err(StoreError::Unknown(_))), "a put of {many} waits for the drop");
+        }
         let mut puts = impatient.transaction().unwrap();
         assert!(matches!(puts.append(put(number, &words[..many], &none)), Err(StoreError::Unknown(_))), "and one in a transaction");
     }
     assert!(matches!(impatient.set_timer(&timer), Err(StoreError::Unknown(_))));
     drops.commit().unwrap();
     for many in [1, 2] {
-        assert_eq!(impatient.append(put(number, &words[..many], &none)), Err(StoreError::Gone("r".into())));
+        for opens in [false, true] {
+            assert_eq!(impatient.append(Put { opens, ..put(number, &words[..many], &none) }), Err(StoreError::Gone("r".into())));
+        }
         assert!(!impatient.transaction().unwrap().append(put(number, &words[..many], &none)).unwrap());
     }
     assert_eq!(impatient.set_timer(&timer), Err(StoreError::Gone("r".into())));

@@ -2,7 +2,7 @@
 #[macro_use]
 mod common;
 
-use cf_store::{Entry, Functions, Mark, Opened, Put, Service, Store, StoreError, Timer};
+use cf_store::{Entry, Functions, Mark, News, Opened, Put, Service, Store, StoreError, Timer};
 use common::{quick, settled, AnyStore, Place};
 use std::collections::BTreeMap;
 use std::sync::{Arc, Mutex};
@@ -85,4 +85,18 @@ fn a_chain_is_a_put_a_stage() {
     let last = worker.open("chain").unwrap().stage(last.number()).unwrap();
     assert_eq!(settled::<i64>(&last), Ok(MANY as i64));
     assert_eq!(times(&asked, "append"), MANY + 1, "the finish of each comes with the claim of the next");
+}
+
+#[test]
+fn what_is_said_of_many_stages_is_asked_for_at_once() {
+    let place = Place::new("said");
+    let (asks, _) = service(&place, 0);
+    let request = asks.request("r").unwrap();
+    for _ in 0..MANY {
+        request.promise("p").unwrap();
+    }
+    let (reads, asked) = service(&place, 0);
+    assert!(reads.open("r").unwrap().named("another").unwrap().is_none());
+    let asked = asked.lock().unwrap();
+    assert_eq!((asked.get("payloads"), asked.get("payload")), (Some(&1), None));
 }

@@ -2,7 +2,7 @@
 #[macro_use]
 mod common;
 
-use cf_store::{Entry, Error, Failed, Flow, Functions, Mark, Opened, Put, Service, Store, StoreError, Timer, Transaction};
+use cf_store::{Entry, Error, Failed, Flow, Functions, Mark, News, Opened, Put, Service, Store, StoreError, Timer, Transaction};
 use common::{quick, rows, settled, AnyStore, Place};
 use serde_json::json;
 use std::any::Any;
@@ -220,7 +220,7 @@ struct Held {
 
 impl Held {
     fn put(&self) -> Put<'_> {
-        Put { request: &self.request, number: self.number, at: self.at, entries: &self.entries, payloads: &self.payloads }
+        Put { request: &self.request, number: self.number, at: self.at, entries: &self.entries, payloads: &self.payloads, opens: false }
     }
 }
 

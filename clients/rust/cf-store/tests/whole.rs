@@ -118,7 +118,7 @@ fn a_call_is_done_whole_or_not_at_all() {
     let (small, large) = (b"{}".to_vec(), vec![b'x'; 5000]);
     let attach = Call::Attach(Form::Source, Of::None, None);
     let put = |at, entries: &[Entry], payloads: &BTreeMap<usize, Vec<u8>>, store: &AnyStore| {
-        store.append(Put { request: "r", number: opened.number, at, entries, payloads })
+        store.append(Put { request: "r", number: opened.number, at, entries, payloads, opens: false })
     };
     let mut changes = Vec::new();
     let one = entries(1, &[attach]);
@@ -137,7 +137,8 @@ fn a_call_is_done_whole_or_not_at_all() {
     let acts = |it: &AnyStore| {
         let mut transaction = it.transaction()?;
         rows(transaction.connection(), "insert into effects values ('paid')").map_err(StoreError::Refused)?;
-        let stands = transaction.append(Put { request: "r", number: opened.number, at: 5, entries: &last, payloads: &BTreeMap::new() })?;
+        let stands =
+            transaction.append(Put { request: "r", number: opened.number, at: 5, entries: &last, payloads: &BTreeMap::new(), opens: false })?;
         assert!(stands);
         transaction.commit()
     };
@@ -148,7 +149,23 @@ fn a_call_is_done_whole_or_not_at_all() {
     cut.whole("another of the stage", &store, |it| it.set_timer(&timer(2.0)));
     cut.does(&[format!("insert into cf_glance values ({}, 1, '')", opened.number)]);
     assert_eq!(cut.whole("an end", &store, |it| it.end("r", opened.number, 6)), (true, 3), "with its timer and its glance");
-    cut.whole("an end taken back", &store, |it| it.reopen("r", opened.number));
+    let opens = |at, entries: &[Entry], payloads: &BTreeMap<usize, Vec<u8>>, store: &AnyStore| {
+        store.append(Put { request: "r", number: opened.number, at, entries, payloads, opens: true })
+    };
+    let (one, more) = (entries(7, &[attach]), entries(8, &[attach, attach]));
+    let both = BTreeMap::from([(8, vec![0; 3]), (9, vec![b'x'; 5000])]);
+    assert_eq!(cut.whole("a put that opens it again", &store, |it| opens(6, &one, &BTreeMap::new(), it)), (None, 2));
+    assert_eq!(store.end("r", opened.number, 7), Ok(true));
+    let changes = if cut.place.file().is_some() { 4 } else { 3 };
+    assert_eq!(cut.whole("a put of two words that opens it again", &store, |it| opens(7, &more, &both, it)), (None, changes));
+    assert_eq!(store.payloads("r", opened.number, &[8, 9]).unwrap(), both.values().cloned().map(Some).collect::<Vec<_>>());
+    assert_eq!(store.read("r", opened.number, 7).unwrap(), more);
+    assert_eq!(store.end("r", opened.number + 1, 9), Err(StoreError::Gone("r".into())));
+    assert_eq!(store.end("r", opened.number, 9), Ok(true));
+    assert_eq!(opens(8, &more, &both, &store), Ok(Some(more[1..].to_vec())), "its place is taken");
+    assert_eq!(store.news(None).unwrap().0, BTreeMap::new(), "and it stays closed");
+    assert_eq!(opens(9, &more, &BTreeMap::new(), &store), Ok(None));
+    assert_eq!(store.news(None).unwrap().0, BTreeMap::from([("r".to_owned(), Some(11))]));
     cut.whole("a timer of what was opened again", &store, |it| it.set_timer(&timer(3.0)));
     cut.whole("the drop of a timer", &store, |it| it.drop_timer(&timer(3.0)));
     for _ in 0..2 {

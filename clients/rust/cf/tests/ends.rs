@@ -3,8 +3,10 @@ mod common;
 
 use cf::{Describe, Ends, History, Inline, Pool, Request, Span, SpanFile, Status};
 use common::{comes_back, LONG, SHORT};
+use std::sync::atomic::{AtomicU32, Ordering::SeqCst};
 use std::sync::mpsc::{channel, Receiver};
 use std::sync::{Arc, Barrier, Mutex};
+use std::thread;
 use std::time::{Duration, SystemTime};
 
 /// Ends that send what they are told, and who receives it.
@@ -29,6 +31,23 @@ fn a_request_is_over_once_its_last_handle_is_dropped() {
         assert!(told.recv_timeout(LONG).unwrap().starts_with("a promise: 1 event, 1 stage\n"));
         assert!(ends.flush(LONG) && told.try_recv().is_err());
     });
+}
+
+#[test]
+fn a_function_is_told_of_one_request_after_another() {
+    let (now, most) = (AtomicU32::new(0), Arc::new(AtomicU32::new(0)));
+    let its = Arc::clone(&most);
+    let ends = Ends::new(move |_| {
+        its.fetch_max(now.fetch_add(1, SeqCst) + 1, SeqCst);
+        thread::sleep(SHORT);
+        now.fetch_sub(1, SeqCst);
+    });
+    for _ in 0..3 {
+        drop(Request::new("a", Inline).on_end(&ends));
+        thread::sleep(SHORT / 4);
+    }
+    assert!(ends.flush(LONG));
+    assert_eq!(most.load(SeqCst), 1);
 }
 
 #[test]

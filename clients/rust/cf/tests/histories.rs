@@ -400,3 +400,14 @@ fn an_account_has_relays() {
     let account = recorded.history().account();
     assert!(account.ends_with("],\"relays\":[[1,3]]}\n"), "{account}");
 }
+
+/// A page is what a program prints that reads the account, if it ends well: `grep page` prints the lines that have this word.
+#[test]
+fn a_page_is_what_a_program_prints() {
+    let (paged, other) = (Request::new("page 9", Inline), Request::new("order 9", Inline));
+    let account = paged.history().account();
+    assert!(account.contains("page 9"), "{account}");
+    assert_eq!(paged.history().page_by("grep").unwrap(), account);
+    let refused = other.history().page_by("grep").unwrap_err();
+    assert_eq!(refused.to_string(), "cf_look ended with exit status: 1: ");
+}

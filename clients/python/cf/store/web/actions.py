@@ -76,6 +76,7 @@ class Actions:
 
         def decide(view: RowView) -> Any:
             return None if view.is_settled(stage) else [make(view, stage)]
+
         done, _ = view.act(decide)
         is_done = done is not None and stage in done[0].settled
         return is_done, TEXTS["done" if is_done else "late"]
@@ -107,6 +108,7 @@ class Actions:
         def decide(view: RowView) -> Any:
             left = [stage for stage in range(len(view.kinds)) if not view.is_settled(stage)][:MOST_AT_ONCE]
             return [_cancel(view, stage) for stage in left]
+
         while True:
             done, _ = view.act(decide)
             if done is None:
@@ -143,6 +145,7 @@ def _completing(asked: Dict[str, Any]) -> Maker:
     def make(view: RowView, stage: int) -> Tuple[int, Optional[bytes]]:
         low = 0 if payload is None else GIVES << 32 | view.place
         return COMPLETE << 56 | view.who << 48 | stage << 36 | low, payload
+
     return make
 
 
@@ -159,5 +162,4 @@ def _failing(asked: Dict[str, Any]) -> Maker:
     return lambda view, stage: (FAIL << 56 | view.who << 48 | stage << 36 | view.place, payload)
 
 
-_MAKERS: Dict[str, Callable[[Dict[str, Any]], Maker]] = {
-    "cancel": lambda asked: _cancel, "complete": _completing, "fail": _failing}
+_MAKERS: Dict[str, Callable[[Dict[str, Any]], Maker]] = {"cancel": lambda asked: _cancel, "complete": _completing, "fail": _failing}

@@ -93,7 +93,8 @@ class Board:
         self._change, self._stops = threading.Condition(), threading.Event()
         # (a put waits for the disk, and for a majority in etcd: what is looked at doesn't wait for that)
         self._threads = [threading.Thread(target=self._run, name="cf-board", daemon=True)] + (
-            [] if is_read_only else [threading.Thread(target=self._run_keeper, name="cf-keeper", daemon=True)])
+            [] if is_read_only else [threading.Thread(target=self._run_keeper, name="cf-keeper", daemon=True)]
+        )
 
     def start(self) -> None:
         """Begins to look."""
@@ -122,8 +123,10 @@ class Board:
 
     def wait_for_first(self, seconds: float) -> None:
         """Waits until the first requests are known, or so many seconds."""
+
         def is_there() -> bool:
             return self.is_known or self.many > 0 or self.away != "" or self._stops.is_set()
+
         if not is_there():  # (else nobody waits here while the others are taken over)
             with self._change:
                 self._change.wait_for(is_there, seconds)
@@ -171,8 +174,7 @@ class Board:
         for line in self.lines():
             for it in line.seen.ready if line.seen is not None else ():
                 before = told.get(it[:2])
-                told[it[:2]] = it if before is None else Queue(*it[:2], before.many + it.many,
-                                                               min(before.since, it.since))
+                told[it[:2]] = it if before is None else Queue(*it[:2], before.many + it.many, min(before.since, it.since))
         return [told[key] for key in sorted(told)]
 
     def rate(self) -> Optional[float]:
@@ -254,8 +256,7 @@ class Board:
 
     def _add(self, it: Open, now: float) -> Line:
         self._forget(it.name)
-        line = self._lines[it.name] = Line(it.name, it.number, it.opened, it.flow, it.words, changed=now,
-                                           folded=it.name.lower())
+        line = self._lines[it.name] = Line(it.name, it.number, it.opened, it.flow, it.words, changed=now, folded=it.name.lower())
         self._behind[it.name] = None
         return line
 
@@ -305,7 +306,8 @@ class Board:
             if put is not None:
                 self._rates = [it for it in self._rates if now - it[0] <= RATED] + [(now, put)]
             is_other = gone != self._gone or {(it.session, it.is_there) for it in told.values()} != {
-                (it.session, it.is_there) for it in self._sessions.values()}
+                (it.session, it.is_there) for it in self._sessions.values()
+            }
             is_known, self._sessions, self._gone = gone == self._gone, told, gone
             for line in [] if is_known else self._order:
                 line.state = self._state(line)
@@ -321,8 +323,7 @@ class Board:
             self._wanted.update(dict.fromkeys(names, at))
         with self._change:
             wanted = [name for name in self._behind if now - self._wanted.get(name, -WANTED) < WANTED]
-            rested = [] if len(wanted) >= 100 else [
-                name for name in self._behind if name not in self._wanted and self._rests(name, now)]
+            rested = [] if len(wanted) >= 100 else [name for name in self._behind if name not in self._wanted and self._rests(name, now)]
         if len(rested) < TOGETHER and now < self._next_rested:
             rested = []
         self._next_rested = now + BETWEEN_RESTED if rested else self._next_rested
@@ -330,7 +331,7 @@ class Board:
             for k in range(0, len(names), TOGETHER):
                 if time.monotonic() > now + READING or self._stops.is_set():
                     return
-                self._read_all(names[k:k + TOGETHER], names is wanted)
+                self._read_all(names[k : k + TOGETHER], names is wanted)
                 self._changed()
 
     def _rests(self, name: str, now: float) -> bool:

@@ -9,8 +9,7 @@ from collections import OrderedDict
 from typing import Any, Dict, List, NamedTuple, Optional, Tuple
 
 from ...service.history import History, escaped
-from ...service.words import (CANCELLED, FORMS, IS_CLAIMED, IS_LINKED, IS_PENDING, IS_READY, IS_SETTLED, TIMED_OUT,
-                              VALUE)
+from ...service.words import CANCELLED, FORMS, IS_CLAIMED, IS_LINKED, IS_PENDING, IS_READY, IS_SETTLED, TIMED_OUT, VALUE
 from ..codec import Json
 from ..rows import Broken, Gone
 from ..view import RowView
@@ -26,10 +25,12 @@ SECONDS = 60  # for cf_look
 MOST = 8  # histories and pictures that are kept
 # What `cf_look page` shows beside its graph stands around the frame already, but for a verdict that is bad. (A row has
 # no times, so it also has no picture of who ran what when.)
-ALONE = (b"<style>body { height: 100vh !important; overflow: hidden !important; display: grid !important; "
-         b"grid-template: auto auto minmax(0, 1fr) / minmax(0, 1fr) !important } "
-         b"main { grid-row: 3; grid-template-columns: minmax(0, 1fr) !important } #view { height: auto !important } "
-         b"#split, #side, #lanes, body > header:not(:has(.not)) { display: none !important }</style></head>")
+ALONE = (
+    b"<style>body { height: 100vh !important; overflow: hidden !important; display: grid !important; "
+    b"grid-template: auto auto minmax(0, 1fr) / minmax(0, 1fr) !important } "
+    b"main { grid-row: 3; grid-template-columns: minmax(0, 1fr) !important } #view { height: auto !important } "
+    b"#split, #side, #lanes, body > header:not(:has(.not)) { display: none !important }</style></head>"
+)
 KINDS = {IS_READY: "ready", IS_CLAIMED: "running", IS_LINKED: "linked", IS_PENDING: "waiting"}
 ENDS = {VALUE: "value", CANCELLED: "cancelled", TIMED_OUT: "timedout"}
 
@@ -71,24 +72,35 @@ class Details:
 
     def request(self, name: str, number: int, before: int) -> Dict[str, Any]:
         """All that the page of a request shows; of its words those up to a place, the last ones for 0."""
-        told: Dict[str, Any] = {"view": "request", "name": name, "said": escaped(name), "number": number,
-                                "state": "unread", "why": "", **about(self.board)}
+        told: Dict[str, Any] = {
+            "view": "request",
+            "name": name,
+            "said": escaped(name),
+            "number": number,
+            "state": "unread",
+            "why": "",
+            **about(self.board),
+        }
         line = self.board.line(name)
         self.board.want([name])
         try:
             with self.readings.reading(name, number) as view:
                 number = view.opened.number
-                told.update(number=number, flow=escaped(view.plan.flow), words=view.seen,
-                            opened=view.opened.opened - self.board.ahead, **self._stages(view))
+                told.update(
+                    number=number, flow=escaped(view.plan.flow), words=view.seen, opened=view.opened.opened - self.board.ahead, **self._stages(view)
+                )
                 history = self._history(view)
         except Gone:
             return {**told, "state": "dropped"}
         except Broken as error:
-            return {**told, "state": "broken", "closed": line is None,
-                    "why": escaped(f"place {error.place}: {error.why}")}
+            return {**told, "state": "broken", "closed": line is None, "why": escaped(f"place {error.place}: {error.why}")}
         is_open = line is not None and line.number == number
-        told.update(state=line.state if line is not None and is_open else "closed", closed=not is_open,
-                    picture=self.cf_look is not None, **self._sentences(history, before))
+        told.update(
+            state=line.state if line is not None and is_open else "closed",
+            closed=not is_open,
+            picture=self.cf_look is not None,
+            **self._sentences(history, before),
+        )
         return told
 
     def _stages(self, view: RowView) -> Dict[str, Any]:
@@ -96,18 +108,25 @@ class Details:
         for number, kind in enumerate(view.kinds):
             state = ENDS.get(view.told[number].kind, "failed") if kind == IS_SETTLED else KINDS[kind]
             counts[state] = counts.get(state, 0) + 1
-        order = [number for how in (IS_CLAIMED, IS_READY, IS_LINKED, IS_PENDING)
-                 for number, kind in enumerate(view.kinds) if kind == how]
+        order = [number for how in (IS_CLAIMED, IS_READY, IS_LINKED, IS_PENDING) for number, kind in enumerate(view.kinds) if kind == how]
         shown = order[:STAGES]
         view.look_up(shown)
         claims = view.open_claims()
         rows = []
         for number in shown:
             said, (form, of) = view.said(number), view.forms[number]
-            rows.append({"n": number, "name": escaped(str(said["name"])), "form": FORMS[form], "of": list(of),
-                         "fn": escaped(str(said.get("fn", ""))), "version": said.get("version"),
-                         "state": KINDS[view.kinds[number]],
-                         "session": session_of(self.board, claims[number]) if number in claims else None})
+            rows.append(
+                {
+                    "n": number,
+                    "name": escaped(str(said["name"])),
+                    "form": FORMS[form],
+                    "of": list(of),
+                    "fn": escaped(str(said.get("fn", ""))),
+                    "version": said.get("version"),
+                    "state": KINDS[view.kinds[number]],
+                    "session": session_of(self.board, claims[number]) if number in claims else None,
+                }
+            )
         return {"counts": counts, "stages": rows, "open": len(order), "all": len(view.kinds)}
 
     def _history(self, view: RowView) -> History:
@@ -133,8 +152,10 @@ class Details:
         entries = history.entries()
         last = min(before, len(entries)) if before else len(entries)
         first = max(0, last - EVENTS)
-        lines = [[it.place, said, [end.strip() for end in ends], _has_payload(it.word)]
-                 for it, (said, ends) in zip(entries[first:last], history.sentences()[first:last])]
+        lines = [
+            [it.place, said, [end.strip() for end in ends], _has_payload(it.word)]
+            for it, (said, ends) in zip(entries[first:last], history.sentences()[first:last])
+        ]
         return {"lines": lines, "first": first, "last": last, "events": len(entries)}
 
     # What stands by itself.
@@ -151,8 +172,7 @@ class Details:
                 text = json.dumps(json.loads(given.decode()), indent=2, ensure_ascii=False)
             except (ValueError, RecursionError):
                 pass
-        return {"place": place, "text": "\n".join(map(escaped, text.split("\n"))), "bytes": len(given),
-                "cut": len(given) > LONGEST}
+        return {"place": place, "text": "\n".join(map(escaped, text.split("\n"))), "bytes": len(given), "cut": len(given) > LONGEST}
 
     def account(self, name: str, number: int) -> Tuple[Tuple[str, int, int], str]:
         """What `cf_look` reads of a request, and what it is known by."""
@@ -170,8 +190,14 @@ class Details:
         with self._lock:
             known = self._pictures.get(key)
         if known is None:
-            done = subprocess.run([self.cf_look or "cf_look", "page"], input=account.encode(), stdout=subprocess.PIPE,
-                                  stderr=subprocess.PIPE, check=True, timeout=SECONDS)
+            done = subprocess.run(
+                [self.cf_look or "cf_look", "page"],
+                input=account.encode(),
+                stdout=subprocess.PIPE,
+                stderr=subprocess.PIPE,
+                check=True,
+                timeout=SECONDS,
+            )
             known = Picture(done.stdout.replace(b"</head>", ALONE, 1), [_hash_of(it) for it in _scripts(done.stdout)])
             self._remember(self._pictures, key, known)
         return known

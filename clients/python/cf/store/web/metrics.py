@@ -34,8 +34,9 @@ def _metrics(board: Board) -> "Iterator[Tuple[str, str, List[Sample]]]":
     named = [([("function", it.function), ("version", str(it.version))], it) for it in queues]
     yield "cf_ready_stages", "gauge", [(labels, it.many) for labels, it in named]
     yield "cf_oldest_ready_seconds", "gauge", [(labels, max(0.0, now - it.since)) for labels, it in named]
-    yield "cf_sessions", "gauge", [([("state", said)], sessions.count(is_there))
-                                   for said, is_there in (("there", True), ("gone", False), ("unsure", None))]
+    yield "cf_sessions", "gauge", [
+        ([("state", said)], sessions.count(is_there)) for said, is_there in (("there", True), ("gone", False), ("unsure", None))
+    ]
     if board.words_put is not None:
         yield "cf_words_total", "counter", [([], board.words_put)]
     rate = board.rate()

@@ -17,14 +17,23 @@ from urllib.parse import urlsplit
 from .wording import TEXTS
 
 OWN = ("same-origin", "none")  # what Sec-Fetch-Site says of requests that people and this page make
-COMMON = {"X-Content-Type-Options": "nosniff", "Referrer-Policy": "no-referrer", "Cache-Control": "no-store",
-          "Cross-Origin-Opener-Policy": "same-origin", "Cross-Origin-Resource-Policy": "same-origin"}
+COMMON = {
+    "X-Content-Type-Options": "nosniff",
+    "Referrer-Policy": "no-referrer",
+    "Cache-Control": "no-store",
+    "Cross-Origin-Opener-Policy": "same-origin",
+    "Cross-Origin-Resource-Policy": "same-origin",
+}
 NOTHING = "default-src 'none'; base-uri 'none'; form-action 'none'; frame-ancestors 'none'"
-AROUND = ("default-src 'none'; script-src {}; style-src {}; connect-src 'self'; frame-src 'self'; img-src data:; "
-          "base-uri 'none'; form-action 'none'; frame-ancestors 'none'")
+AROUND = (
+    "default-src 'none'; script-src {}; style-src {}; connect-src 'self'; frame-src 'self'; img-src data:; "
+    "base-uri 'none'; form-action 'none'; frame-ancestors 'none'"
+)
 # A picture has an origin of its own, so that even a script that got into it could ask for nothing here.
-WITHIN = ("sandbox allow-scripts; default-src 'none'; script-src {}; style-src 'unsafe-inline'; base-uri 'none'; "
-          "form-action 'none'; frame-ancestors 'self'")
+WITHIN = (
+    "sandbox allow-scripts; default-src 'none'; script-src {}; style-src 'unsafe-inline'; base-uri 'none'; "
+    "form-action 'none'; frame-ancestors 'self'"
+)
 
 
 PORTS: Dict[str, int] = {"http": 80, "https": 443}  # that an address needn't name
@@ -113,8 +122,7 @@ def origin_of(address: str) -> str:
     Raises:
         ValueError: It isn't http:// or https:// and a host, or has more than these and a port."""
     parts = urlsplit(address)
-    if parts.scheme not in PORTS or not parts.hostname or parts.path.strip("/") or parts.query or parts.fragment or (
-            parts.username is not None):
+    if parts.scheme not in PORTS or not parts.hostname or parts.path.strip("/") or parts.query or parts.fragment or (parts.username is not None):
         raise ValueError(f"{address!r} is no public address: it is http:// or https://, a host, and perhaps a port")
     host = f"[{parts.hostname}]" if ":" in parts.hostname else parts.hostname
     port = "" if parts.port in (None, PORTS[parts.scheme]) else f":{parts.port}"

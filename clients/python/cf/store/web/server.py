@@ -39,8 +39,10 @@ AT_FIRST = 0.02  # the same while nothing is known
 ALIVE = 10.0  # seconds after which a page is told that the server is there
 STILL = 1.0  # seconds after which a page is asked for anew even where nothing is known to have changed
 MOMENT = ("now", "rate")  # what is other at each moment, and isn't sent by itself
-BUSY = (b"HTTP/1.1 503 Service Unavailable\r\nContent-Type: text/plain; charset=utf-8\r\nConnection: close\r\n"
-        b"Retry-After: 1\r\n\r\n" + TEXTS["busy"].encode())
+BUSY = (
+    b"HTTP/1.1 503 Service Unavailable\r\nContent-Type: text/plain; charset=utf-8\r\nConnection: close\r\n"
+    b"Retry-After: 1\r\n\r\n" + TEXTS["busy"].encode()
+)
 Answer = Dict[str, Any]
 Asked = Mapping[str, str]
 
@@ -81,9 +83,21 @@ class Server(ThreadingHTTPServer):
 
     daemon_threads, request_queue_size = True, 64
 
-    def __init__(self, store: Store, host: str = "127.0.0.1", port: int = 0, *, names: Tuple[str, ...] = (),
-                 public: str = "", token: Optional[str] = None, is_read_only: bool = False, who: str = "",
-                 cf_look: Optional[str] = None, lease: float = 10, title: str = "") -> None:
+    def __init__(
+        self,
+        store: Store,
+        host: str = "127.0.0.1",
+        port: int = 0,
+        *,
+        names: Tuple[str, ...] = (),
+        public: str = "",
+        token: Optional[str] = None,
+        is_read_only: bool = False,
+        who: str = "",
+        cf_look: Optional[str] = None,
+        lease: float = 10,
+        title: str = "",
+    ) -> None:
         origin = origin_of(public) if public else ""
         self.board = Board(store, Readings(store), lease, is_read_only)
         self.address_family = socket.AF_INET6 if ":" in host else socket.AF_INET
@@ -168,9 +182,16 @@ class Server(ThreadingHTTPServer):
         if view in ("sessions", "queues"):
             return lists.sessions(self.board) if view == "sessions" else lists.queues(self.board)
         session = given.get("session")
-        return lists.requests(self.board, Filter(given.get("state", ""), given.get("flow"), given.get("part", ""),
-                                                 None if session is None else _number(given, "session", 16),
-                                                 given.get("behind", "")))
+        return lists.requests(
+            self.board,
+            Filter(
+                given.get("state", ""),
+                given.get("flow"),
+                given.get("part", ""),
+                None if session is None else _number(given, "session", 16),
+                given.get("behind", ""),
+            ),
+        )
 
 
 class Handler(BaseHTTPRequestHandler):
@@ -231,8 +252,14 @@ class Handler(BaseHTTPRequestHandler):
         """The page, with the list of all requests as it is known. So a browser can show it without another request."""
         server = self.server
         server.board.wait_for_first(FIRST_WITHIN)
-        said = {"texts": PAGE, "token": server.door.post_token, "readOnly": server.is_read_only, "who": server.who,
-                "title": server.title, "first": server.asked({})}
+        said = {
+            "texts": PAGE,
+            "token": server.door.post_token,
+            "readOnly": server.is_read_only,
+            "who": server.who,
+            "title": server.title,
+            "first": server.asked({}),
+        }
         self._send(200, "text/html", server.page.text(said), server.page.policy, more)
 
     def _get(self, path: str, given: Asked) -> None:
@@ -241,8 +268,7 @@ class Handler(BaseHTTPRequestHandler):
             "/": self._page,
             "/data": lambda: self._json(200, server.asked(given)),
             "/live": lambda: self._live(given),
-            "/payload": lambda: self._json(200, server.details.payload(given.get("name", ""), _number(given, "number"),
-                                                                       _number(given, "place"))),
+            "/payload": lambda: self._json(200, server.details.payload(given.get("name", ""), _number(given, "number"), _number(given, "place"))),
             "/picture": lambda: self._picture(given),
             "/metrics": lambda: self._send(200, "text/plain; version=0.0.4", metrics.text_of(server.board).encode()),
         }
@@ -283,6 +309,7 @@ class Handler(BaseHTTPRequestHandler):
             if not isinstance(asked, dict):
                 raise Misused(TEXTS["misused"])
             told.extend(self.server.actions.do(asked))
+
         status, why = self._tried(act, "away")
         self._json(status, {"done": False, "said": why} if why else {"done": told[0], "said": told[1]})
 
@@ -359,8 +386,7 @@ class Handler(BaseHTTPRequestHandler):
             self.close_connection = True
             self.send_header("Connection", "close")
 
-    def _send(self, status: int, kind: str, body: bytes, policy: str = NOTHING,
-              more: Optional[Mapping[str, str]] = None) -> None:
+    def _send(self, status: int, kind: str, body: bytes, policy: str = NOTHING, more: Optional[Mapping[str, str]] = None) -> None:
         self._head(status, kind, policy)
         for name, value in (more or {}).items():
             self.send_header(name, value)

@@ -1,7 +1,7 @@
 //! A store in memory, which keeps what an engine keeps.
 use super::rows::locked;
 use crate::error::StoreError;
-use crate::store::{Mark, Opened, Put, Store, Timer};
+use crate::store::{Mark, News, Opened, Put, Store, Timer};
 use cf_graph::Entry;
 use std::collections::BTreeMap;
 use std::sync::Mutex;
@@ -17,6 +17,8 @@ struct Kept {
     /// With the number of each, and how many were made.
     timers: BTreeMap<(i64, u16), (u32, Timer)>,
     timers_made: u32,
+    /// How many requests were opened and puts made.
+    changes: i64,
 }
 
 /// What stands of a request.
@@ -25,6 +27,8 @@ struct Row {
     is_closed: bool,
     entries: Vec<Entry>,
     payloads: BTreeMap<usize, Vec<u8>>,
+    /// The number of its last change.
+    changed: i64,
 }
 
 impl Kept {
@@ -34,7 +38,7 @@ impl Kept {
 }
 
 impl Memory {
-    pub(super) fn is_open(&self, name: &str) -> bool {
+    pub(crate) fn is_open(&self, name: &str) -> bool {
         locked(&self.0).rows.get(name).map_or(false, |row| !row.is_closed)
     }
 
@@ -46,10 +50,11 @@ impl Memory {
 
 impl Store for Memory {
     fn open(&self, name: &str, plan: &str) -> Result<Opened, StoreError> {
-        let rows = &mut locked(&self.0).rows;
-        let opened = Opened { name: name.into(), plan: plan.into(), opened: 0.0, number: rows.len() as i64 + 1 };
-        let row = || Row { opened, is_closed: false, entries: Vec::new(), payloads: BTreeMap::new() };
-        Ok(rows.entry(name.into()).or_insert_with(row).opened.clone())
+        let kept = &mut *locked(&self.0);
+        let opened = Opened { name: name.into(), plan: plan.into(), opened: 0.0, number: kept.rows.len() as i64 + 1 };
+        kept.changes += 1;
+        let row = || Row { opened, is_closed: false, entries: Vec::new(), payloads: BTreeMap::new(), changed: kept.changes };
+        Ok(kept.rows.entry(name.into()).or_insert_with(row).opened.clone())
     }
 
     fn find(&self, name: &str) -> Result<Option<Opened>, StoreError> {
@@ -58,12 +63,16 @@ impl Store for Memory {
 
     fn append(&self, put: Put<'_>) -> Result<Option<Vec<Entry>>, StoreError> {
         let mut kept = locked(&self.0);
+        let change = kept.changes + 1;
         let row = kept.row(put.request, put.number)?;
         if row.entries.len() != put.at {
             return Ok(Some(row.entries.get(put.at..).map_or(Vec::new(), <[Entry]>::to_vec)));
         }
         row.entries.extend_from_slice(put.entries);
+        row.is_closed &= !put.opens;
+        row.changed = change;
         row.payloads.extend(put.payloads.iter().map(|(place, payload)| (*place, payload.clone())));
+        kept.changes = change;
         Ok(None)
     }
 
@@ -75,10 +84,12 @@ impl Store for Memory {
         Ok(locked(&self.0).row(name, number)?.payloads.get(&place).cloned())
     }
 
-    fn news(&self, _since: Option<Mark>) -> Result<(BTreeMap<String, usize>, Mark), StoreError> {
+    fn news(&self, since: Option<Mark>) -> Result<(News, Mark), StoreError> {
         let kept = locked(&self.0);
-        let open = kept.rows.iter().filter(|it| !it.1.is_closed);
-        Ok((open.map(|(name, row)| (name.clone(), row.entries.len())).collect(), (0, 0)))
+        let is_told = |row: &Row| since.map_or(!row.is_closed, |(since, _)| row.changed > since);
+        let rows = kept.rows.iter().filter(|it| is_told(it.1));
+        let news = rows.map(|(name, row)| (name.clone(), (!row.is_closed).then_some(row.entries.len())));
+        Ok((news.collect(), (kept.changes, 0)))
     }
 
     fn changed(&self, _wait: Duration) -> Result<(), StoreError> {
@@ -94,11 +105,6 @@ impl Store for Memory {
             kept.timers.retain(|key, _| key.0 != number);
         }
         Ok(closes)
-    }
-
-    fn reopen(&self, name: &str, number: i64) -> Result<(), StoreError> {
-        locked(&self.0).row(name, number)?.is_closed = false;
-        Ok(())
     }
 
     fn beat(&self, session: u64) -> Result<(), StoreError> {

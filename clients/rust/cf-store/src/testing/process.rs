@@ -7,7 +7,7 @@ use crate::functions::panicked;
 use crate::host::Host;
 use crate::request::Given;
 use crate::service::{Job, Service};
-use crate::store::{Mark, Opened, Put, Store, Timer, Transaction};
+use crate::store::{Mark, News, Opened, Put, Store, Timer, Transaction};
 use crate::view::View;
 use cf::testing::{Seam, Waits};
 use cf_graph::Entry;
@@ -102,7 +102,7 @@ impl Host for ProcessHost {
 
     /// Requests that were closed are kept, unless somebody is to be told of their last words.
     fn takes(&self, job: Job) -> Option<Job> {
-        if matches!(&job, Job::LetGo(inner) if !self.shop.matters(self.number, &inner.name)) {
+        if matches!(&job, Job::LetGo(leaving) if !self.shop.matters(self.number, &leaving.inner.name)) {
             return None;
         }
         if self.shop.own_thread(self.number).is_none() {
@@ -234,7 +234,7 @@ impl Store for ProcessStore {
         self.shop.rows.memory.payload(name, number, place)
     }
 
-    fn news(&self, since: Option<Mark>) -> Result<(BTreeMap<String, usize>, Mark), StoreError> {
+    fn news(&self, since: Option<Mark>) -> Result<(News, Mark), StoreError> {
         let news = self.shop.rows.memory.news(since)?;
         self.shop.touch_rows(false);
         news.0.keys().filter(|name| self.shop.works_on(self.number, name)).for_each(|name| self.shop.touch_row(name, false));
@@ -248,10 +248,6 @@ impl Store for ProcessStore {
 
     fn end(&self, name: &str, number: i64, at: usize) -> Result<bool, StoreError> {
         self.change(name, format!("closes {name}"), || self.shop.rows.memory.end(name, number, at))
-    }
-
-    fn reopen(&self, name: &str, number: i64) -> Result<(), StoreError> {
-        self.change(name, format!("opens {name} again"), || self.shop.rows.memory.reopen(name, number))
     }
 
     fn beat(&self, session: u64) -> Result<(), StoreError> {

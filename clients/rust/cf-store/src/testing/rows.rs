@@ -25,6 +25,7 @@ pub(super) struct Flying {
     pub(super) at: usize,
     entries: Vec<Entry>,
     payloads: BTreeMap<usize, Vec<u8>>,
+    opens: bool,
     /// Of the transaction that it commits.
     pub(super) effects: Vec<Json>,
     pub(super) has_landed: bool,
@@ -32,13 +33,13 @@ pub(super) struct Flying {
 
 impl Flying {
     pub(super) fn of(put: Put<'_>, effects: &[Json]) -> Flying {
-        let Put { request, number, at, entries, payloads } = put;
+        let Put { request, number, at, entries, payloads, opens } = put;
         let (entries, payloads, effects) = (entries.to_vec(), payloads.clone(), effects.to_vec());
-        Flying { request: request.into(), number, at, entries, payloads, effects, has_landed: false }
+        Flying { request: request.into(), number, at, entries, payloads, opens, effects, has_landed: false }
     }
 
     pub(super) fn put(&self) -> Put<'_> {
-        Put { request: &self.request, number: self.number, at: self.at, entries: &self.entries, payloads: &self.payloads }
+        Put { request: &self.request, number: self.number, at: self.at, entries: &self.entries, payloads: &self.payloads, opens: self.opens }
     }
 }
 

@@ -348,7 +348,8 @@ impl Shop {
         let jobs: Vec<_> = self.work(process, |work| work.queue.iter().cloned().collect());
         jobs.into_iter().find(|(_, job)| match &**job {
             Job::Fire(_) => true,
-            Job::Look(inner) | Job::LetGo(inner) => self.matters(process, &inner.name),
+            Job::Look(inner) => self.matters(process, &inner.name),
+            Job::LetGo(leaving) => self.matters(process, &leaving.inner.name),
         })
     }
 
@@ -565,7 +566,8 @@ impl Shop {
         });
         match (caller, job.as_deref()) {
             (Some(caller), _) => format!("{caller} begins"),
-            (_, Some(Job::Look(inner) | Job::LetGo(inner))) => format!("{name} works on {}", inner.name),
+            (_, Some(Job::Look(inner))) => format!("{name} works on {}", inner.name),
+            (_, Some(Job::LetGo(leaving))) => format!("{name} works on {}", leaving.inner.name),
             (_, Some(Job::Fire(timer))) => format!("{name} works on {}", timer.request),
             (None, None) => format!("{name} works"),
         }

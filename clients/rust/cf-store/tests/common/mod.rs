@@ -1,13 +1,16 @@
 //! What tests of stores have in common: a place for rows, and a process in Python that works on the same requests.
 #![allow(dead_code)]
 
-use cf_store::{Entry, Functions, Mark, Opened, Options, Put, Service, Stage, Store, StoreError, Timer, Transaction};
+use cf_store::{Entry, Flow, Functions, Mark, News, Opened, Options, Put, Service, Stage, Store, StoreError, Timer, Transaction};
 use std::any::Any;
 use std::collections::BTreeMap;
 use std::io::Write;
+use std::panic::{catch_unwind, AssertUnwindSafe};
 use std::path::{Path, PathBuf};
 use std::process::{Child, Command, Stdio};
-use std::time::Duration;
+use std::sync::atomic::{AtomicBool, AtomicU32, Ordering::SeqCst};
+use std::sync::{Arc, Mutex};
+use std::time::{Duration, Instant};
 
 /// The questions of a store, handed to a macro that answers them.
 #[allow(unused_macros)]
@@ -20,10 +23,9 @@ macro_rules! questions {
             fn read(name: &str, number: i64, at: usize) -> Vec<Entry>;
             fn payload(name: &str, number: i64, place: usize) -> Option<Vec<u8>>;
             fn payloads(name: &str, number: i64, places: &[usize]) -> Vec<Option<Vec<u8>>>;
-            fn news(since: Option<Mark>) -> (BTreeMap<String, usize>, Mark);
+            fn news(since: Option<Mark>) -> (News, Mark);
             fn changed(wait: Duration) -> ();
             fn end(name: &str, number: i64, at: usize) -> bool;
-            fn reopen(name: &str, number: i64) -> ();
             fn beat(session: u64) -> ();
             fn beats() -> BTreeMap<u64, i64>;
             fn drop_beat(session: u64) -> ();
@@ -78,6 +80,87 @@ impl Store for AnyStore {
 
     fn transaction(&self) -> Result<Box<dyn Transaction + '_>, StoreError> {
         self.store.transaction()
+    }
+}
+
+/// A store whose process is killed behind its puts, once it `dies`, and that tells no news while somebody has the `gate`.
+struct Watched<S> {
+    store: S,
+    dies: Arc<AtomicBool>,
+    gate: Arc<Mutex<()>>,
+    /// How often it was asked for news.
+    news: Arc<AtomicU32>,
+}
+
+macro_rules! watched {
+    ($(fn $name:ident($($arg:ident: $type:ty),*) -> $told:ty;)*) => {$(
+        fn $name(&self, $($arg: $type),*) -> Result<$told, StoreError> {
+            if stringify!($name) == "news" {
+                drop(self.gate.lock().unwrap());
+                self.news.fetch_add(1, SeqCst);
+            }
+            let told = self.store.$name($($arg),*);
+            if stringify!($name) == "append" && self.dies.load(SeqCst) {
+                panic!("killed");
+            }
+            told
+        }
+    )*};
+}
+
+impl<S: Store> Store for Watched<S> {
+    questions!(watched);
+}
+
+/// Whoever attaches to a closed request, and is killed right behind that, leaves it open: one that was closed by itself, or elsewhere.
+pub fn who_attaches_to_a_closed_request_opens_it<S: Store + 'static>(store: impl Fn() -> S) {
+    let (dies, mut options) = (Arc::new(AtomicBool::new(false)), Options::default());
+    options.lease = Duration::from_secs(1000);
+    let its = Watched { store: store(), dies: Arc::clone(&dies), gate: Arc::default(), news: Arc::default() };
+    let service = Service::with(its, Functions::new(), options).unwrap();
+    let mut flow = Flow::new("one");
+    flow.promise("p");
+    let over = service.start(&flow, "over", &[1.into()]).unwrap();
+    let plain = service.request("plain").unwrap();
+    let store = store();
+    let open = || store.news(None).unwrap().0;
+    until(|| !open().contains_key("over"));
+    assert_eq!(store.end("plain", store.find("plain").unwrap().unwrap().number, 0), Ok(true));
+    dies.store(true, SeqCst);
+    for request in [over, plain] {
+        assert!(!open().contains_key(request.name()));
+        let killed = catch_unwind(AssertUnwindSafe(|| request.promise("late").map(|_| ())));
+        assert!(killed.is_err());
+        assert!(open().contains_key(request.name()), "{} has a stage that is ready", request.name());
+    }
+}
+
+/// Whoever waits for a stage is told of it soon, also where another process closes the request right behind its last word.
+pub fn who_waits_elsewhere_is_told_of_the_last_word<S: Store + 'static>(store: impl Fn() -> S) {
+    let (gate, news, mut options) = (Arc::new(Mutex::new(())), Arc::new(AtomicU32::new(0)), Options::default());
+    options.lease = Duration::from_secs(1000);
+    options.threads = 0;
+    let its = Watched { store: store(), dies: Arc::default(), gate: Arc::clone(&gate), news: Arc::clone(&news) };
+    let asks = Service::with(its, Functions::new(), options.clone()).unwrap();
+    let mut flow = Flow::new("one");
+    let step = flow.promise("p");
+    let stage = asks.start(&flow, "r", &[]).unwrap().step(step).unwrap();
+    until(|| news.load(SeqCst) > 1);
+    let looks_away = gate.lock().unwrap();
+    let other = Service::with(store(), Functions::new(), options).unwrap();
+    assert!(other.open("r").unwrap().stage(0).unwrap().complete(&7).unwrap());
+    let store = store();
+    until(|| !store.news(None).unwrap().0.contains_key("r"));
+    drop(looks_away);
+    assert_eq!(stage.wait_timeout::<i64>(Duration::from_secs(20)), Ok(Some(7)));
+}
+
+/// Comes back once this is so.
+pub fn until(is_so: impl Fn() -> bool) {
+    let begun = Instant::now();
+    while !is_so() {
+        assert!(begun.elapsed() < Duration::from_secs(60));
+        std::thread::sleep(Duration::from_millis(5));
     }
 }
 

@@ -402,6 +402,22 @@ fn others_move_before_an_answer_comes() {
 }
 
 #[test]
+fn what_is_attached_to_a_closed_request_is_called_whoever_is_killed() {
+    let report = orders(|world| {
+        let store = world.store(Bounds::new().killed(1));
+        let functions = Functions::new().with("charge", 1, || Done::Ok(()));
+        let _worker = store.worker("worker", &functions);
+        let shop = store.process("shop", &functions);
+        let request = shop.request("order 17").unwrap();
+        request.end().unwrap();
+        shop.calls("client", move || drop(request.supply("charge", &[])));
+        world.end_is(move || store.outcomes().join(", "));
+    });
+    let gone = "order 17: charge ends: the worker that ran charge is gone, and it may have run";
+    assert_eq!(ends(&report), ["", "order 17: charge ends: null", gone]);
+}
+
+#[test]
 fn a_killed_process_does_nothing_more() {
     let report = orders(|world| {
         let (store, log, its) = (world.store(Bounds::new().killed(1)), Shared::<Vec<&str>>::default(), world.clone());
