@@ -413,15 +413,18 @@ def rows_of_languages(tools: Tools, made: Path) -> List[Row]:
 
 
 def rows_of_mutants(tools: Tools, made: Path) -> List[Row]:
-    """The rules by which sweeps/mutants changes the clients. It isn't run over them."""
+    """The rules by which sweeps/mutants/try changes the clients. It isn't run over them."""
     typed = [tools["mypy"], "--strict", "--follow-imports=silent", "--cache-dir", str(made / "mypy-mutants")]
     return [
-        Row("the mutants of the examples", ["python3", "JDK of 17 or later"], [["sweeps/mutants", "--examples"]]),
-        Row("the exceptions of mutants, read", ["python3", "JDK of 17 or later"], [["sweeps/mutants", "--read"]]),
+        Row("the mutants of the examples", ["python3", "JDK of 17 or later"], [["sweeps/mutants/try", "--examples"]]),
+        Row("the exceptions of mutants, read", ["python3", "JDK of 17 or later"], [["sweeps/mutants/try", "--read"]]),
         Row(
             "the types of what makes mutants",
             ["mypy", "python3"],
-            [["env", "MYPYPATH=sweeps:.", *typed, *its] for its in [["sweeps/mutants", "sweeps/mutating"], ["sweeps/edits/clients"]]],
+            [
+                ["env", "MYPYPATH=sweeps/mutants:.", *typed, *its]
+                for its in [["sweeps/mutants/try", "sweeps/mutants/mutating"], ["sweeps/edits/clients"]]
+            ],
         ),
     ]
 

@@ -39,7 +39,7 @@ enum { DEEPER = 200, TRIES = 100 };
 enum { KEPT = 1024, FEW = 4, LARGE_KEPT = 32, MOST_KEPT = 256 };
 /* The kinds of words; and how a stage is failed with a bad answer, where by FAIL_AS it times out. */
 enum { COMPLETE = 1, FAIL = 2, CANCEL = 3, CLAIM = 4, FINISH = 5, ATTACH = 7, FAIL_AS = 8, FAIL_BADLY = 9 };
-enum { GIVING = 1, RAISING = 2, LINKING = 3 };  /* how a stage is finished: GIVES, THROWS and LINKS of words.py */
+enum { GIVING = 1, RAISING = 2, LINKING = 3 }; /* how a stage is finished: GIVES, THROWS and LINKS of words.py */
 #define KIND(kind) ((uint64_t)(kind) << 56)
 #define WHO(who) ((uint64_t)(who) << 48)
 #define OF(stage) ((uint64_t)(stage) << 36)
@@ -48,19 +48,19 @@ enum { GIVING = 1, RAISING = 2, LINKING = 3 };  /* how a stage is finished: GIVE
 #define LINKS (3ULL << 32)
 #define BAD_ANSWER (1ULL << 32)
 
-static _Thread_local int caller;   /* which caller this thread is */
-static const uint8_t lanes[MOST];  /* each stage is of the only lane */
+static _Thread_local int caller;  /* which caller this thread is */
+static const uint8_t lanes[MOST]; /* each stage is of the only lane */
 
 /* Names that are looked for often, each by its place in a table. */
 enum { PUT, REFUSE, HAND_ON, SHOW, LOG, RELAY, LINK, CONDITION, RESULT, NAMES };
 static const char *const names[NAMES] = {
-  "put", "_refuse_ready", "_hand_on_chosen", "_show", "_log", "relay", "_link", "_new_condition", "_awaited_result"};
+    "put", "_refuse_ready", "_hand_on_chosen", "_show", "_log", "relay", "_link", "_new_condition", "_awaited_result"};
 
 /* What one interpreter has of this. */
 typedef struct {
-  PyObject *module;  /* whose state it is, borrowed */
-  cf_told *told;     /* what the last call told: MOST of them */
-  uint32_t forks;    /* how many forks lie between the first process and this one */
+  PyObject *module; /* whose state it is, borrowed */
+  cf_told *told;    /* what the last call told: MOST of them */
+  uint32_t forks;   /* how many forks lie between the first process and this one */
   PyTypeObject *stage_core;
   PyObject *names[NAMES];
 } State;
@@ -93,40 +93,42 @@ typedef struct {
  * function is the lowest ready one then. There are as many turns as ready functions, or more, and one for which none is
  * left does nothing. */
 typedef struct {
-  PyObject_HEAD
-  State *state;
+  PyObject_HEAD State *state;
   cf_handle *machine;
   Pool *pool;
-  uint32_t room, most, stages, events, event_room;  /* `room` and `event_room` are of rows and times */
-  uint32_t turns, forks;  /* forks as in a stage */
-  bool counts;   /* whether words are counted, as the machine may have done some by itself or by others' calls */
-  bool chooses;  /* whether its class chooses who has a turn */
+  uint32_t room, most, stages, events, event_room; /* `room` and `event_room` are of rows and times */
+  uint32_t turns, forks;                           /* forks as in a stage */
+  bool counts;  /* whether words are counted, as the machine may have done some by itself or by others' calls */
+  bool chooses; /* whether its class chooses who has a turn */
   Row *rows;
-  int64_t *times;  /* of each word, in nanoseconds */
+  int64_t *times; /* of each word, in nanoseconds */
   PyTypeObject *stage_class;
   PyObject *works, *names, *values, *errors;
-  PyObject *kept, *calls;  /* a capsule of the Pool, and the functions of its plan's stages */
+  PyObject *kept, *calls; /* a capsule of the Pool, and the functions of its plan's stages */
 } Request;
 
 /* A future. `given` is its value, or the exception that somebody gave, and NULL where nobody did. */
 typedef struct {
-  PyObject_HEAD
-  State *state;
+  PyObject_HEAD State *state;
   Request *request;
   uint16_t number;
-  uint8_t form, ended;  /* the kind of its outcome */
-  bool is_cancelled;    /* by a cancellation of its own */
-  bool shown;           /* to those who wait, and to callbacks */
-  bool running;         /* as in the row, or as somebody said */
-  uint32_t forks;       /* as the process had when it was made or looked at */
-  uint32_t told;        /* how many of those who wait know */
+  uint8_t form, ended; /* the kind of its outcome */
+  bool is_cancelled;   /* by a cancellation of its own */
+  bool shown;          /* to those who wait, and to callbacks */
+  bool running;        /* as in the row, or as somebody said */
+  uint32_t forks;      /* as the process had when it was made or looked at */
+  uint32_t told;       /* how many of those who wait know */
   PyObject *given, *call, *args, *kwargs, *callbacks, *condition, *waiters;
 } Stage;
 
 /* The stages that calls settled, as a list through their rows, and whether functions may have become ready. `error` is
  * the one that the stage `own` times out with by the next call, or has a bad answer with, as in its row. Those behind
  * it take that of their first source that has one. */
-typedef struct { uint16_t settled, last_settled, own; bool is_ready; uint32_t error; } News;
+typedef struct {
+  uint16_t settled, last_settled, own;
+  bool is_ready;
+  uint32_t error;
+} News;
 static const News NO_NEWS = {NONE, NONE, NONE, false, 0};
 
 /* Raises that a request has all the stages that it may have. */
@@ -144,7 +146,10 @@ static PyObject *refused(Request *self, uint32_t code) {
 /* ---- What the numbers of the library stand for ---- */
 
 static int kept(PyObject *list, PyObject *thing, uint32_t *number) {
-  if (!list) { PyErr_SetString(PyExc_RuntimeError, "the request isn't opened"); return -1; }
+  if (!list) {
+    PyErr_SetString(PyExc_RuntimeError, "the request isn't opened");
+    return -1;
+  }
   *number = (uint32_t)PyList_GET_SIZE(list);
   return PyList_Append(list, thing);
 }
@@ -163,9 +168,7 @@ static PyObject *item(PyObject *list, uint32_t number) {
   return found;
 }
 
-static PyObject *value_out(Request *self, cf_value value) {
-  return item(self->values, value.kind ? (uint32_t)value.number : UINT32_MAX);
-}
+static PyObject *value_out(Request *self, cf_value value) { return item(self->values, value.kind ? (uint32_t)value.number : UINT32_MAX); }
 
 /* The exception that somebody gave for an outcome, with what its stage's row says of one; None where nobody did. */
 static PyObject *error_out(Request *self, cf_outcome outcome, uint32_t error) {
@@ -193,7 +196,10 @@ static void stamp(Request *self, size_t words) {
     uint32_t room = self->event_room ? 2 * self->event_room : self->room < 64 ? 3 * self->room + 1 : 192;
     if (room < least) room = least;
     int64_t *times = PyMem_Realloc(self->times, room * sizeof *times);
-    if (!times) { self->counts = true; return; }
+    if (!times) {
+      self->counts = true;
+      return;
+    }
     self->times = times;
     self->event_room = room;
   }
@@ -286,7 +292,7 @@ static Stage *stage_at(Request *self, uint16_t i) {
     Stage *stage = new_stage(self, i);
     if (!stage) return NULL;
     stage->form = self->rows[i].form;
-    stage->shown = self->rows[i].told.kind != 0;  /* (all was told then) */
+    stage->shown = self->rows[i].told.kind != 0; /* (all was told then) */
     if (stage->shown) {
       publish(self, stage, &self->rows[i]);
       return stage;
@@ -295,7 +301,7 @@ static Stage *stage_at(Request *self, uint16_t i) {
       stage->running = self->rows[i].running;
       stage->call = planned(self, i);
       Py_XINCREF(stage->call);
-      self->rows[i].stage = (PyObject *)stage;  /* (whose count is the row's) */
+      self->rows[i].stage = (PyObject *)stage; /* (whose count is the row's) */
     } else Py_DECREF(stage);
   }
   Py_INCREF(self->rows[i].stage);
@@ -309,7 +315,8 @@ static void be_here(Stage *self) {
   self->forks = self->state->forks;
   self->condition = self->waiters = NULL;
   self->shown |= self->ended != 0;
-  Py_XDECREF(condition); Py_XDECREF(waiters);
+  Py_XDECREF(condition);
+  Py_XDECREF(waiters);
 }
 
 /* ---- Telling ---- */
@@ -320,13 +327,15 @@ static PyObject *caught(void) {
   PyErr_Fetch(&type, &error, &trace);
   PyErr_NormalizeException(&type, &error, &trace);
   if (trace) PyException_SetTraceback(error, trace);
-  Py_XDECREF(type); Py_XDECREF(trace);
+  Py_XDECREF(type);
+  Py_XDECREF(trace);
   return error;
 }
 
 /* Keeps the first exception that is raised, that the rest be done. */
 static void keep(PyObject **first) {
-  if (*first) PyErr_Clear(); else *first = caught();
+  if (*first) PyErr_Clear();
+  else *first = caught();
 }
 
 static int raise_kept(PyObject *first) {
@@ -342,7 +351,8 @@ static int raise_kept(PyObject *first) {
 static PyObject *ask(PyObject *of, PyObject *method, PyObject *given, PyObject **first) {
   PyObject *told = PyObject_CallMethodObjArgs(of, method, given, NULL);
   if (told) return told;
-  if (PyErr_ExceptionMatches(PyExc_RecursionError)) PyErr_Clear(); else keep(first);
+  if (PyErr_ExceptionMatches(PyExc_RecursionError)) PyErr_Clear();
+  else keep(first);
   Py_SetRecursionLimit(Py_GetRecursionLimit() + DEEPER);
   told = PyObject_CallMethodObjArgs(of, method, given, NULL);
   Py_SetRecursionLimit(Py_GetRecursionLimit() - DEEPER);
@@ -364,8 +374,7 @@ static void let(PyObject *of, PyObject *method, PyObject **first) {
 /* Lets those see a stage who wait for it by its condition. */
 static void show(Stage *stage, PyObject **first) {
   be_here(stage);
-  for (int tries = 0; stage->condition && !stage->shown && tries < TRIES; tries++)
-    let((PyObject *)stage, stage->state->names[SHOW], first);
+  for (int tries = 0; stage->condition && !stage->shown && tries < TRIES; tries++) let((PyObject *)stage, stage->state->names[SHOW], first);
   stage->shown = true;
 }
 
@@ -386,19 +395,21 @@ static void let_go(Stage *stage, PyObject **first) {
   stage->callbacks = NULL;
   for (Py_ssize_t k = 0; callbacks && k < PyList_GET_SIZE(callbacks); k++) {
     PyObject *call = PyList_GET_ITEM(callbacks, k);
-    Py_INCREF(call);  /* (it may take itself out of the list) */
+    Py_INCREF(call); /* (it may take itself out of the list) */
     call_back(stage, call, first);
     Py_DECREF(call);
   }
   Py_XDECREF(callbacks);
-  Py_CLEAR(stage->call); Py_CLEAR(stage->args); Py_CLEAR(stage->kwargs);
+  Py_CLEAR(stage->call);
+  Py_CLEAR(stage->args);
+  Py_CLEAR(stage->kwargs);
 }
 
 /* Gives somebody a turn, and says whether it is taken, or -1 and an error. An interrupt that comes meanwhile is raised
  * once it is: a turn too many does nothing, and one too few leaves a function behind. */
 static int put(Request *self, PyObject **first) {
   PyObject *is_taken = NULL;
-  for (int tries = 0; !is_taken && tries < TRIES; tries++) {  /* (several interrupts may come while a thread starts) */
+  for (int tries = 0; !is_taken && tries < TRIES; tries++) { /* (several interrupts may come while a thread starts) */
     if (tries) keep(first);
     is_taken = ask(self->works, self->state->names[PUT], (PyObject *)self, first);
   }
@@ -408,14 +419,14 @@ static int put(Request *self, PyObject **first) {
 /* Gives a turn for each function that is ready and has none. If nobody takes it, those that are ready fail. */
 static void hand_on(Request *self, PyObject **first) {
   int taken = 1;
-  while (taken > 0 && self->works && ready(self) > self->turns) {  /* (a request that is collected has nobody) */
+  while (taken > 0 && self->works && ready(self) > self->turns) { /* (a request that is collected has nobody) */
     self->turns++;
     taken = put(self, first);
   }
   if (!taken) let((PyObject *)self, self->state->names[REFUSE], first);
   if (taken >= 0) return;
   keep(first);
-  if (self->turns) self->turns--;  /* the next call gives this turn */
+  if (self->turns) self->turns--; /* the next call gives this turn */
 }
 
 /* Tells what came of calls: first those who wait, then the threads, then the callbacks. */
@@ -424,20 +435,24 @@ static int tell(Request *self, News news) {
   PyObject *first = NULL;
   uint16_t shown = NONE, next;
   Py_INCREF(self);
-  for (bool is_ready = news.is_ready;; ) {
+  for (bool is_ready = news.is_ready;;) {
     if ((next = shown == NONE ? news.settled : self->rows[shown].next_settled) != NONE) {
       shown = next;
       if (self->rows[next].stage) show((Stage *)self->rows[next].stage, &first);
     } else if (is_ready) {
       is_ready = false;
-      if (self->chooses) let((PyObject *)self, self->state->names[HAND_ON], &first); else hand_on(self, &first);
-      if (self->counts) take_told(self, &news);  /* of what nobody took a turn for */
+      if (self->chooses) let((PyObject *)self, self->state->names[HAND_ON], &first);
+      else hand_on(self, &first);
+      if (self->counts) take_told(self, &news); /* of what nobody took a turn for */
     } else break;
   }
   for (uint16_t i = news.settled; i != NONE; i = self->rows[i].next_settled) {
     Stage *stage = (Stage *)self->rows[i].stage;
     self->rows[i].stage = NULL;
-    if (stage) { let_go(stage, &first); Py_DECREF(stage); }
+    if (stage) {
+      let_go(stage, &first);
+      Py_DECREF(stage);
+    }
   }
   Py_DECREF(self);
   return raise_kept(first);
@@ -488,16 +503,20 @@ static uint32_t open_machine(Request *self, uint16_t room) {
   cf_request_sizes sizes = {room, 1, OWN};
   cf_handle *made = PyMem_Calloc(1, sizeof *made);
   uint32_t code = made ? cf_request_new(pool->plan, &sizes, lanes, pool->stages, made) : CF_NO_MEMORY;
-  if (code) PyMem_Free(made); else self->machine = made;
+  if (code) PyMem_Free(made);
+  else self->machine = made;
   return code;
 }
 
 static void close_machine(Request *self) {
   Pool *pool = self->pool;
-  bool is_kept = self->machine && pool->many < (self->stages <= FEW ? KEPT : LARGE_KEPT) &&
-                 self->stages <= MOST_KEPT && self->events <= 4 * MOST_KEPT && !cf_request_restart(self->machine);
+  bool is_kept = self->machine && pool->many < (self->stages <= FEW ? KEPT : LARGE_KEPT) && self->stages <= MOST_KEPT &&
+                 self->events <= 4 * MOST_KEPT && !cf_request_restart(self->machine);
   if (is_kept) pool->machines[pool->many++] = self->machine;
-  else if (self->machine) { cf_free(self->machine); PyMem_Free(self->machine); }
+  else if (self->machine) {
+    cf_free(self->machine);
+    PyMem_Free(self->machine);
+  }
   self->machine = NULL;
 }
 
@@ -505,40 +524,52 @@ static void close_machine(Request *self) {
 static int Request_init(Request *self, PyObject *args, PyObject *Py_UNUSED(kwargs)) {
   PyObject *works, *stage_class, *capsule, *calls, *names;
   unsigned int room;
-  if (!PyArg_ParseTuple(args, "OO!IOO!O!", &works, &PyType_Type, &stage_class, &room, &capsule, &PyTuple_Type, &calls,
-                        &PyList_Type, &names)) return -1;
+  if (!PyArg_ParseTuple(
+          args, "OO!IOO!O!", &works, &PyType_Type, &stage_class, &room, &capsule, &PyTuple_Type, &calls, &PyList_Type, &names))
+    return -1;
   Pool *pool = PyCapsule_GetPointer(capsule, POOL);
   if (!pool) return -1;
   uint32_t stages = pool->stages, most = pool->most;
-  const char *wrong = self->kept ? "a request is opened once" :
-                      PyTuple_GET_SIZE(calls) != stages || PyList_GET_SIZE(names) != stages ? "no plan" :
-                      !PyType_IsSubtype((PyTypeObject *)stage_class, self->state->stage_core) ? "no class of stages" :
-                      NULL;
-  if (wrong) { PyErr_SetString(PyExc_TypeError, wrong); return -1; }
+  const char *wrong = self->kept                                                                ? "a request is opened once"
+                      : PyTuple_GET_SIZE(calls) != stages || PyList_GET_SIZE(names) != stages   ? "no plan"
+                      : !PyType_IsSubtype((PyTypeObject *)stage_class, self->state->stage_core) ? "no class of stages"
+                                                                                                : NULL;
+  if (wrong) {
+    PyErr_SetString(PyExc_TypeError, wrong);
+    return -1;
+  }
   if (!stages && !room) room = 1;
   if (room > most - stages) room = most - stages;
   PyObject *values = PyList_New(0), *errors = PyList_New(0);
-  Row *rows = PyMem_Calloc(stages + room + 1, sizeof *rows);  /* (none would be no memory) */
+  Row *rows = PyMem_Calloc(stages + room + 1, sizeof *rows); /* (none would be no memory) */
   self->pool = pool;
   uint32_t code = values && errors && rows ? open_machine(self, (uint16_t)room) : CF_NO_MEMORY;
   if (code) {
-    Py_XDECREF(values); Py_XDECREF(errors);
+    Py_XDECREF(values);
+    Py_XDECREF(errors);
     PyMem_Free(rows);
     refused(self, code);
     return -1;
   }
-  for (uint32_t i = 0; i < stages; i++)
-    rows[i] = (Row){.many = PLANNED, .form = (uint8_t)pool->numbers[stages + i]};
-  self->values = values; self->errors = errors;
-  self->room = stages + room; self->most = most; self->stages = stages;
+  for (uint32_t i = 0; i < stages; i++) rows[i] = (Row){.many = PLANNED, .form = (uint8_t)pool->numbers[stages + i]};
+  self->values = values;
+  self->errors = errors;
+  self->room = stages + room;
+  self->most = most;
+  self->stages = stages;
   self->rows = rows;
-  Py_INCREF(stage_class); self->stage_class = (PyTypeObject *)stage_class;
-  Py_INCREF(names); self->names = names;
-  Py_INCREF(works); self->works = works;
-  Py_INCREF(calls); self->calls = calls;
-  Py_INCREF(capsule); self->kept = capsule;
+  Py_INCREF(stage_class);
+  self->stage_class = (PyTypeObject *)stage_class;
+  Py_INCREF(names);
+  self->names = names;
+  Py_INCREF(works);
+  self->works = works;
+  Py_INCREF(calls);
+  self->calls = calls;
+  Py_INCREF(capsule);
+  self->kept = capsule;
   News news = NO_NEWS;
-  take_told(self, &news);  /* what is settled from the start, of which nobody has a future yet */
+  take_told(self, &news); /* what is settled from the start, of which nobody has a future yet */
   return 0;
 }
 
@@ -546,15 +577,19 @@ static int Request_traverse(Request *self, visitproc visit, void *arg) {
   Py_VISIT(Py_TYPE(self));
   Py_VISIT(self->state->module);
   for (uint32_t i = 0; i < self->stages; i++) Py_VISIT(self->rows[i].stage);
-  Py_VISIT(self->works); Py_VISIT(self->calls); Py_VISIT(self->stage_class);
-  Py_VISIT(self->names); Py_VISIT(self->values); Py_VISIT(self->errors);
+  Py_VISIT(self->works);
+  Py_VISIT(self->calls);
+  Py_VISIT(self->stage_class);
+  Py_VISIT(self->names);
+  Py_VISIT(self->values);
+  Py_VISIT(self->errors);
   return 0;
 }
 
 static int Request_clear(Request *self) {
   for (uint32_t i = 0; i < self->stages; i++) Py_CLEAR(self->rows[i].stage);
   Py_CLEAR(self->works);
-  return 0;  /* (what a stage tells is read from the rest) */
+  return 0; /* (what a stage tells is read from the rest) */
 }
 
 static void Request_dealloc(Request *self) {
@@ -562,10 +597,15 @@ static void Request_dealloc(Request *self) {
   State *state = self->state;
   PyObject_GC_UnTrack(self);
   Request_clear(self);
-  Py_CLEAR(self->names); Py_CLEAR(self->values); Py_CLEAR(self->errors); Py_CLEAR(self->stage_class);
+  Py_CLEAR(self->names);
+  Py_CLEAR(self->values);
+  Py_CLEAR(self->errors);
+  Py_CLEAR(self->stage_class);
   close_machine(self);
-  Py_CLEAR(self->calls); Py_CLEAR(self->kept);
-  PyMem_Free(self->rows); PyMem_Free(self->times);
+  Py_CLEAR(self->calls);
+  Py_CLEAR(self->kept);
+  PyMem_Free(self->rows);
+  PyMem_Free(self->times);
   type->tp_free((PyObject *)self);
   Py_DECREF(state->module);
   Py_DECREF(type);
@@ -573,11 +613,17 @@ static void Request_dealloc(Request *self) {
 
 /* Rows for so many stages more; those of a request that isn't opened are refused. */
 static int rows_for(Request *self, uint32_t more) {
-  if (self->stages + more > self->most) { full(self); return -1; }
+  if (self->stages + more > self->most) {
+    full(self);
+    return -1;
+  }
   if (self->stages + more <= self->room) return 0;
   uint32_t room = 2 * self->room > self->stages + more ? 2 * self->room : self->stages + more;
   Row *rows = PyMem_Realloc(self->rows, room * sizeof *rows);
-  if (!rows) { PyErr_NoMemory(); return -1; }
+  if (!rows) {
+    PyErr_NoMemory();
+    return -1;
+  }
   self->rows = rows;
   self->room = room;
   return 0;
@@ -621,16 +667,14 @@ static int stage_in(Request *self, PyObject *stage) {
 /* Attaches the stages of such an `attach`, all or none, with room for them. How many are told. */
 static uint32_t attach_all(Request *self, long form, const uint16_t *of, size_t n, uint16_t function, size_t *told) {
   cf_request_gathering gathering = {.who = (uint8_t)caller, .form = (uint32_t)form};
-  cf_request_composing composing = {
-    .who = (uint8_t)caller, .form = (uint32_t)form, .source = of[0], .function = function};
+  cf_request_composing composing = {.who = (uint8_t)caller, .form = (uint32_t)form, .source = of[0], .function = function};
   cf_applied applied = {.told = 0};
-  uint64_t word = KIND(ATTACH) | WHO(caller) | OF(of[0]) | (uint64_t)n << 32 | (uint64_t)form << 24 |
-                  (uint64_t)of[1] << 12 | function;
+  uint64_t word = KIND(ATTACH) | WHO(caller) | OF(of[0]) | (uint64_t)n << 32 | (uint64_t)form << 24 | (uint64_t)of[1] << 12 | function;
   uint32_t code;
   do
-    code = gathers(form) ? cf_request_gather(self->machine, &gathering, of, n, self->state->told, MOST) :
-           composes(form) ? cf_request_compose(self->machine, &composing, self->state->told, MOST) :
-                            cf_request_apply(self->machine, word, 0, &applied, self->state->told, MOST);
+    code = gathers(form)    ? cf_request_gather(self->machine, &gathering, of, n, self->state->told, MOST)
+           : composes(form) ? cf_request_compose(self->machine, &composing, self->state->told, MOST)
+                            : cf_request_apply(self->machine, word, 0, &applied, self->state->told, MOST);
   while (code == CF_NO_ROOM && !(code = cf_request_grow(self->machine)));
   *told = gathering.told + composing.told + applied.told;
   return code;
@@ -645,23 +689,33 @@ static PyObject *attach(Request *self, long form, const uint16_t *of, size_t n, 
   if (!stage) return NULL;
   PyObject **places[] = {&stage->call, &stage->args, &stage->kwargs};
   for (int k = 0; call && k < 3; k++)
-    if (call[k] != Py_None) { Py_INCREF(call[k]); *places[k] = call[k]; }
-  if (leave_to_parent(self) || rows_for(self, many)) { Py_DECREF(stage); return NULL; }
+    if (call[k] != Py_None) {
+      Py_INCREF(call[k]);
+      *places[k] = call[k];
+    }
+  if (leave_to_parent(self) || rows_for(self, many)) {
+    Py_DECREF(stage);
+    return NULL;
+  }
   /* From here on in one step. */
   uint32_t at = self->stages, last = at + many - 1;
   size_t told = 0;
   uint32_t code = name_all(self, relays, self->state->names[RELAY]);
   if (!code) code = name_all(self, many - relays, name);
   if (!code) code = attach_all(self, form, of, n, stage->call ? (uint16_t)last : 0, &told);
-  if (code) { name_all(self, 0, NULL); Py_DECREF(stage); return refused(self, code); }
+  if (code) {
+    name_all(self, 0, NULL);
+    Py_DECREF(stage);
+    return refused(self, code);
+  }
   for (uint32_t k = relays; k < many; k++)
-    self->rows[at + k] = (Row){.form = (uint8_t)form, .many = n < 2 ? (uint8_t)n : 2,
-                               .of = {k > relays ? (uint16_t)(at + k - 1) : of[0], of[k - relays + 1]}};
+    self->rows[at + k] = (Row){
+        .form = (uint8_t)form, .many = n < 2 ? (uint8_t)n : 2, .of = {k > relays ? (uint16_t)(at + k - 1) : of[0], of[k - relays + 1]}};
   if (relays) self->rows[at] = (Row){.form = CF_SOURCE};
   self->stages += many;
   stage->number = (uint16_t)last;
   stage->form = (uint8_t)form;
-  self->rows[last].stage = (PyObject *)stage;  /* (which has a count, beside the caller's) */
+  self->rows[last].stage = (PyObject *)stage; /* (which has a count, beside the caller's) */
   Py_INCREF(stage);
   News news = NO_NEWS;
   note(self, many, told, &news);
@@ -675,8 +729,7 @@ static PyObject *Request_attach(Request *self, PyObject *const *args, Py_ssize_t
   if (n != 7) return PyErr_Format(PyExc_TypeError, "_attach takes 7");
   long form = number_below(args[0], CF_EXCEPTIONALLY_COMPOSE + 1, "form");
   if (form < 0) return NULL;
-  if ((args[4] != Py_None && !PyTuple_Check(args[4])) || (args[5] != Py_None && !PyDict_Check(args[5])) ||
-      !PyUnicode_Check(args[6]))
+  if ((args[4] != Py_None && !PyTuple_Check(args[4])) || (args[5] != Py_None && !PyDict_Check(args[5])) || !PyUnicode_Check(args[6]))
     return PyErr_Format(PyExc_TypeError, "arguments are a tuple and a dict, and a name is a str");
   uint16_t of[2] = {0, 0};
   size_t many = 0;
@@ -691,8 +744,7 @@ static PyObject *Request_attach(Request *self, PyObject *const *args, Py_ssize_t
 
 /* _attach_all(form, numbers, name): a stage more, behind all stages of these numbers, or behind the first of them. */
 static PyObject *Request_attach_all(Request *self, PyObject *const *args, Py_ssize_t n) {
-  if (n != 3 || !PyBytes_Check(args[1]) || !PyUnicode_Check(args[2]))
-    return PyErr_Format(PyExc_TypeError, "_attach_all takes 3");
+  if (n != 3 || !PyBytes_Check(args[1]) || !PyUnicode_Check(args[2])) return PyErr_Format(PyExc_TypeError, "_attach_all takes 3");
   long form = number_below(args[0], CF_ANY_OF + 1, "form");
   size_t many = (size_t)PyBytes_GET_SIZE(args[1]) / sizeof(uint16_t);
   const uint16_t *of = (const uint16_t *)PyBytes_AS_STRING(args[1]), few[2] = {many ? of[0] : 0, 0};
@@ -716,12 +768,18 @@ static PyObject *Request_change(Request *self, PyObject *const *args, Py_ssize_t
   if (who < 0 || (kind == COMPLETE && value_in(self, args[3], &low))) return NULL;
   if (kind == FAIL || kind >= FAIL_AS) {
     if (kept(self->errors, args[3], &number)) return NULL;
-    if (kind == FAIL) low = number; else { news.error = number + 1; news.own = (uint16_t)stage; }
-    if (kind == FAIL_BADLY) { kind = FAIL_AS; low = BAD_ANSWER; }
+    if (kind == FAIL) low = number;
+    else {
+      news.error = number + 1;
+      news.own = (uint16_t)stage;
+    }
+    if (kind == FAIL_BADLY) {
+      kind = FAIL_AS;
+      low = BAD_ANSWER;
+    }
   }
   const Row *row = &self->rows[stage];
-  if (kind == CANCEL && args[3] == Py_True && row->stage && ((Stage *)row->stage)->running && !row->told.kind)
-    Py_RETURN_FALSE;
+  if (kind == CANCEL && args[3] == Py_True && row->stage && ((Stage *)row->stage)->running && !row->told.kind) Py_RETURN_FALSE;
   uint32_t code = apply(self, KIND(kind) | WHO(who) | OF(stage) | low, &reply, &news);
   if (code) return refused(self, code);
   if (tell(self, news)) return NULL;
@@ -738,7 +796,10 @@ static PyObject *Request_takes(Request *self, PyObject *const *args, Py_ssize_t 
   if (other >= (long)self->stages || code >= PyList_GET_SIZE(self->errors))
     return PyErr_Format(PyExc_IndexError, "no such stage or exception");
   Row *row = &self->rows[stage];
-  if (other >= 0) { row->many = 1; row->of[0] = (uint16_t)other; }
+  if (other >= 0) {
+    row->many = 1;
+    row->of[0] = (uint16_t)other;
+  }
   if (code >= 0 && !row->told.kind) row->error = (uint32_t)code + 1;
   self->counts = true;
   Py_RETURN_NONE;
@@ -761,9 +822,15 @@ static PyObject *error_told(Request *self, uint16_t i, cf_outcome got) {
 }
 
 /* What a granted claim lets be called. */
-typedef struct { PyObject *call, *args, *kwargs; } Called;
+typedef struct {
+  PyObject *call, *args, *kwargs;
+} Called;
 
-static void called_clear(Called *it) { Py_CLEAR(it->call); Py_CLEAR(it->args); Py_CLEAR(it->kwargs); }
+static void called_clear(Called *it) {
+  Py_CLEAR(it->call);
+  Py_CLEAR(it->args);
+  Py_CLEAR(it->kwargs);
+}
 
 /* What a stage that is claimed lets be called, with its own arguments or with what it waited for; nothing and an error
  * where that can't be told. */
@@ -774,14 +841,17 @@ static Called to_call(Request *self, uint16_t i, const cf_args *args) {
   PyObject *given[2] = {NULL, NULL};
   Py_ssize_t many = 0;
   Called it = {stage ? stage->call : planned(self, i), stage ? stage->args : NULL, stage ? stage->kwargs : NULL};
-  Py_XINCREF(it.call); Py_XINCREF(it.args); Py_XINCREF(it.kwargs);
+  Py_XINCREF(it.call);
+  Py_XINCREF(it.args);
+  Py_XINCREF(it.kwargs);
   if (args->kind == CF_ONE || args->kind == CF_TWO) given[many++] = value_out(self, args->first);
   if (args->kind == CF_TWO) given[many++] = value_out(self, args->second);
   if (args->kind == CF_GOT && form != CF_EXCEPTIONALLY && form != CF_EXCEPTIONALLY_COMPOSE)
     given[many++] = value_out(self, got.kind == CF_VALUE ? got.value : (cf_value){0});
   if (args->kind == CF_GOT) given[many++] = error_told(self, i, got);
   if (!it.args && (!many || given[many - 1])) it.args = PyTuple_Pack(many, given[0], given[1]);
-  Py_XDECREF(given[0]); Py_XDECREF(given[1]);
+  Py_XDECREF(given[0]);
+  Py_XDECREF(given[1]);
   if (!it.call) PyErr_SetString(PyExc_RuntimeError, "the request is collected");
   if (!it.call || !it.args) called_clear(&it);
   return it;
@@ -797,10 +867,13 @@ static int begin(Request *self, Stage *wanted, int who, uint16_t *i, Called *it)
   if (leave_to_parent(self)) return -1;
   self->turns -= self->turns > 0;
   if (wanted) code = apply(self, KIND(CLAIM) | WHO(who) | OF(wanted->number), &reply, &news);
-  else  /* (it settles nothing, and what a limit has settled is left for the clock's thread to tell) */
+  else /* (it settles nothing, and what a limit has settled is left for the clock's thread to tell) */
     code = cf_request_next(self->machine, &step, &task, self->state->told, 0);
   if (code == CF_NOTHING || (!code && wanted && reply.answer != CF_GRANTED)) return 0;
-  if (code) { refused(self, code); return -1; }
+  if (code) {
+    refused(self, code);
+    return -1;
+  }
   if (!wanted) note(self, 1, 0, &news);
   *i = wanted ? wanted->number : task.stage;
   self->rows[*i].running = true;
@@ -825,14 +898,20 @@ static int end(Request *self, uint16_t i, int who, long kind, PyObject *given, i
   }
   if (kind == LINKING) {
     Row *row = &self->rows[i];
-    row->many = 1;  /* it takes that one's exception */
+    row->many = 1; /* it takes that one's exception */
     row->of[0] = ((Stage *)given)->number;
     low = LINKS | row->of[0];
   }
   uint32_t code = apply(self, KIND(FINISH) | WHO(who) | OF(i) | low, &reply, &news);
-  if (code) { refused(self, code); return -1; }
-  if (news.is_ready && (*turn = take_turn(self)) < 0) { keep(&first); *turn = 0; }
-  news.is_ready &= *turn || self->chooses;  /* none is left to others where none was for the caller */
+  if (code) {
+    refused(self, code);
+    return -1;
+  }
+  if (news.is_ready && (*turn = take_turn(self)) < 0) {
+    keep(&first);
+    *turn = 0;
+  }
+  news.is_ready &= *turn || self->chooses; /* none is left to others where none was for the caller */
   if (tell(self, news)) keep(&first);
   return raise_kept(first);
 }
@@ -842,10 +921,12 @@ static int end(Request *self, uint16_t i, int who, long kind, PyObject *given, i
 static int answer(Request *self, uint16_t i, int who, PyObject *given, int *turn) {
   if (given && composes(self->rows[i].form)) {
     Stage *stage = stage_at(self, i);
-    PyObject *number = stage ? PyLong_FromLong(who) : NULL, *goes_on =
-      number ? PyObject_CallMethodObjArgs((PyObject *)self, self->state->names[LINK], stage, number, given, NULL) : NULL;
+    PyObject *number = stage ? PyLong_FromLong(who) : NULL,
+             *goes_on = number ? PyObject_CallMethodObjArgs((PyObject *)self, self->state->names[LINK], stage, number, given, NULL) : NULL;
     *turn = goes_on == Py_True;
-    Py_XDECREF(stage); Py_XDECREF(number); Py_XDECREF(goes_on);
+    Py_XDECREF(stage);
+    Py_XDECREF(number);
+    Py_XDECREF(goes_on);
     return goes_on ? 0 : -1;
   }
   PyObject *error = given ? NULL : caught();
@@ -907,7 +988,7 @@ static PyObject *Request_end(Request *self, PyObject *const *args, Py_ssize_t n)
   long kind = who < 0 ? -1 : number_below(args[2], LINKING + 1, "way to end");
   if (kind < 0 || (kind == LINKING && !is_own(self, args[3]))) return NULL;
   if (!end(self, ((Stage *)args[0])->number, who, kind, args[3], &turn)) return PyBool_FromLong(turn);
-  if (turn) {  /* nobody else will */
+  if (turn) { /* nobody else will */
     PyObject *first = caught();
     if (put(self, &first) < 0) keep(&first);
     raise_kept(first);
@@ -940,56 +1021,50 @@ static PyObject *Request_at(Request *self, void *Py_UNUSED(which)) {
   return leave_to_parent(self) ? NULL : PyLong_FromVoidPtr(self->machine);
 }
 
-#define FAST(function) (PyCFunction)(void (*)(void))function
-static PyMethodDef request_methods[] = {
-  {"_attach", FAST(Request_attach), METH_FASTCALL, "Attaches a stage."},
-  {"_attach_all", FAST(Request_attach_all), METH_FASTCALL, "Attaches stages that wait for all of some, or for one."},
-  {"_change", FAST(Request_change), METH_FASTCALL, "Completes, fails or cancels a stage."},
-  {"_takes", FAST(Request_takes), METH_FASTCALL, "Lets a stage have another one's exception, or this one."},
-  {"_code", (PyCFunction)Request_code, METH_O, "The number of an exception."},
-  {"_keep", (PyCFunction)Request_keep, METH_O, "The number of a value."},
-  {"_run", (PyCFunction)Request_run, METH_O, "Uses a turn."},
-  {"_work", (PyCFunction)Request_work, METH_O, "Runs all that is ready."},
-  {"_begin", FAST(Request_begin), METH_FASTCALL, "Claims a stage."},
-  {"_end", FAST(Request_end), METH_FASTCALL, "Finishes a stage."},
-  {"_take_told", (PyCFunction)Request_take_told, METH_NOARGS, "Tells what is left to be told."},
-  {"_stage", (PyCFunction)Request_stage, METH_O, "The future of a stage."},
-  {NULL}};
-static PyMemberDef request_members[] = {
-  {"_works", T_OBJECT, offsetof(Request, works), READONLY, NULL},
-  {"_names", T_OBJECT, offsetof(Request, names), READONLY, NULL},
-  {"_values", T_OBJECT, offsetof(Request, values), READONLY, NULL},
-  {"_errors", T_OBJECT, offsetof(Request, errors), READONLY, NULL},
-  {"_stages", T_UINT, offsetof(Request, stages), READONLY, NULL},
-  {"_events", T_UINT, offsetof(Request, events), READONLY, NULL},
-  {"_most", T_UINT, offsetof(Request, most), READONLY, NULL},
-  {"_turns", T_UINT, offsetof(Request, turns), 0, NULL},
-  {"_counts", T_BOOL, offsetof(Request, counts), 0, NULL},
-  {"_chooses", T_BOOL, offsetof(Request, chooses), 0, NULL},
-  {NULL}};
+#define FAST(function) (PyCFunction)(void (*)(void)) function
+static PyMethodDef request_methods[] = {{"_attach", FAST(Request_attach), METH_FASTCALL, "Attaches a stage."},
+    {"_attach_all", FAST(Request_attach_all), METH_FASTCALL, "Attaches stages that wait for all of some, or for one."},
+    {"_change", FAST(Request_change), METH_FASTCALL, "Completes, fails or cancels a stage."},
+    {"_takes", FAST(Request_takes), METH_FASTCALL, "Lets a stage have another one's exception, or this one."},
+    {"_code", (PyCFunction)Request_code, METH_O, "The number of an exception."},
+    {"_keep", (PyCFunction)Request_keep, METH_O, "The number of a value."}, {"_run", (PyCFunction)Request_run, METH_O, "Uses a turn."},
+    {"_work", (PyCFunction)Request_work, METH_O, "Runs all that is ready."},
+    {"_begin", FAST(Request_begin), METH_FASTCALL, "Claims a stage."}, {"_end", FAST(Request_end), METH_FASTCALL, "Finishes a stage."},
+    {"_take_told", (PyCFunction)Request_take_told, METH_NOARGS, "Tells what is left to be told."},
+    {"_stage", (PyCFunction)Request_stage, METH_O, "The future of a stage."}, {NULL}};
+static PyMemberDef request_members[] = {{"_works", T_OBJECT, offsetof(Request, works), READONLY, NULL},
+    {"_names", T_OBJECT, offsetof(Request, names), READONLY, NULL}, {"_values", T_OBJECT, offsetof(Request, values), READONLY, NULL},
+    {"_errors", T_OBJECT, offsetof(Request, errors), READONLY, NULL}, {"_stages", T_UINT, offsetof(Request, stages), READONLY, NULL},
+    {"_events", T_UINT, offsetof(Request, events), READONLY, NULL}, {"_most", T_UINT, offsetof(Request, most), READONLY, NULL},
+    {"_turns", T_UINT, offsetof(Request, turns), 0, NULL}, {"_counts", T_BOOL, offsetof(Request, counts), 0, NULL},
+    {"_chooses", T_BOOL, offsetof(Request, chooses), 0, NULL}, {NULL}};
 static PyGetSetDef request_getters[] = {
-  {"_at", (getter)Request_at, NULL, NULL, NULL},
-  {"_times", (getter)Request_times, NULL, NULL, NULL},
-  {NULL}};
+    {"_at", (getter)Request_at, NULL, NULL, NULL}, {"_times", (getter)Request_times, NULL, NULL, NULL}, {NULL}};
 #ifdef Py_TPFLAGS_IMMUTABLETYPE
 enum { FIXED = Py_TPFLAGS_IMMUTABLETYPE, NOT_CALLED = Py_TPFLAGS_DISALLOW_INSTANTIATION };
 #else
 enum { FIXED = 0, NOT_CALLED = 0 };
 #endif
-static PyType_Slot request_slots[] = {
-  {Py_tp_new, Request_new}, {Py_tp_init, Request_init}, {Py_tp_traverse, Request_traverse},
-  {Py_tp_clear, Request_clear}, {Py_tp_dealloc, Request_dealloc}, {Py_tp_methods, request_methods},
-  {Py_tp_members, request_members}, {Py_tp_getset, request_getters}, {0, NULL}};
-static PyType_Spec request_spec = {
-  .name = "cf._cf.RequestCore", .basicsize = sizeof(Request), .slots = request_slots,
-  .flags = Py_TPFLAGS_DEFAULT | Py_TPFLAGS_BASETYPE | Py_TPFLAGS_HAVE_GC | FIXED};
+static PyType_Slot request_slots[] = {{Py_tp_new, Request_new}, {Py_tp_init, Request_init}, {Py_tp_traverse, Request_traverse},
+    {Py_tp_clear, Request_clear}, {Py_tp_dealloc, Request_dealloc}, {Py_tp_methods, request_methods}, {Py_tp_members, request_members},
+    {Py_tp_getset, request_getters}, {0, NULL}};
+static PyType_Spec request_spec = {.name = "cf._cf.RequestCore",
+    .basicsize = sizeof(Request),
+    .slots = request_slots,
+    .flags = Py_TPFLAGS_DEFAULT | Py_TPFLAGS_BASETYPE | Py_TPFLAGS_HAVE_GC | FIXED};
 
 /* ---- Futures ---- */
 
-#define OF_STAGE(DO) \
-  do { \
-    DO(self->request); DO(self->given); DO(self->call); DO(self->args); DO(self->kwargs); \
-    DO(self->callbacks); DO(self->condition); DO(self->waiters); \
+#define OF_STAGE(DO)                                                                                                                       \
+  do {                                                                                                                                     \
+    DO(self->request);                                                                                                                     \
+    DO(self->given);                                                                                                                       \
+    DO(self->call);                                                                                                                        \
+    DO(self->args);                                                                                                                        \
+    DO(self->kwargs);                                                                                                                      \
+    DO(self->callbacks);                                                                                                                   \
+    DO(self->condition);                                                                                                                   \
+    DO(self->waiters);                                                                                                                     \
   } while (0)
 
 static int Stage_traverse(Stage *self, visitproc visit, void *arg) {
@@ -1038,7 +1113,10 @@ static PyObject *Stage_add_done_callback(Stage *self, PyObject *call) {
   if (PyErr_Occurred()) return NULL;
   if (self->shown) call_back(self, call, &first);
   else {
-    if (!self->callbacks) { self->callbacks = made; made = NULL; }  /* (what is collected meanwhile may have made one) */
+    if (!self->callbacks) {
+      self->callbacks = made;
+      made = NULL;
+    } /* (what is collected meanwhile may have made one) */
     if (PyList_Append(self->callbacks, call)) keep(&first);
   }
   Py_XDECREF(made);
@@ -1051,43 +1129,33 @@ static PyObject *Stage_waited(Stage *self, void *is_condition) {
   be_here(self);
   PyObject **place = is_condition ? &self->condition : &self->waiters;
   if (!*place) {
-    PyObject *made = is_condition ? PyObject_CallMethodNoArgs((PyObject *)self, self->state->names[CONDITION]) :
-                                    PyList_New(0);
+    PyObject *made = is_condition ? PyObject_CallMethodNoArgs((PyObject *)self, self->state->names[CONDITION]) : PyList_New(0);
     if (!made) return NULL;
-    if (!*place) *place = made; else Py_DECREF(made);  /* (what runs meanwhile may have made one) */
+    if (!*place) *place = made;
+    else Py_DECREF(made); /* (what runs meanwhile may have made one) */
   }
   Py_INCREF(*place);
   return *place;
 }
 
-static PyMethodDef stage_methods[] = {
-  {"done", (PyCFunction)Stage_done, METH_NOARGS, "Whether it is settled."},
-  {"cancelled", (PyCFunction)Stage_cancelled, METH_NOARGS, "Whether it was cancelled."},
-  {"result", FAST(Stage_result), METH_VARARGS | METH_KEYWORDS, "Waits for its value. Its exception is raised."},
-  {"add_done_callback", (PyCFunction)Stage_add_done_callback, METH_O, "Calls a function with it, once it is settled."},
-  {NULL}};
-static PyMemberDef stage_members[] = {
-  {"request", T_OBJECT, offsetof(Stage, request), READONLY, "What it belongs to."},
-  {"number", T_USHORT, offsetof(Stage, number), READONLY, "Its place in the request, from 0 on."},
-  {"_form", T_UBYTE, offsetof(Stage, form), READONLY, NULL},
-  {"_ended", T_UBYTE, offsetof(Stage, ended), READONLY, NULL},
-  {"_is_cancelled", T_BOOL, offsetof(Stage, is_cancelled), READONLY, NULL},
-  {"_given", T_OBJECT, offsetof(Stage, given), READONLY, NULL},
-  {"_done_callbacks", T_OBJECT, offsetof(Stage, callbacks), READONLY, NULL},
-  {"_shown", T_BOOL, offsetof(Stage, shown), 0, NULL},
-  {"_told", T_UINT, offsetof(Stage, told), 0, NULL},
-  {"_runs", T_BOOL, offsetof(Stage, running), 0, NULL},
-  {NULL}};
+static PyMethodDef stage_methods[] = {{"done", (PyCFunction)Stage_done, METH_NOARGS, "Whether it is settled."},
+    {"cancelled", (PyCFunction)Stage_cancelled, METH_NOARGS, "Whether it was cancelled."},
+    {"result", FAST(Stage_result), METH_VARARGS | METH_KEYWORDS, "Waits for its value. Its exception is raised."},
+    {"add_done_callback", (PyCFunction)Stage_add_done_callback, METH_O, "Calls a function with it, once it is settled."}, {NULL}};
+static PyMemberDef stage_members[] = {{"request", T_OBJECT, offsetof(Stage, request), READONLY, "What it belongs to."},
+    {"number", T_USHORT, offsetof(Stage, number), READONLY, "Its place in the request, from 0 on."},
+    {"_form", T_UBYTE, offsetof(Stage, form), READONLY, NULL}, {"_ended", T_UBYTE, offsetof(Stage, ended), READONLY, NULL},
+    {"_is_cancelled", T_BOOL, offsetof(Stage, is_cancelled), READONLY, NULL}, {"_given", T_OBJECT, offsetof(Stage, given), READONLY, NULL},
+    {"_done_callbacks", T_OBJECT, offsetof(Stage, callbacks), READONLY, NULL}, {"_shown", T_BOOL, offsetof(Stage, shown), 0, NULL},
+    {"_told", T_UINT, offsetof(Stage, told), 0, NULL}, {"_runs", T_BOOL, offsetof(Stage, running), 0, NULL}, {NULL}};
 static PyGetSetDef stage_getters[] = {
-  {"_condition", (getter)Stage_waited, NULL, NULL, "one"},
-  {"_waiters", (getter)Stage_waited, NULL, NULL, NULL},
-  {NULL}};
-static PyType_Slot stage_slots[] = {
-  {Py_tp_traverse, Stage_traverse}, {Py_tp_clear, Stage_clear}, {Py_tp_dealloc, Stage_dealloc},
-  {Py_tp_methods, stage_methods}, {Py_tp_members, stage_members}, {Py_tp_getset, stage_getters}, {0, NULL}};
-static PyType_Spec stage_spec = {
-  .name = "cf._cf.StageCore", .basicsize = sizeof(Stage), .slots = stage_slots,
-  .flags = Py_TPFLAGS_DEFAULT | Py_TPFLAGS_BASETYPE | Py_TPFLAGS_HAVE_GC | FIXED | NOT_CALLED};
+    {"_condition", (getter)Stage_waited, NULL, NULL, "one"}, {"_waiters", (getter)Stage_waited, NULL, NULL, NULL}, {NULL}};
+static PyType_Slot stage_slots[] = {{Py_tp_traverse, Stage_traverse}, {Py_tp_clear, Stage_clear}, {Py_tp_dealloc, Stage_dealloc},
+    {Py_tp_methods, stage_methods}, {Py_tp_members, stage_members}, {Py_tp_getset, stage_getters}, {0, NULL}};
+static PyType_Spec stage_spec = {.name = "cf._cf.StageCore",
+    .basicsize = sizeof(Stage),
+    .slots = stage_slots,
+    .flags = Py_TPFLAGS_DEFAULT | Py_TPFLAGS_BASETYPE | Py_TPFLAGS_HAVE_GC | FIXED | NOT_CALLED};
 
 /* ---- The module ---- */
 
@@ -1114,7 +1182,9 @@ static PyObject *pool_of(PyObject *Py_UNUSED(module), PyObject *args) {
   bool is_right = plan && most <= MOST && stages <= most && size >= 4 * (Py_ssize_t)stages;
   Pool *pool = is_right ? PyMem_Calloc(1, sizeof *pool + (size_t)size) : NULL;
   if (pool) {
-    pool->most = most; pool->stages = stages; pool->plan = plan;
+    pool->most = most;
+    pool->stages = stages;
+    pool->plan = plan;
     memcpy(pool->numbers, numbers, (size_t)size);
   } else if (is_right) return PyErr_NoMemory();
   for (uint32_t i = 0; is_right && i < stages; begin = pool->numbers[i++]) {
@@ -1123,7 +1193,10 @@ static PyObject *pool_of(PyObject *Py_UNUSED(module), PyObject *args) {
     for (uint32_t k = begin; is_right && k < *its; k++) is_right = of[k] < i;
   }
   PyObject *made = is_right ? PyCapsule_New(pool, POOL, empty_pool) : NULL;
-  if (made) { Py_INCREF(owner); pool->owner = owner; } else PyMem_Free(pool);
+  if (made) {
+    Py_INCREF(owner);
+    pool->owner = owner;
+  } else PyMem_Free(pool);
   if (!is_right && !PyErr_Occurred()) PyErr_SetString(PyExc_TypeError, "no plan");
   return made;
 }
@@ -1140,11 +1213,9 @@ static PyObject *forked(PyObject *module, PyObject *Py_UNUSED(none)) {
   Py_RETURN_NONE;
 }
 
-static PyMethodDef module_methods[] = {
-  {"pool", (PyCFunction)pool_of, METH_VARARGS, "Keeps machines of a plan."},
-  {"be", (PyCFunction)be, METH_O, "Gives this thread the number of a caller."},
-  {"forked", (PyCFunction)forked, METH_NOARGS, "Tells that this process is a fork's child."},
-  {NULL}};
+static PyMethodDef module_methods[] = {{"pool", (PyCFunction)pool_of, METH_VARARGS, "Keeps machines of a plan."},
+    {"be", (PyCFunction)be, METH_O, "Gives this thread the number of a caller."},
+    {"forked", (PyCFunction)forked, METH_NOARGS, "Tells that this process is a fork's child."}, {NULL}};
 
 /* A type of the module, which has it by its name, too. */
 static PyTypeObject *type_of(PyObject *module, PyType_Spec *spec) {
@@ -1165,11 +1236,14 @@ static int fill(PyObject *module) {
     PyErr_SetString(PyExc_ImportError, "the structures of the library are others");
     return -1;
   }
-  if (!(it->told = PyMem_RawMalloc(MOST * sizeof *it->told))) { PyErr_NoMemory(); return -1; }
+  if (!(it->told = PyMem_RawMalloc(MOST * sizeof *it->told))) {
+    PyErr_NoMemory();
+    return -1;
+  }
   PyTypeObject *request_core = type_of(module, &request_spec);
-  Py_XDECREF(request_core);  /* (which the module has) */
+  Py_XDECREF(request_core); /* (which the module has) */
   if (!request_core || !(it->stage_core = type_of(module, &stage_spec))) return -1;
-  it->stage_core->tp_new = NULL;  /* a request makes its stages (Python 3.9 has no flag for it) */
+  it->stage_core->tp_new = NULL; /* a request makes its stages (Python 3.9 has no flag for it) */
   for (int k = 0; k < NAMES; k++)
     if (!(it->names[k] = PyUnicode_InternFromString(names[k]))) return -1;
   return 0;
@@ -1188,15 +1262,12 @@ static void module_free(void *module) {
   PyMem_RawFree(it->told);
 }
 
-static PyModuleDef_Slot module_slots[] = {
-  {Py_mod_exec, fill},
+static PyModuleDef_Slot module_slots[] = {{Py_mod_exec, fill},
 #ifdef Py_MOD_PER_INTERPRETER_GIL_SUPPORTED
-  {Py_mod_multiple_interpreters, Py_MOD_PER_INTERPRETER_GIL_SUPPORTED},
+    {Py_mod_multiple_interpreters, Py_MOD_PER_INTERPRETER_GIL_SUPPORTED},
 #endif
-  {0, NULL}};
-static PyModuleDef module = {
-  PyModuleDef_HEAD_INIT, .m_name = "_cf", .m_doc = "Requests and stages over the proved machine of a request.",
-  .m_size = sizeof(State), .m_methods = module_methods, .m_slots = module_slots, .m_traverse = module_traverse,
-  .m_free = module_free};
+    {0, NULL}};
+static PyModuleDef module = {PyModuleDef_HEAD_INIT, .m_name = "_cf", .m_doc = "Requests and stages over the proved machine of a request.",
+    .m_size = sizeof(State), .m_methods = module_methods, .m_slots = module_slots, .m_traverse = module_traverse, .m_free = module_free};
 
 PyMODINIT_FUNC PyInit__cf(void) { return PyModuleDef_Init(&module); }

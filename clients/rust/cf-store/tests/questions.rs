@@ -97,6 +97,6 @@ fn what_is_said_of_many_stages_is_asked_for_at_once() {
     }
     let (reads, asked) = service(&place, 0);
     assert!(reads.open("r").unwrap().named("another").unwrap().is_none());
-    let asked = asked.lock().unwrap();
+    let asked = asked.lock().unwrap().clone();
     assert_eq!((asked.get("payloads"), asked.get("payload")), (Some(&1), None));
 }

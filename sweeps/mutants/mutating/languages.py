@@ -7,7 +7,7 @@ from typing import Dict, Iterable, List, NamedTuple, Sequence, Set
 from mutating import of_python, of_tokens
 from mutating.mutant import Mutant, Place, mutants_of
 
-TOP = Path(__file__).resolve().parent.parent.parent
+TOP = Path(__file__).resolve().parents[3]
 RULES_OF_JAVA = Path(__file__).resolve().parent / "Rules.java"
 JAVA = ["java", "-Xmx512m", "-XX:TieredStopAtLevel=1"]  # which is quicker than more of a compiler where a process is short
 TEST_MODULE = re.compile(r"#\[cfg\((?:test\)|all\(test,[^\]]*)\]\s+(?:pub(?:\(\w+\))? )?mod (\w+);")  # one of Rust's that is for tests alone
