@@ -33,6 +33,8 @@ final class JavasFuturesTest {
         Stage<String> mine = new Stage<String>(besideJava) {};
         mine.complete("m");
         is(mine.thenApply(x -> x + "!").join(), "m!");
+        Request alone = SERVICE.request();
+        is(new Stage<String>(alone) {}.request(), alone); // (also as its first stage)
         long began = System.nanoTime();
         is(besideJava.supplyAsync(() -> 1, besideJava.delayedExecutor(20, TimeUnit.MILLISECONDS)).join()
                 + besideJava.supplyAsync(() -> 2, besideJava.delayedExecutor(20, TimeUnit.MILLISECONDS, Runnable::run)).join(), 3);
