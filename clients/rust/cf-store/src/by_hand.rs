@@ -664,7 +664,9 @@ fn what_goes_wrong_in_a_look_is_told() {
         "due" if left.swap(0, SeqCst) > 0 => Err(StoreError::Unknown("no answer".into())),
         _ => Ok(()),
     };
-    let tells = |text: &str| drop(TOLD.fetch_add(u32::from(text == "the store doesn't answer: no answer"), SeqCst));
+    let tells = |text: &str| {
+        TOLD.fetch_add(u32::from(text == "the store doesn't answer: no answer"), SeqCst);
+    };
     let options = Options { warns: tells, ..Options::default() };
     let store = Arc::new(Told { memory: Arc::default(), called: Arc::new(called) });
     let _service = Service::hosted(store, Functions::new(), options, Arc::new(Machine)).unwrap();
