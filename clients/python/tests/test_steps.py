@@ -184,7 +184,7 @@ class Desks(unittest.TestCase):
         plan, _ = chain()
         with plan.open_desk(2, 8, 8) as one, plan.open_desk(2, 8, 8) as other:
             one.callers[0].meet(one.callers[1])
-            with unittest.mock.patch.object(cf.desk.library, "cf_desk_meet") as asked:
+            with unittest.mock.patch.object(cf._library.library, "cf_desk_meet") as asked:
                 with self.assertRaises(cf.Refused) as refused:
                     one.callers[0].meet(other.callers[0])
             self.assertEqual((refused.exception.code, asked.called, one.callers[0].seen()), (Code.OTHER_DESK, False, 0))
