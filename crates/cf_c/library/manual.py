@@ -3,7 +3,7 @@
 
     manual.py DIR
 
-A page has what the header says of its section, an example of clients/c, and what that prints, as clients/c/README.md has it: ./check
+A page has what the header says of its section, an example of clients/c, and what that prints, as NAME.out beside it has it: ./check
 compiles and runs each. For each call stands a page of its name, which is the one of its section. It ends with status 1 where a section of
 the header has no page here, or an example prints nothing there.
 """
@@ -103,11 +103,10 @@ def described(text: str) -> Iterator[str]:
 
 
 def printed(example: str) -> str:
-    readme = (PROGRAMS / "README.md").read_text(encoding="utf-8")
-    block = re.search(rf"^What `{re.escape(example)}` prints:\n+```\w*\n(.*?)^```$", readme, re.M | re.S)
-    if not block:
-        raise SystemExit(f"manual.py: clients/c/README.md doesn't say what {example} prints")
-    return block[1]
+    path = (PROGRAMS / example).with_suffix(".out")
+    if not path.is_file():
+        raise SystemExit(f"manual.py: there is no {path.name} with what {example} prints")
+    return path.read_text(encoding="utf-8")
 
 
 def code_of(example: str) -> str:
