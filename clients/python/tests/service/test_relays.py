@@ -127,6 +127,14 @@ class Relays(CoreCase):
             self.end(stop, 3)
             self.assertEqual((first.result(0), relay.result(0)), (1, 3), kind)
 
+    def test_a_relay_that_is_told_is_let_go_of_before_the_others_are(self):
+        told, open_one = concurrent.futures.Future(), concurrent.futures.Future()
+        waiting = self.request.all_of(told, open_one)
+        relay = weakref.ref(self.request._stage(0))
+        told.set_result(1)
+        gc.collect()
+        self.assertEqual((waiting.done(), relay()), (False, None))
+
     def test_what_a_callback_raises_breaks_no_row(self):
         def raises(_):
             raise Wild

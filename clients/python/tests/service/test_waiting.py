@@ -13,7 +13,9 @@ import unittest
 from case import Case, CoreCase, Oops, until
 from cf.service import Service
 from cf.service._core import IS_MODULE
+from cf.service.waits import Waited
 from cf.service.watch import Watch
+from cf.service.words import VALUE
 from cf.testing import orders
 
 
@@ -51,6 +53,16 @@ class Waiting(Case):
                 waiter.join(20)
             self.assertEqual(len(woken), 4)
             self.assertIn(set(), woken)
+
+    def test_who_waits_by_a_condition(self):
+        """As the module's stages do."""
+        waited = Waited()
+        waited._condition, waited._waiters, waited._shown, waited._told, waited._ended = threading.Condition(), [], False, 0, VALUE
+        waited._wait(0.01)
+        self.assertFalse(waited._shown)
+        threading.Timer(0.01, waited._show).start()
+        waited._wait(20)
+        self.assertTrue(waited._shown)
 
     def test_a_watch_is_told_who_waits(self):
         class Reads(Watch):

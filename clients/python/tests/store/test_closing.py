@@ -16,6 +16,7 @@ from cf.service.words import ATTACH, CANCEL, CLAIM, COMPLETE
 from cf.store import Broken, connect, DurableService, Memory, new_session, RowView, service as shared_service, Timer, Unknown
 from cf.store.plans import text_of
 from cf.store.request import DurableRequest
+from cf.store.rows import Gone
 
 
 class Closing(Case):
@@ -234,6 +235,23 @@ class NamesUsedAgain(Case):
         with self.assertRaises(Broken):
             closing_service.start(flow(1), name="r")
         self.assertIs(closing_service.start(flow(2), name="r"), begun[0])
+
+    def test_a_name_that_is_begun_anew_as_the_request_before_is_let_go(self):
+        class Requests(dict):
+            def get(self, name, default=None):
+                found = super().get(name, default)
+                if threading.current_thread() is threading.main_thread():
+                    anew.start(), anew.join(0.05)
+                return found
+
+        service = DurableService(Memory(), 0, functions=f.functions)
+        self.services.append(service)
+        dropped, anew = service.request("r"), threading.Thread(target=lambda: service.request("r"))
+        service.store.drop("r")
+        service._requests = Requests(service._requests)
+        service._break("r", Gone("r"), dropped)
+        anew.join(20)
+        self.assertEqual([it.number > dropped.number for it in service._requests.values()], [True])
 
     def test_a_name_that_began_anew_with_fewer_words(self):
         """A worker that has seen more words of an earlier request of the name works on the new one; who has the old

@@ -12,6 +12,7 @@ from case import Case, STORES
 import shared_functions as f
 from cf.service import Flow
 from cf.store import Abandoned, Broken, connect, DurableService, Grouped, Memory, new_session, Put, RowView, Store, StoreError, tables, Unknown
+from cf.store import service as shared_service
 from cf.store.glances import glance_of, read
 from cf.store.plans import text_of
 from cf.store.rows import FIRST, flow_of, Glance, Gone, Wanted
@@ -366,6 +367,19 @@ class Glances(Case):
             beats = store.beats().get(service.session, 0)
             self.until(lambda: store.beats().get(service.session, 0) > beats + 5)
             self.assertTrue(promise.complete(1))
+
+    def test_glances_of_many_are_kept_some_at_a_time(self):
+        service, kept = DurableService(Memory(), 0, lease=1000), []
+        self.services.append(service)
+        for name in "abc":
+            service.request(name).promise()
+        with unittest.mock.patch.object(shared_service, "MOST_GLANCES", 2), unittest.mock.patch.object(
+            service.store, "keep_glances", lambda glances: kept.append([it.request for it in glances])
+        ):
+            for _ in range(4):
+                service._keep_glances()
+        self.assertEqual([len(it) for it in kept], [2, 1])
+        self.assertEqual({name for names in kept for name in names}, {*"abc"})
 
     def test_what_is_no_glance(self):
         for said in (

@@ -4,6 +4,7 @@ shared, words don't fit. Watcher: who is gone?
 
     CF_LIBRARY=/path/to/libcf.so python3 clients/python/tests/store/test_views.py [-v] [TEST ..]
 """
+import contextlib
 import json
 import os
 import subprocess
@@ -17,6 +18,7 @@ from cf.service import RequestFull
 from cf.service.words import ATTACH, CANCEL, CLAIM, COMPLETE, FAIL, FINISH
 from cf.store.host import Host
 from cf.store import Broken, DurableService, Json, Memory, new_session, Put, RowView, StoreError, Unknown, Watcher
+from cf.values import Code, Refused
 
 
 class Silent(Memory):
@@ -361,6 +363,18 @@ class Views(Case):
         with self.assertRaises(Unknown) as told:
             view.act(lambda view: [(ATTACH << 56, b'{"name":"p"}')])
         self.assertIn("'r', place 1: the store doesn't answer: no connection", str(told.exception))
+
+    def test_a_machine_that_is_refused(self):
+        """Where room is wanting, one with less room is made; what else is refused is told."""
+        view = self.view(Memory())
+        for room, refused, asked in [(5, [Code.ROOM] * 2, [5, 2, 1]), (5, [Code.NO_MEMORY], [5]), (1, [Code.ROOM] * 2, [1, 0])]:
+            view._room, answers = room, [*map(Refused, refused), None]
+            with unittest.mock.patch.object(view, "plan") as plan, contextlib.ExitStack() as raises:
+                plan.replica.side_effect = answers
+                if len(asked) == len(refused):
+                    raises.enter_context(self.assertRaises(Refused))
+                view._made()
+            self.assertEqual([call.args[0] for call in plan.replica.mock_calls], asked)
 
     def test_an_account_by_sessions(self):
         """Above 64 sessions a number is two sessions', each of which has its own records."""

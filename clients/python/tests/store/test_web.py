@@ -555,17 +555,18 @@ class Lists(WebCase):
 
     def test_a_session_that_is_gone(self):
         store = Memory()
-        gone = new_session()
-        opened = store.open("r", text_of(self.flow(), f.functions))
-        view = RowView(store, opened, gone)
-        view.act(lambda view: [(4 << 56 | view.who << 48, None)])
+        gone, unheard = new_session(), new_session()
+        for name, session in [("r", gone), ("s", unheard)]:
+            opened = store.open(name, text_of(self.flow(), f.functions))
+            view = RowView(store, opened, session)
+            view.act(lambda view: [(4 << 56 | view.who << 48, None)])
         store.beat(gone), store.name_session(gone, "host 7")
         self.page_over(store)
         self.until(lambda: self.rows().get("r", {}).get("state") == "running")
-        self.until(lambda: self.rows()["r"]["state"] == "gone")
-        (session,) = self.data(view="sessions")["rows"]
-        self.assertEqual((session["there"], session["name"], session["runs"][0][:4]), (False, "host 7", ["r", "r", 0, "load"]))
-        self.assertIn('cf_sessions{state="gone"} 1', self.ask("GET", "/metrics")[2].decode())
+        self.until(lambda: {it["state"] for it in self.rows().values()} == {"gone"})
+        sessions = sorted((it["name"], it["there"], it["runs"][0][:4]) for it in self.data(view="sessions")["rows"])
+        self.assertEqual(sessions, [("", False, ["s", "s", 0, "load"]), ("host 7", False, ["r", "r", 0, "load"])])
+        self.assertIn('cf_sessions{state="gone"} 2', self.ask("GET", "/metrics")[2].decode())
         self.assertIs(self.one("r")["stages"][0]["session"]["there"], False)
 
     def test_words_that_have_no_glance(self):
@@ -751,6 +752,8 @@ class Requests(WebCase):
         store._payloads["r", 2] = b'"' + b"x" * 300_000 + b'"'
         told = json.loads(self.ask("GET", "/payload?name=r&number=0&place=2")[2])
         self.assertEqual((len(told["text"]), told["bytes"], told["cut"]), (200_000, 300_002, True))
+        store._payloads["r", 2] = '{"ü": 1}'.encode()
+        self.assertEqual(json.loads(self.ask("GET", "/payload?name=r&number=0&place=2")[2])["text"], '{\n  "ü": 1\n}')
         store._payloads["r", 2] = b"[" * 100_000
         self.assertEqual(json.loads(self.ask("GET", "/payload?name=r&number=0&place=2")[2])["bytes"], 100_000)
         told = json.loads(self.ask("GET", "/payload?name=r&number=0&place=77")[2])

@@ -160,6 +160,16 @@ class Working(Case):
             self.assertEqual(worked_on[known].result(20), 2)
         works.shutdown(), asks.shutdown()
 
+    def test_what_others_opened_is_left_to_them(self):
+        asks = DurableService(Memory(), 0, functions=f.functions)
+        works = DurableService(asks.store, 1, functions=f.functions)
+        self.services += [asks, works]
+        asks.request("left").supply(f.inc, 1)
+        own = asks.request("own")
+        works.open("own")
+        self.assertEqual([own.supply(f.inc, it).result(20) for it in (1, 2)], [2, 3])  # (before the second, all others have had their turn)
+        self.assertEqual(asks.store.ends(), {"left": 1, "own": 6})
+
 
 class UnknownFunctions(Case):
     lease = 2
