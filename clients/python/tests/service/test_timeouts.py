@@ -63,6 +63,18 @@ class Limits(Case):
             late = self.request.promise().or_timeout(0.01)
             self.assertIsInstance(late.exception(5), TimeoutError)
 
+    def test_time_never_goes_back(self):
+        """An earlier moment may be rung later. A limit that is set then comes behind the latest one."""
+        timed = self.request
+        timed.promise().or_timeout(1000)
+        ahead = timed._works.clock.now(timed) + 500 * 10**9
+        timed._ring(ahead), timed._ring(ahead - 1)
+        limited = timed.promise().complete_on_timeout(7, 1)
+        timed._ring(ahead)
+        self.assertFalse(limited.done())
+        timed._ring(ahead + 1)
+        self.assertEqual(limited.result(0), 7)
+
     def test_an_earlier_limit_wakes_the_clock(self):
         late = [self.request.promise().or_timeout(1000 + k) for k in range(3)]
         time.sleep(0.05)  # (the clock waits for the first of these)

@@ -371,6 +371,7 @@ class Glances(Case):
     def test_glances_of_many_are_kept_some_at_a_time(self):
         service, kept = DurableService(Memory(), 0, lease=1000), []
         self.services.append(service)
+        self.until(lambda: service._next_look)  # (its first beat keeps glances, too)
         for name in "abc":
             service.request(name).promise()
         with unittest.mock.patch.object(shared_service, "MOST_GLANCES", 2), unittest.mock.patch.object(

@@ -59,6 +59,24 @@ class Outages(Case):
                     ran.clear()
                     works.shutdown(), asks.shutdown()
 
+    def test_a_store_that_is_away_as_a_function_ends_is_told_of(self):
+        class Away(Memory):
+            is_away = False
+
+            def append_groups(self, puts):
+                is_away, self.is_away = self.is_away, False
+                if is_away:
+                    raise Unknown("away")
+                return super().append_groups(puts)
+
+        failing_store, functions = Away(), Functions()
+        function = functions.function("f")(lambda: setattr(failing_store, "is_away", True))
+        with unittest.mock.patch.object(shared_service, "PATIENCE", 0), self.assertLogs("cf.store", "WARNING") as logs:
+            service = DurableService(failing_store, 1, functions=functions)
+            self.services.append(service)
+            self.assertIsNone(service.request("r").supply(function).result(20))
+        self.assertEqual([it.getMessage() for it in logs.records], ["request 'r', place 3: the store doesn't answer: away"])
+
     def test_a_store_that_takes_nothing_for_a_while(self):
         """What a function came to is kept and put once the store takes words again: it wasn't the value that it
         refused."""

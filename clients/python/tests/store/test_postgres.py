@@ -15,6 +15,14 @@ from cf.store import StoreError, Unknown
 
 
 class PostgreSQL(Case):
+    def module(self):
+        """The module, also where there is no psycopg2."""
+        absent = {it: unittest.mock.MagicMock() for it in ("psycopg2", "psycopg2.errors")}
+        is_absent = importlib.util.find_spec("psycopg2") is None
+        with unittest.mock.patch.dict(sys.modules, absent) if is_absent else contextlib.nullcontext():
+            from cf.store import postgres
+        return postgres
+
     @unittest.skipIf(importlib.util.find_spec("psycopg2") is None, "no psycopg2")
     def test_what_a_server_of_postgresql_says(self):
         """One that can only be read for now is away; what it refuses for good is told as such, also at a commit."""
@@ -34,10 +42,7 @@ class PostgreSQL(Case):
 
     def test_a_notice_that_cant_be_sent(self):
         """It is sent later, whatever was in its way: no thread, or a server that is refused for now."""
-        absent = {it: unittest.mock.MagicMock() for it in ("psycopg2", "psycopg2.errors")}
-        is_absent = importlib.util.find_spec("psycopg2") is None
-        with unittest.mock.patch.dict(sys.modules, absent) if is_absent else contextlib.nullcontext():
-            from cf.store import postgres
+        postgres = self.module()
         postgres_store, sent = postgres.Postgres.__new__(postgres.Postgres), threading.Event()
         left = [StoreError("refused"), ValueError("odd"), Unknown("away")]
         postgres_store._changes, postgres_store._notifier = threading.Event(), None
@@ -59,6 +64,16 @@ class PostgreSQL(Case):
         postgres_store._is_closed = True
         postgres_store._changes.set()
         postgres_store._notifier.join(20)
+
+    def test_a_connection_that_is_in_use_as_the_store_is_closed(self):
+        postgres = self.module()
+        postgres_store, db = postgres.Postgres.__new__(postgres.Postgres), unittest.mock.MagicMock(closed=0)
+        postgres_store._changes, postgres_store._local = threading.Event(), threading.local()
+        postgres_store._lock, postgres_store._is_closed = threading.Lock(), False
+        postgres_store._free = [unittest.mock.MagicMock(connection=db, rowcount=1, description=None)]
+        postgres_store._free[0].execute.side_effect = lambda *_: postgres_store.close()
+        self.assertEqual(postgres_store._do("select 1", []), (1, []))
+        db.close.assert_called_once()
 
 
 if __name__ == "__main__":

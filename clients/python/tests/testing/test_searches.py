@@ -13,8 +13,13 @@ if not os.environ.get("CF_INSTALLED"):
     sys.path.insert(0, str(CLIENT))
 sys.path.insert(0, str(Path(__file__).resolve().parent))
 import services  # noqa: E402
-from cf.store import Functions  # noqa: E402
+from cf.service import Flow  # noqa: E402
+from cf.service.words import COMPLETE  # noqa: E402
+from cf.store import Functions, Put, Timer  # noqa: E402
+from cf.store.plans import text_of  # noqa: E402
 from cf.testing import orders, touches  # noqa: E402
+from cf.testing.footprints import CHANGES, READS  # noqa: E402
+from cf.testing.rows import ROWS, Rows  # noqa: E402
 
 
 class Turn(unittest.TestCase):
@@ -67,7 +72,7 @@ class Turn(unittest.TestCase):
         self.assertEqual((report.whole, list(map(str, report.failed))), (True, []))
 
 
-class Rows(unittest.TestCase):
+class Row(unittest.TestCase):
     WHOLE = "come.0.0 begin.0.1 call.0.1 limit.0.1.1 begin.0.2 call.0.2"  # an order in which it is charged twice
 
     def test_a_row_that_ends_early_is_gone_on_with(self):
@@ -82,6 +87,28 @@ class Rows(unittest.TestCase):
             world.at_end(lambda: stage.exception() is None, "the price comes in time")
 
         self.assertEqual(orders(test).failed[0].row, "begin.0.0 call.0.0 limit.-1.0.1 go.0.0 end.0.0 come.0.0")
+
+
+class Footprints(unittest.TestCase):
+    def test_what_calls_of_a_store_touch(self):
+        def touched(call):
+            told.clear()
+            call()
+            return told
+
+        told = []
+        rows = Rows(lambda thing, how: told.append((thing, how)))
+        row, put = ("row", "a"), Put("a", 0, [(COMPLETE << 56, 1)], {})
+        flow = Flow("one")
+        flow.promise()
+        self.assertEqual(touched(lambda: rows.open("a", text_of(flow, Functions()))), [(ROWS, CHANGES), (row, CHANGES)])
+        self.assertEqual(touched(lambda: rows.open("a", "{}")), [(ROWS, READS)])
+        self.assertEqual(touched(lambda: rows.append(put)), [(row, CHANGES)])
+        self.assertEqual(touched(lambda: rows.append(put._replace(entries=[(COMPLETE << 56, 2)]))), [(row, READS)])
+        self.assertEqual(touched(lambda: rows.read("a", 0, 0)), [(row, READS)])
+        self.assertEqual(touched(lambda: rows.set_timer(Timer("a", 0, 1.0, b"", 0))), [(row, CHANGES)])
+        self.assertEqual(touched(lambda: rows.end("a", 1, 0)), [(row, CHANGES)])
+        self.assertEqual(touched(lambda: rows.drop("a", None)), [(ROWS, CHANGES), (row, CHANGES)])
 
 
 class Chance(unittest.TestCase):
