@@ -113,7 +113,6 @@ class Rows:
     def drop_timer(self, name: str, stage: int, number: int) -> None:
         """As `Store.drop_timer`."""
         self.change(name, lambda: self.memory.drop_timer(name, stage, number))
-        self.timers.pop((name, stage), None)
 
 
 class ProcessStore(Store):
