@@ -356,6 +356,8 @@ class DurableService(concurrent.futures.Executor):
         if known is not None and is_newer:
             known._fail_all(Gone(request.name))  # it was dropped, and another of its name begun
         kept._catch_up()
+        if self._needs(kept):  # (the store tells only of what comes later)
+            self._serve(kept)
         return kept
 
     def _keep(self, request: DurableRequest) -> None:

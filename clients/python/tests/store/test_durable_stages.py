@@ -230,6 +230,7 @@ class DurableStages(Case):
         behind = first.compose(attaches)
         last = behind.again(2).then(f.inc)
         first.complete(20)
+        self.until(lambda: self.told)  # (its function runs)
         request = lives.open("r")
         self.assertEqual(request[last.number].result(20), 41)
         goes.set()

@@ -170,6 +170,28 @@ class Working(Case):
         self.assertEqual([own.supply(f.inc, it).result(20) for it in (1, 2)], [2, 3])  # (before the second, all others have had their turn)
         self.assertEqual(asks.store.ends(), {"left": 1, "own": 6})
 
+    def test_what_is_there_before_it_is_known_is_begun_at_once(self):
+        """And not with the next beat."""
+        gate = threading.Lock()
+
+        class Gated(Memory):
+            def news(self, mark):
+                with gate:
+                    return super().news(mark)
+
+        for takes_all in (True, False):
+            store = Gated()
+            asks = DurableService(store, 0, functions=f.functions)
+            works = DurableService(store, 1, functions=f.functions, lease=1000, takes_all=takes_all)
+            self.services += [asks, works]
+            self.until(lambda: works._mark is not None)
+            with gate:
+                begun = asks.request("r").supply(f.inc, 1)
+            if not takes_all:
+                self.until(lambda: works._mark == store._puts)
+                works.open("r")
+            self.assertEqual(begun.result(20), 2)
+
 
 class UnknownFunctions(Case):
     lease = 2
