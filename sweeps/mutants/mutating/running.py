@@ -29,7 +29,7 @@ CALLS = 100  # of a function by a test, whose lines are written down one by one.
 STORE = os.environ.get("CF_STORES", "")  # an address in a server, which is emptied
 LONGEST = 600  # seconds for a test over the code as it is
 ENDING = 20  # seconds for the end of the process
-MEMORY = 8 << 30  # bytes of addresses, for a mutant that never ends
+MEMORY = 8 << 30  # bytes of data, for a mutant that never ends
 
 
 class Lines:
@@ -146,7 +146,7 @@ def end(result: Watched) -> None:
 
 
 def run(words: List[str]) -> None:
-    resource.setrlimit(resource.RLIMIT_AS, (MEMORY, MEMORY))
+    resource.setrlimit(resource.RLIMIT_DATA, (MEMORY, MEMORY))
     empty_store()
     asked = dict(zip(words[::2], map(float, words[1::2])))
     there: Dict[str, unittest.TestCase] = {}
