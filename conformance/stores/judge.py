@@ -14,7 +14,7 @@ from plain_graph import Graph
 from replies import outcome_text, reply_text, shape
 
 from cf.events import event_of
-from cf.service.words import ATTACH, CLAIM, COMPLETE, FAIL, FINISH, FORMS, PENDING, Told
+from cf.service.words import ATTACH, CLAIM, COMPLETE, FAIL, FINISH, FORMS, PENDING, OutcomeNumbers
 from cf.store import Broken, connect
 
 CALLERS = 64
@@ -173,7 +173,7 @@ class Judge:
         if place > len(entries):
             self.count["lost words"] += 1
             return
-        text = "pending" if outcome[0] == PENDING else outcome_text(Told(*outcome))
+        text = "pending" if outcome[0] == PENDING else outcome_text(OutcomeNumbers(*outcome))
         if states[place][stage] != text:
             self.wrong.append(f"{name}: stage {stage} at {place}: told {text}, is {states[place][stage]}")
         own.append(["outcome", place, stage, text])

@@ -146,7 +146,7 @@ class Client(Process):
         return [k for k in range(len(desk.forms)) if not desk.is_settled(k)]
 
     def promises(self, request, name="promise"):
-        return [k for k in self.open_stages(request) if request._view.said(k)["name"] == name]
+        return [k for k in self.open_stages(request) if request._view.definition(k)["name"] == name]
 
     # What a user does.
 
@@ -262,7 +262,7 @@ class Client(Process):
         elif pick < 0.84:
             self.tell(request)
         elif pick < 0.85:
-            self.drop(number, request, rng.choice([None, request.seen]))
+            self.drop(number, request, rng.choice([None, request.words_seen]))
         else:
             self.kept.pop(number, None)
 
@@ -274,7 +274,7 @@ class Client(Process):
                 self.note("opens", name, self.number_of(request))
             self.attach(request, self.rng)
         elif pick < 0.6:
-            self.drop(number, request, self.rng.choice([None, request.seen]))
+            self.drop(number, request, self.rng.choice([None, request.words_seen]))
         elif pick < 0.7:
             self.tell(request)
         else:

@@ -29,7 +29,7 @@ def work(address, name, sessions, granted, wrong, same=None):
 
             def decide(desk):
                 chosen[:] = random.sample(sorted(desk.ready), min(1, len(desk.ready)))
-                return [(CLAIM << 56 | desk.who << 48 | stage << 36, None) for stage in chosen]
+                return [(CLAIM << 56 | desk.caller_number << 48 | stage << 36, None) for stage in chosen]
 
             done, _ = desk.act(decide)
             if done is None:
@@ -37,7 +37,9 @@ def work(address, name, sessions, granted, wrong, same=None):
             if not done[0].reply[0]:
                 granted.append(chosen[0])
                 payload = json.dumps(chosen[0]).encode()
-                done, _ = desk.act(lambda desk: [(FINISH << 56 | desk.who << 48 | chosen[0] << 36 | GIVES << 32 | desk.place, payload)])
+                done, _ = desk.act(
+                    lambda desk: [(FINISH << 56 | desk.caller_number << 48 | chosen[0] << 36 | GIVES << 32 | desk.next_place, payload)]
+                )
                 if done[0].reply[0]:
                     wrong.append(f"stage {chosen[0]}: its finish was answered {done[0].reply[0]}")
 
@@ -134,17 +136,17 @@ def store_away(address, folder):
     try:
         store = connect(server.address)
         desk = RowView(store, store.open("r", SUPPLIES), new_session(), patience=1)
-        desk.act(lambda desk: [(COMPLETE << 56 | desk.who << 48, None)])
+        desk.act(lambda desk: [(COMPLETE << 56 | desk.caller_number << 48, None)])
         server.stop()
         try:
-            desk.act(lambda desk: [(COMPLETE << 56 | desk.who << 48, None)])
+            desk.act(lambda desk: [(COMPLETE << 56 | desk.caller_number << 48, None)])
             told = ""
         except Unknown as error:
             told = str(error).splitlines()[0]
         server._do("pg_ctl", "-D", server.folder, "-w", "-l", f"{server.folder}/log", "start")
         desk.catch_up()
-        desk.act(lambda desk: [(COMPLETE << 56 | desk.who << 48, None)])
-        return bool(told) and desk.seen == len(store.read("r")) == 2, f"told {told!r}, and {desk.seen} words at the end"
+        desk.act(lambda desk: [(COMPLETE << 56 | desk.caller_number << 48, None)])
+        return bool(told) and desk.words_seen == len(store.read("r")) == 2, f"told {told!r}, and {desk.words_seen} words at the end"
     finally:
         server.stop()
 
@@ -175,7 +177,7 @@ def many_timers(address, folder):
     for k in range(500):
         store.set_timer(Timer("timers", k, store.now() + (1000 if k % 50 else -1), b"N"))
     began = time.monotonic()
-    due = store.due(store.now())
+    due = store.timers_due(store.now())
     return len(due) == 10, f"{len(due)} due, found in {1000 * (time.monotonic() - began):.1f} ms"
 
 

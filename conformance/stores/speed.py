@@ -113,9 +113,9 @@ def step(it, held, group):
     stages = []
 
     def decide(desk):
-        made = [(FINISH << 56 | desk.who << 48 | stage << 36 | GIVES << 32 | desk.place + n, PAYLOAD) for n, stage in enumerate(held)]
+        made = [(FINISH << 56 | desk.caller_number << 48 | stage << 36 | GIVES << 32 | desk.next_place + n, PAYLOAD) for n, stage in enumerate(held)]
         stages[:] = [] if group == 1 and held else sorted(desk.ready)[: max(group // 2, 1)]
-        return made + [(CLAIM << 56 | desk.who << 48 | stage << 36, None) for stage in stages]
+        return made + [(CLAIM << 56 | desk.caller_number << 48 | stage << 36, None) for stage in stages]
 
     return it.act(decide)[0], stages
 
@@ -209,12 +209,12 @@ def replay(address, most=4096):
     """Milliseconds in which a desk reads and replays a row of so many words."""
     store, session = connect(address), new_session()
     it = RowView(store, store.open("replay", PLAN), session)
-    while it.seen < most:
-        it.act(lambda desk: [(1 << 56 | desk.who << 48 | (desk.seen + k) % STAGES << 36, None) for k in range(32)])
+    while it.words_seen < most:
+        it.act(lambda desk: [(1 << 56 | desk.caller_number << 48 | (desk.words_seen + k) % STAGES << 36, None) for k in range(32)])
     began = time.perf_counter()
     again = RowView(store, store.find("replay"), new_session())
     again.catch_up()
-    assert again.seen == most
+    assert again.words_seen == most
     return {f"replay of {most} words, ms": round(1000 * (time.perf_counter() - began), 1)}
 
 

@@ -23,7 +23,7 @@ HAS_FUNCTION = [form not in ("source", "allOf", "anyOf") for form in FORMS]
 
 
 def word(kind, desk, stage=0, low=0):
-    return kind << 56 | desk.who << 48 | stage << 36 | low
+    return kind << 56 | desk.caller_number << 48 | stage << 36 | low
 
 
 class Worker(Process):
@@ -150,7 +150,7 @@ class Worker(Process):
             if session != self.session and self.watcher.is_gone(session):
 
                 def decide(desk, stage=stage, session=session):
-                    fails = desk.abandoned(session, stage)
+                    fails = desk.word_to_abandon(session, stage)
                     if fails is not None:
                         return [(fails, json.dumps({"at": desk.place, "abandoned": session}).encode())]
                     return None

@@ -23,11 +23,11 @@ uses all of this; `cf.service` has futures for any objects.
 from concurrent.futures import InvalidStateError
 
 from . import events
-from .closed import Closed, Did, Record, Saw, SawNow
+from .closed import Closed, CallRecord, Record, ReadRecord, ReadNowRecord
 from .desk import Caller, Desk, InUse, SharedFuture
 from .events import Event, event_of, word_of
 from .graph import Future, Graph
-from .ledger import Applied, Ledger, StageKind, StageState, Stepped
+from .ledger import EventResult, Ledger, StageKind, StageState, StepResult
 from .plan import Plan
 from .texts import BadScript, code_text, outcome_text, run_script
 from .values import (
@@ -53,7 +53,7 @@ from .values import (
 from .workers import Workers
 
 __all__ = [
-    "Applied",
+    "EventResult",
     "BadAnswer",
     "BadScript",
     "Caller",
@@ -63,7 +63,7 @@ __all__ = [
     "Closed",
     "Code",
     "Desk",
-    "Did",
+    "CallRecord",
     "Event",
     "Failure",
     "Fault",
@@ -82,12 +82,12 @@ __all__ = [
     "Plan",
     "Record",
     "Refused",
-    "Saw",
-    "SawNow",
+    "ReadRecord",
+    "ReadNowRecord",
     "SharedFuture",
     "StageKind",
     "StageState",
-    "Stepped",
+    "StepResult",
     "Task",
     "Thrown",
     "TimedOut",

@@ -11,7 +11,7 @@ from .values import Now, Outcome, Reply, Value, now_out, outcome_out, value_out
 
 
 @dataclass(frozen=True)
-class Did:
+class CallRecord:
     """A changing call: the word of its event, and its reply. `place` counts the history's events up to and with its
     own."""
 
@@ -26,7 +26,7 @@ class Did:
 
 
 @dataclass(frozen=True)
-class Saw:
+class ReadRecord:
     """A read or a join, which saw the first `place` events: what the stage was settled with by them, if it was."""
 
     place: int
@@ -35,7 +35,7 @@ class Saw:
 
 
 @dataclass(frozen=True)
-class SawNow:
+class ReadNowRecord:
     """The same of what the stage gave then, `absent` where it wasn't settled."""
 
     place: int
@@ -44,7 +44,7 @@ class SawNow:
     now: Now
 
 
-Record = Union[Did, Saw, SawNow]
+Record = Union[CallRecord, ReadRecord, ReadNowRecord]
 
 
 class Closed(Handle):
@@ -56,8 +56,8 @@ class Closed(Handle):
 
     def words(self) -> List[int]:
         """The words of all events, in the one order in which they came."""
-        count = self._tell("cf_closed_events", c.c_uint16()).value
-        return [self._tell("cf_closed_word", c.c_uint64(), place).value for place in range(count)]
+        count = self._call_for("cf_closed_events", c.c_uint16()).value
+        return [self._call_for("cf_closed_word", c.c_uint64(), place).value for place in range(count)]
 
     def events(self) -> List[Event]:
         """The same events, read."""
@@ -65,20 +65,20 @@ class Closed(Handle):
 
     def records(self, caller: int) -> List[Record]:
         """What the caller of a number did and saw, in its order."""
-        count = self._tell("cf_closed_records", c.c_uint16(), caller).value
-        return [_record_out(self._tell("cf_closed_record", CRecord(), caller, at)) for at in range(count)]
+        count = self._call_for("cf_closed_records", c.c_uint16(), caller).value
+        return [_record_out(self._call_for("cf_closed_record", CRecord(), caller, at)) for at in range(count)]
 
     def graph(self) -> Graph:
         """The graph as all events leave it. History and records are gone then: what they are wanted for is read
         before."""
         with self._lock:
             self._call("cf_closed_graph")
-            return Graph._of(self._let_go())
+            return Graph._from_handle(self._let_go())
 
 
 def _record_out(record: CRecord) -> Record:
     if record.kind == DID:
-        return Did(record.place, record.word, reply_of(record.word, record.reply))
+        return CallRecord(record.place, record.word, reply_of(record.word, record.reply))
     if record.asked == ASKED_OUTCOME:
-        return Saw(record.place, record.stage, outcome_out(record.outcome))
-    return SawNow(record.place, record.stage, value_out(record.absent), now_out(record.now))
+        return ReadRecord(record.place, record.stage, outcome_out(record.outcome))
+    return ReadNowRecord(record.place, record.stage, value_out(record.absent), now_out(record.now))

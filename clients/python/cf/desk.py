@@ -5,8 +5,8 @@ from typing import Iterable, Optional, Tuple
 
 from ._library import CDeskSizes, CHandle, CNow, COutcome, in_range
 from .closed import Closed
-from .graph import there, value_of
-from .handle import Calls, Handle
+from .graph import settled_outcome, value_of
+from .handle import GraphCalls, Handle
 from .plan import Plan
 from .values import Cancelled, Code, Fault, Misfit, Now, NowKind, Outcome, Refused, Value, given_in, now_out, outcome_out, value_in
 
@@ -29,7 +29,7 @@ class _Own:
         self._lock.release()
 
 
-class Caller(Calls):
+class Caller(GraphCalls):
     """A caller of a desk. Only one thread at a time may use it: for a whole `with caller:` block, or outside of one
     for a single call. Meanwhile another thread's call on it raises `InUse`. What a caller does and reads is recorded,
     until it holds as many records as the desk was opened with: any more is refused as `PASS_FULL`, and a changing call
@@ -41,7 +41,7 @@ class Caller(Calls):
         super().__init__(handle)
         self._lock = _Own()
         self._desk = desk  # which it is of
-        self.number: int = self._tell("cf_desk_caller", c.c_uint8()).value
+        self.number: int = self._call_for("cf_desk_caller", c.c_uint8()).value
 
     def __enter__(self) -> "Caller":
         self._lock.__enter__()
@@ -63,16 +63,16 @@ class Caller(Calls):
 
     def read(self, stage: int) -> Optional[Outcome]:
         """What a stage is settled with, if it is, after a look at all that is there."""
-        return outcome_out(self._tell("cf_desk_read", COutcome(), stage))
+        return outcome_out(self._call_for("cf_desk_read", COutcome(), stage))
 
     def read_now(self, stage: int, absent: Value = None) -> Now:
         """What a stage gives at present, `absent` where it isn't settled, after a look."""
-        return now_out(self._tell("cf_desk_read_now", CNow(), stage, value_in(absent)))
+        return now_out(self._call_for("cf_desk_read_now", CNow(), stage, value_in(absent)))
 
     def join(self, stage: int, looks: int = 1) -> Now:
         """Looks until the stage is settled, at most so many times, and tells what it gives then. The last look is
         recorded. Other threads of Python run meanwhile."""
-        return now_out(self._tell("cf_desk_join", CNow(), stage, looks))
+        return now_out(self._call_for("cf_desk_join", CNow(), stage, looks))
 
     def meet(self, other: "Caller") -> None:
         """Lets two callers of one desk, both in this thread's hands, see the longer of what either has seen.
@@ -84,13 +84,13 @@ class Caller(Calls):
             if other is not self:
                 self._call("cf_desk_meet", other._at)
 
-    def seen(self) -> int:
+    def events_seen(self) -> int:
         """How many events it has seen."""
-        return self._tell("cf_desk_seen", c.c_uint16()).value
+        return self._call_for("cf_desk_seen", c.c_uint16()).value
 
-    def left(self) -> int:
+    def records_left(self) -> int:
         """How many records it still takes."""
-        return self._tell("cf_desk_left", c.c_uint16()).value
+        return self._call_for("cf_desk_left", c.c_uint16()).value
 
     def future(self, stage: int) -> "SharedFuture":
         """A view of a stage by this caller."""
@@ -121,12 +121,12 @@ class SharedFuture:
 
     def exception(self, looks: int = 1) -> Optional[Fault]:
         """The stage's fault, or None. A stage that isn't settled after so many looks raises `InvalidStateError`."""
-        return there(self._outcome(looks), self.stage).fault
+        return settled_outcome(self._outcome(looks), self.stage).fault
 
     def result(self, looks: int = 1) -> Value:
         """The stage's value; its fault is raised. A stage that isn't settled after so many looks raises
         `InvalidStateError`."""
-        return value_of(there(self._outcome(looks), self.stage))
+        return value_of(settled_outcome(self._outcome(looks), self.stage))
 
     def _outcome(self, looks: int) -> Optional[Outcome]:
         if self._known is None and (looks <= 1 or self._caller.join(self.stage, looks).kind is not NowKind.ABSENT):

@@ -5,12 +5,12 @@ from typing import Iterable, Optional, Tuple
 
 from ._library import CHandle, CNow, COutcome, CReply
 from .events import reply_of
-from .handle import Calls
+from .handle import GraphCalls
 from .plan import Plan
 from .values import Cancelled, Fault, Now, Outcome, Reply, Value, given_in, now_out, outcome_out, value_in
 
 
-class Graph(Calls):
+class Graph(GraphCalls):
     """The graph of a plan, with room for so many stages that are attached later. Its claims and finishes are by a
     caller of a number, 0 to 255."""
 
@@ -22,28 +22,28 @@ class Graph(Calls):
         plan.build()._call("cf_graph_new", room, self._at)
 
     @classmethod
-    def _of(cls, handle: CHandle) -> "Graph":
+    def _from_handle(cls, handle: CHandle) -> "Graph":
         """A graph that stands behind a handle."""
         graph = cls.__new__(cls)
-        Calls.__init__(graph, handle)
+        GraphCalls.__init__(graph, handle)
         graph.who = 0
         return graph
 
     def outcome(self, stage: int) -> Optional[Outcome]:
         """What a stage is settled with, if it is."""
-        return outcome_out(self._tell("cf_get", COutcome(), stage))
+        return outcome_out(self._call_for("cf_get", COutcome(), stage))
 
     def get_now(self, stage: int, absent: Value = None) -> Now:
         """What a stage gives at present, `absent` where it isn't settled."""
-        return now_out(self._tell("cf_get_now", CNow(), stage, value_in(absent)))
+        return now_out(self._call_for("cf_get_now", CNow(), stage, value_in(absent)))
 
     def stages(self) -> int:
         """How many stages there are by now."""
-        return self._tell("cf_stages", c.c_uint16()).value
+        return self._call_for("cf_stages", c.c_uint16()).value
 
     def turns(self) -> int:
         """How many turns were taken since the graph was opened or last restarted."""
-        return self._tell("cf_turns", c.c_uint64()).value
+        return self._call_for("cf_turns", c.c_uint64()).value
 
     def future(self, stage: int) -> "Future":
         """A view of a stage."""
@@ -51,7 +51,7 @@ class Graph(Calls):
 
     def apply(self, word: int) -> Reply:
         """Does the event of a word, and gives its reply."""
-        return reply_of(word, self._tell("cf_apply", CReply(), word))
+        return reply_of(word, self._call_for("cf_apply", CReply(), word))
 
     def restart(self, given: Iterable[Tuple[int, Value]] = ()) -> None:
         """Starts again, as the graph was opened, and then completes these stages with their values: a request by a
@@ -63,9 +63,9 @@ class Graph(Calls):
         """The plan that the graph was opened of. They share its memory."""
         handle = CHandle()
         self._call("cf_plan_of", c.byref(handle))
-        return Plan._of(handle)
+        return Plan._from_handle(handle)
 
-    def _by(self) -> Tuple[int, ...]:
+    def _caller_arguments(self) -> Tuple[int, ...]:
         return (self.who,)
 
 
@@ -101,10 +101,10 @@ class Future:
         return self._graph.outcome(self.stage)
 
     def _settled(self) -> Outcome:
-        return there(self._outcome(), self.stage)
+        return settled_outcome(self._outcome(), self.stage)
 
 
-def there(outcome: Optional[Outcome], stage: int) -> Outcome:
+def settled_outcome(outcome: Optional[Outcome], stage: int) -> Outcome:
     """The outcome of a stage, which raises where there is none."""
     if outcome is None:
         raise InvalidStateError(f"stage {stage} isn't settled")

@@ -34,14 +34,14 @@ Function = Callable[..., Union[Value, Link]]
 if TYPE_CHECKING:
     from typing import Protocol
 
-    class Functions(Protocol):
+    class FunctionTable(Protocol):
         """The functions of stages, by their numbers."""
 
         def __getitem__(self, __number: int) -> Function:
             ...
 
 
-Told = TypeVar("Told")
+Filled = TypeVar("Filled")
 Self = TypeVar("Self", bound="Handle")
 
 
@@ -62,15 +62,15 @@ class Handle:
         with self._lock:
             check(getattr(library, name)(self._at, *arguments))
 
-    def _tell(self, name: str, told: Told, *arguments: object) -> Told:
+    def _call_for(self, name: str, told: Filled, *arguments: object) -> Filled:
         """Makes a call on the handle that tells something in this."""
         self._call(name, *arguments, c.byref(cast(Any, told)))
         return told
 
-    def _tell_number(self, name: str, *arguments: object) -> Optional[int]:
+    def _call_for_number(self, name: str, *arguments: object) -> Optional[int]:
         """Makes a call that tells a number, or that there is none."""
         try:
-            return self._tell(name, c.c_uint16(), *arguments).value
+            return self._call_for(name, c.c_uint16(), *arguments).value
         except Refused as refused:
             if refused.code == Code.NOTHING:
                 return None
@@ -101,7 +101,7 @@ def function_in(function: Optional[int]) -> int:
     return NO_FUNCTION if function is None else in_range(function, 0xFFFF)
 
 
-class Calls(Handle):
+class GraphCalls(Handle):
     """The calls that settle stages and do their work."""
 
     _prefix: str
@@ -126,11 +126,11 @@ class Calls(Handle):
 
     def claim(self, stage: int) -> ClaimReply:
         """Takes a ready stage, whose function is then to be called, and the stage to be finished."""
-        return claim_out(self._do("claim", *self._by(), stage))
+        return claim_out(self._do("claim", *self._caller_arguments(), stage))
 
     def finish(self, stage: int, answer: Answer = None) -> FinishReply:
         """Finishes a claimed stage with what its function answered: a value, `Thrown(code)`, or `Link(stage)`."""
-        return finish_out(self._do("finish_with", *self._by(), stage, c.byref(answer_in(answer))))
+        return finish_out(self._do("finish_with", *self._caller_arguments(), stage, c.byref(answer_in(answer))))
 
     def tick(self, now: int) -> Optional[int]:
         """Lets it be this moment: how many limits fired, or None where it is past."""
@@ -142,11 +142,11 @@ class Calls(Handle):
 
     def ready(self) -> Optional[int]:
         """The lowest stage that can be claimed, if one can."""
-        return self._tell_number(self._ready)
+        return self._call_for_number(self._ready)
 
     def function(self, stage: int) -> Optional[int]:
         """The number of a stage's function, if it has one."""
-        return self._tell_number(self._prefix + "function", stage)
+        return self._call_for_number(self._prefix + "function", stage)
 
     def next(self, task: Optional[Task] = None, answer: Answer = None) -> Optional[Task]:
         """One step of a caller's loop in one call: finishes the stage of a task, if there is one, with what its
@@ -157,12 +157,12 @@ class Calls(Handle):
         with self._lock:
             code: int = Code.LOST
             while code == Code.LOST:  # the task is finished, and another caller was first
-                code = getattr(library, self._prefix + "next")(self._at, *self._by(), c.byref(told))
+                code = getattr(library, self._prefix + "next")(self._at, *self._caller_arguments(), c.byref(told))
         if code != Code.NOTHING:
             check(code)
         return task_out(told)
 
-    def work(self, functions: "Functions", most: Optional[int] = None) -> int:
+    def work(self, functions: "FunctionTable", most: Optional[int] = None) -> int:
         """Claims ready stages, the lowest first, calls their functions, which stand at their numbers, and finishes
         them, until none is ready, or so many were called: how many. A function that raises anything but `Thrown`, or
         isn't there, ends it, and its stage stays claimed."""
@@ -177,12 +177,12 @@ class Calls(Handle):
             self.finish(task.stage, answer)
         return calls
 
-    def _by(self) -> Tuple[int, ...]:
+    def _caller_arguments(self) -> Tuple[int, ...]:
         """What a claim and a finish name their caller by."""
         return ()
 
     def _do(self, name: str, *arguments: object) -> CReply:
-        return self._tell(self._prefix + name, CReply(), *arguments)
+        return self._call_for(self._prefix + name, CReply(), *arguments)
 
 
 def answer_of(function: Function, args: Args) -> Answer:

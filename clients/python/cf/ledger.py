@@ -29,14 +29,14 @@ class StageState(NamedTuple):
     outcome: Optional[Outcome]
 
 
-class Applied(NamedTuple):
+class EventResult(NamedTuple):
     """What an event was answered, and the stages whose state it changed, rising, as they are then."""
 
     reply: Reply
     news: List[StageState]
 
 
-class Stepped(NamedTuple):
+class StepResult(NamedTuple):
     """What a step did: the place of its first word, the words of the finish and of the claim, where there are such,
     what the finish was answered, the stages that it changed, rising, as they are now, and what was claimed."""
 
@@ -69,16 +69,16 @@ class Ledger(Handle):
             raise
         return ledger
 
-    def apply(self, word: int) -> Applied:
+    def apply(self, word: int) -> EventResult:
         """Does the event of a word and writes it behind the others. Where there is no room for the stage that it
         attaches, `Refused` has the code NO_ROOM, and `grow` makes some."""
         with self._lock:
             room = self.stages() + 1
             reply, news, count = CReply(), (CNews * room)(), c.c_size_t()
             self._call("cf_ledger_apply", word, c.byref(reply), news, room, c.byref(count))
-        return Applied(reply_of(word, reply), [_stage_out(told.stage, told.now) for told in news[: count.value]])
+        return EventResult(reply_of(word, reply), [_stage_out(told.stage, told.now) for told in news[: count.value]])
 
-    def step(self, who: int, task: Optional[Task] = None, answer: Answer = None, first: int = 0) -> Stepped:
+    def step(self, who: int, task: Optional[Task] = None, answer: Answer = None, first: int = 0) -> StepResult:
         """One step of a caller's loop in one call: finishes the stage of a task with what its function answered, and
         claims the lowest ready stage from a number on, if there is one. Both are words that are written. `Refused`
         has NOT_HELD where this caller has no open claim of the task's stage, NO_STAGE where that isn't there, and
@@ -91,7 +91,7 @@ class Ledger(Handle):
             code = library.cf_ledger_step(self._at, c.byref(step), c.byref(told), news, room, c.byref(count))
             if code != Code.NOTHING:
                 check(code)
-        return Stepped(
+        return StepResult(
             step.place,
             step.finish or None,
             step.claim or None,
@@ -115,7 +115,7 @@ class Ledger(Handle):
         """Starts again, as the ledger was opened: no word is written then, and all of its room is free."""
         self._call("cf_ledger_restart")
 
-    def do(self, event: Event) -> Applied:
+    def do(self, event: Event) -> EventResult:
         """Does an event."""
         return self.apply(word_of(event))
 
@@ -137,19 +137,19 @@ class Ledger(Handle):
 
     def ready(self, first: int = 0) -> Optional[int]:
         """The lowest stage from a number on that can be claimed, if one can."""
-        return self._tell_number("cf_ledger_ready", first)
+        return self._call_for_number("cf_ledger_ready", first)
 
     def stage(self, stage: int) -> StageState:
         """A stage as it is."""
-        return _stage_out(stage, self._tell("cf_ledger_stage", CStage(), stage))
+        return _stage_out(stage, self._call_for("cf_ledger_stage", CStage(), stage))
 
     def function(self, stage: int) -> Optional[int]:
         """The number of a stage's function, if it has one."""
-        return self._tell_number("cf_ledger_function", stage)
+        return self._call_for_number("cf_ledger_function", stage)
 
     def stages(self) -> int:
         """How many stages there are by now."""
-        return self._tell("cf_ledger_stages", c.c_uint16()).value
+        return self._call_for("cf_ledger_stages", c.c_uint16()).value
 
     def grow(self, more: int) -> None:
         """Makes room for so many stages more."""

@@ -19,7 +19,7 @@ class Plan(Handle):
         self._call("cf_builder_new", 0, 0)
 
     @classmethod
-    def _of(cls, handle: CHandle) -> "Plan":
+    def _from_handle(cls, handle: CHandle) -> "Plan":
         """A plan that stands behind a handle."""
         plan = cls.__new__(cls)
         Handle.__init__(plan, handle)
@@ -28,7 +28,7 @@ class Plan(Handle):
 
     def stage(self, form: Form, *of: int, function: Optional[int] = None) -> int:
         """Adds a stage to these sources, and tells its number."""
-        return self._tell("cf_builder_stage", c.c_uint16(), form, numbers(of), len(of), function_in(function)).value
+        return self._call_for("cf_builder_stage", c.c_uint16(), form, numbers(of), len(of), function_in(function)).value
 
     def timeout(self, stage: int, at: int) -> None:
         """The stage times out at this moment, if it isn't settled by then."""

@@ -85,11 +85,11 @@ def _serve(at: argparse.Namespace) -> int:
     """Shows the requests in a browser, until the process is told to end."""
     from .store.web.server import Server
     from .store.web.wording import TEXTS
-    from .store.worker import told_to_end
-    from .worker import reached
+    from .store.worker import end_signal
+    from .worker import connect_when_reached
 
     logging.basicConfig(level=logging.WARNING, format="%(asctime)s %(name)s %(message)s")
-    ends = told_to_end()
+    ends = end_signal()
     cf_look = shutil.which(at.cf_look or "cf_look")
     try:
         if at.cf_look and cf_look is None:
@@ -97,7 +97,7 @@ def _serve(at: argparse.Namespace) -> int:
         token = at.token_file.read_text(encoding="utf-8").strip() if at.token_file else None
         if token is not None and len(token) < LEAST_TOKEN:
             raise ValueError(f"{at.token_file}: a token has {LEAST_TOKEN} characters at least")
-        store = reached(at.store, ends, may_create=False)
+        store = connect_when_reached(at.store, ends, may_create=False)
         if store is None:
             return 0
         title = _without_secrets(at.store)
@@ -170,7 +170,7 @@ def _state(view: RowView) -> str:
     """What a request waits for."""
     kinds = {IS_READY: "ready", IS_CLAIMED: "at work", IS_PENDING: "pending"}
     waits = [(kind, number) for kind in (IS_CLAIMED, IS_READY, IS_PENDING) for number, is_now in enumerate(view.kinds) if is_now == kind]
-    named = [f"{number} {view.said(number)['name']} {kinds[kind]}" for kind, number in waits[:MOST_NAMED]]
+    named = [f"{number} {view.definition(number)['name']} {kinds[kind]}" for kind, number in waits[:MOST_NAMED]]
     return f"{len(waits)} of {len(view.kinds)} stages wait{': ' if named else ''}{', '.join(named)}"
 
 
@@ -190,10 +190,10 @@ def _end(store: Store, at: argparse.Namespace) -> List[str]:
         for stage in range(len(view.kinds)):
 
             def decide(view: RowView, stage: int = stage) -> Any:
-                return None if view.is_settled(stage) else [(CANCEL << 56 | view.who << 48 | stage << 36, None)]
+                return None if view.is_settled(stage) else [(CANCEL << 56 | view.caller_number << 48 | stage << 36, None)]
 
             many += view.act(decide)[0] is not None
-        words = view.seen
+        words = view.words_seen
     store.end(at.name, words, found.number)
     if at.name in store.ends():
         raise StoreError(f"request {at.name!r} isn't closed: words were put meanwhile")

@@ -7,17 +7,17 @@ from typing import Sequence
 from ._library import library
 from .handle import Handle
 from .plan import Plan
-from .texts import _told
+from .texts import _code_and_text
 from .values import check
 
 
-class Said(enum.IntEnum):
+class Subject(enum.IntEnum):
     """What texts are said of."""
 
     NAME, STAGES, CALLERS, VALUES, ERRORS = range(5)
 
 
-class Kind(enum.IntEnum):
+class TaleKind(enum.IntEnum):
     """As what a tale is told."""
 
     LINES, LINE, ACCOUNT, SCRIPT, REPORT = range(5)
@@ -33,20 +33,20 @@ class Tale(Handle):
         super().__init__()
         plan.build()._call("cf_history_new", room, (c.c_uint64 * len(words))(*words), len(words), self._at)
 
-    def time(self, times: Sequence[int]) -> None:
+    def set_times(self, times: Sequence[int]) -> None:
         """Says when each event was done, in nanoseconds from any moment on."""
         self._call("cf_history_times", (c.c_uint64 * len(times))(*times), len(times))
 
-    def say(self, what: Said, texts: Sequence[str]) -> None:
+    def set_texts(self, what: Subject, texts: Sequence[str]) -> None:
         """Says what things are called, or stand for, by their numbers. Half of a surrogate pair, which UTF-8 hasn't, is
         told as JSON writes it."""
         parts = [text.encode("utf-8", "backslashreplace") for text in texts]
         ends = list(itertools.accumulate(map(len, parts)))
         self._call("cf_history_say", what, b"".join(parts), sum(map(len, parts)), (c.c_size_t * len(ends))(*ends), len(ends))
 
-    def text(self, kind: Kind) -> str:
+    def text(self, kind: TaleKind) -> str:
         """All of it."""
         with self._lock:
-            code, text = _told(lambda *room: library.cf_history_text(self._at, kind, *room))
+            code, text = _code_and_text(lambda *room: library.cf_history_text(self._at, kind, *room))
         check(code)
         return text

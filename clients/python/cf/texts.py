@@ -17,7 +17,7 @@ class BadScript(Refused):
         self.args = (line,)
 
 
-def _told(call: Callable[..., int]) -> Tuple[int, str]:
+def _code_and_text(call: Callable[..., int]) -> Tuple[int, str]:
     """The code of a call, and the text that it tells. It is made again where that needs more room."""
     room = ROOM
     while True:
@@ -31,7 +31,7 @@ def _told(call: Callable[..., int]) -> Tuple[int, str]:
 def run_script(script: Union[bytes, str]) -> str:
     """Runs a script, as `cf run` does, and gives its report. `BadScript` where it has a fault."""
     given = script.encode() if isinstance(script, str) else bytes(script)
-    code, text = _told(lambda *room: library.cf_run_script(given, len(given), *room))
+    code, text = _code_and_text(lambda *room: library.cf_run_script(given, len(given), *room))
     if code == Code.BAD_SCRIPT:
         raise BadScript(text.rstrip("\n"))
     check(code)
@@ -40,13 +40,13 @@ def run_script(script: Union[bytes, str]) -> str:
 
 def outcome_text(outcome: Optional[Outcome]) -> str:
     """The text of an outcome, as reports have it."""
-    code, text = _told(lambda *room: library.cf_text_of_outcome(c.byref(outcome_in(outcome)), *room))
+    code, text = _code_and_text(lambda *room: library.cf_text_of_outcome(c.byref(outcome_in(outcome)), *room))
     check(code)
     return text
 
 
 def code_text(code: int) -> str:
     """The name of a code."""
-    told, text = _told(lambda *room: library.cf_code_text(code, *room))
+    told, text = _code_and_text(lambda *room: library.cf_code_text(code, *room))
     check(told)
     return text

@@ -22,10 +22,10 @@ from typing import List, Optional
 
 from .service import spans_to
 from .store import Carrier, Functions, Json, Store, StoreError, Unknown, Worker, connect
-from .store.worker import told_to_end
+from .store.worker import end_signal
 
 
-def reached(address: str, ends: threading.Event, may_create: bool = True) -> Optional[Store]:
+def connect_when_reached(address: str, ends: threading.Event, may_create: bool = True) -> Optional[Store]:
     """The store, once it can be reached; None where the process is told to end before. It is made as `connect` says."""
     while not ends.is_set():
         try:
@@ -57,15 +57,15 @@ def main(words: Optional[List[str]] = None) -> int:
     parser.add_argument("modules", nargs="+")
     at = parser.parse_args(words)
     logging.basicConfig(level=logging.WARNING, format="%(asctime)s %(name)s %(message)s")
-    functions, ends = Functions(), told_to_end()
+    functions, ends = Functions(), end_signal()
     contexts: List[Carrier] = []
     sys.path.insert(0, "")
     try:
         for name in at.modules:
-            functions.add(Functions.of_module(name))
+            functions.add(Functions.from_module(name))
             contexts += getattr(sys.modules[name], "contexts", [])
         codec = codec_of(at.codec) if at.codec else None
-        store = reached(at.store, ends)
+        store = connect_when_reached(at.store, ends)
         if store is None:
             return 0
         worker = Worker(store, functions, at.threads, lease=at.lease, contexts=contexts, codec=codec, on_end=spans_to(at.spans) if at.spans else None)

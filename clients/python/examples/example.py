@@ -63,7 +63,7 @@ def four_threads() -> None:
         print("total", first.future(total).result(), "handled", first.future(handled).result())
         print("attached gives", first.join(attached).get())
         told = judge(plan, desk.close())
-        print("caller 0 did", [type(record.event).__name__ for record in told if isinstance(record, cf.Did)])
+        print("caller 0 did", [type(record.event).__name__ for record in told if isinstance(record, cf.CallRecord)])
 
 
 def judge(plan, closed):
@@ -71,7 +71,7 @@ def judge(plan, closed):
     of the first."""
     words, records = closed.words(), [closed.records(caller) for caller in range(closed.callers)]
     print("first event", cf.event_of(words[0]), "with the word", words[0])
-    told = {record.place: record for own in records for record in own if isinstance(record, cf.Did)}
+    told = {record.place: record for own in records for record in own if isinstance(record, cf.CallRecord)}
     with cf.Graph(plan, room=1) as again, closed.graph() as graph:
         same = [(word, again.apply(word)) == (told[k].word, told[k].reply) for k, word in enumerate(words, start=1)]
         print("each reply comes again", all(same))

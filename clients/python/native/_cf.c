@@ -54,7 +54,7 @@ static const uint8_t lanes[MOST]; /* each stage is of the only lane */
 /* Names that are looked for often, each by its place in a table. */
 enum { PUT, REFUSE, HAND_ON, SHOW, LOG, RELAY, LINK, CONDITION, RESULT, NAMES };
 static const char *const names[NAMES] = {
-    "put", "_refuse_ready", "_hand_on_chosen", "_show", "_log", "relay", "_link", "_new_condition", "_awaited_result"};
+    "put", "_refuse_ready", "_give_chosen_turns", "_show", "_log", "relay", "_link", "_new_condition", "_awaited_result"};
 
 /* What one interpreter has of this. */
 typedef struct {
@@ -786,10 +786,10 @@ static PyObject *Request_change(Request *self, PyObject *const *args, Py_ssize_t
   return PyBool_FromLong(reply.answer);
 }
 
-/* _takes(stage, other, code): if a stage times out from now on, or has a bad answer, it has that by another one or with
+/* _set_failure_source(stage, other, code): if a stage times out from now on, or has a bad answer, it has that by another one or with
  * an exception, whose numbers these are; -1 stands for neither. */
 static PyObject *Request_takes(Request *self, PyObject *const *args, Py_ssize_t n) {
-  if (n != 3) return PyErr_Format(PyExc_TypeError, "_takes takes 3");
+  if (n != 3) return PyErr_Format(PyExc_TypeError, "_set_failure_source takes 3");
   int stage = stage_in(self, args[0]);
   long other = stage < 0 ? -1 : PyLong_AsLong(args[1]), code = PyErr_Occurred() ? -1 : PyLong_AsLong(args[2]);
   if (PyErr_Occurred()) return NULL;
@@ -805,7 +805,7 @@ static PyObject *Request_takes(Request *self, PyObject *const *args, Py_ssize_t 
   Py_RETURN_NONE;
 }
 
-/* _code(error), _keep(value): the number of an exception or a value. */
+/* _add_error(error), _add_value(value): the number of an exception or a value. */
 static PyObject *number_of(PyObject *list, PyObject *thing) {
   uint32_t number;
   return kept(list, thing, &number) ? NULL : PyLong_FromUnsignedLong(number);
@@ -818,7 +818,7 @@ static PyObject *error_told(Request *self, uint16_t i, cf_outcome got) {
   PyObject *given = error_out(self, got, got.kind == CF_VALUE ? 0 : error_of_sources(self, i, got.kind));
   if (given != Py_None || got.kind == CF_VALUE) return given;
   Py_DECREF(given);
-  return PyObject_CallMethod((PyObject *)self, "_made", "I", got.kind);
+  return PyObject_CallMethod((PyObject *)self, "_default_error", "I", got.kind);
 }
 
 /* What a granted claim lets be called. */
@@ -996,7 +996,7 @@ static PyObject *Request_end(Request *self, PyObject *const *args, Py_ssize_t n)
   return NULL;
 }
 
-/* _take_told(): tells what others' calls of the machine have left to be told, and hands on what is ready. */
+/* _announce_settled(): tells what others' calls of the machine have left to be told, and hands on what is ready. */
 static PyObject *Request_take_told(Request *self, PyObject *Py_UNUSED(none)) {
   News news = NO_NEWS;
   take_told(self, &news);
@@ -1025,12 +1025,12 @@ static PyObject *Request_at(Request *self, void *Py_UNUSED(which)) {
 static PyMethodDef request_methods[] = {{"_attach", FAST(Request_attach), METH_FASTCALL, "Attaches a stage."},
     {"_attach_all", FAST(Request_attach_all), METH_FASTCALL, "Attaches stages that wait for all of some, or for one."},
     {"_change", FAST(Request_change), METH_FASTCALL, "Completes, fails or cancels a stage."},
-    {"_takes", FAST(Request_takes), METH_FASTCALL, "Lets a stage have another one's exception, or this one."},
-    {"_code", (PyCFunction)Request_code, METH_O, "The number of an exception."},
-    {"_keep", (PyCFunction)Request_keep, METH_O, "The number of a value."}, {"_run", (PyCFunction)Request_run, METH_O, "Uses a turn."},
+    {"_set_failure_source", FAST(Request_takes), METH_FASTCALL, "Lets a stage have another one's exception, or this one."},
+    {"_add_error", (PyCFunction)Request_code, METH_O, "The number of an exception."},
+    {"_add_value", (PyCFunction)Request_keep, METH_O, "The number of a value."}, {"_run", (PyCFunction)Request_run, METH_O, "Uses a turn."},
     {"_work", (PyCFunction)Request_work, METH_O, "Runs all that is ready."},
     {"_begin", FAST(Request_begin), METH_FASTCALL, "Claims a stage."}, {"_end", FAST(Request_end), METH_FASTCALL, "Finishes a stage."},
-    {"_take_told", (PyCFunction)Request_take_told, METH_NOARGS, "Tells what is left to be told."},
+    {"_announce_settled", (PyCFunction)Request_take_told, METH_NOARGS, "Tells what is left to be told."},
     {"_stage", (PyCFunction)Request_stage, METH_O, "The future of a stage."}, {NULL}};
 static PyMemberDef request_members[] = {{"_works", T_OBJECT, offsetof(Request, works), READONLY, NULL},
     {"_names", T_OBJECT, offsetof(Request, names), READONLY, NULL}, {"_values", T_OBJECT, offsetof(Request, values), READONLY, NULL},
@@ -1201,7 +1201,7 @@ static PyObject *pool_of(PyObject *Py_UNUSED(module), PyObject *args) {
   return made;
 }
 
-static PyObject *be(PyObject *Py_UNUSED(module), PyObject *who) {
+static PyObject *set_caller(PyObject *Py_UNUSED(module), PyObject *who) {
   int number = caller_in(who);
   if (number < 0) return NULL;
   caller = number;
@@ -1214,7 +1214,7 @@ static PyObject *forked(PyObject *module, PyObject *Py_UNUSED(none)) {
 }
 
 static PyMethodDef module_methods[] = {{"pool", (PyCFunction)pool_of, METH_VARARGS, "Keeps machines of a plan."},
-    {"be", (PyCFunction)be, METH_O, "Gives this thread the number of a caller."},
+    {"set_caller", (PyCFunction)set_caller, METH_O, "Gives this thread the number of a caller."},
     {"forked", (PyCFunction)forked, METH_NOARGS, "Tells that this process is a fork's child."}, {NULL}};
 
 /* A type of the module, which has it by its name, too. */

@@ -101,7 +101,7 @@ class Steps(unittest.TestCase):
             told = ledger.do(event)
             self.assertEqual((told.reply, len(told.news)), (True, ledger.stages()))
             self.assertEqual([(type(it.outcome.fault), it.outcome.fault.wrapped) for it in told.news], [(fault, it.number > 0) for it in told.news])
-            self.assertEqual((ledger.do(event), self.stages(cf.Ledger.of_words(self.plan, [word]))), (cf.Applied(False, []), self.stages(ledger)))
+            self.assertEqual((ledger.do(event), self.stages(cf.Ledger.of_words(self.plan, [word]))), (cf.EventResult(False, []), self.stages(ledger)))
         for wrong in (0, 3, 6):
             with self.assertRaises(cf.Refused) as refused:
                 cf.word_of(FailAs(WORKER, 0, wrong))

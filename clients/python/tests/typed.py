@@ -143,10 +143,10 @@ if TYPE_CHECKING:
 
     def ledgers(plan: cf.Plan) -> None:
         typed_ledger = cf.Ledger(plan, room=2)
-        told: cf.Stepped = typed_ledger.step(3)
+        told: cf.StepResult = typed_ledger.step(3)
         task: Optional[cf.Task] = told.task
         args: Tuple[Any, ...] = () if task is None else task.args
-        again: cf.Stepped = typed_ledger.step(3, task, cf.Thrown(4), first=1)
+        again: cf.StepResult = typed_ledger.step(3, task, cf.Thrown(4), first=1)
         news: List[cf.StageState] = again.news
         typed_ledger.apply_all([1, 2])
         typed_ledger.restart()

@@ -1,8 +1,8 @@
-"""What the two cores have in common: plans, and what of a request's machine isn't hot, by ctypes.
+"""Code of both cores: plans, and the rarer calls of a request's machine, by ctypes.
 
-The library is called by `PyDLL`, which keeps the interpreter's lock: to let it go and take it again costs more than a
-call does. Stages that a call here settles aren't told by it. They stay to be told, in their order, by the core's next
-call of the machine, whichever thread makes it.
+The library is called by `PyDLL`, which keeps the interpreter's lock: releasing it and taking it again costs more than a
+call. A call here doesn't return the stages that it settles. The core's next call of the machine, in any thread, returns
+them in their order.
 """
 import ctypes as c
 import os
@@ -24,26 +24,26 @@ if TYPE_CHECKING:
 _loaded = c.PyDLL(path)
 
 
-def bound(name: str) -> Callable[..., int]:
-    """A call of the library that is given addresses."""
+def library_call(name: str) -> Callable[..., int]:
+    """A call of the library that takes addresses."""
     call: Any = getattr(_loaded, name)
     by_value = (*_HIGHEST, CValue)
     call.argtypes, call.restype = [it if it in by_value else c.c_void_p for it in CALLS[name]], c.c_uint32
     return call  # type: ignore[no-any-return]
 
 
-_follow, _refuse, _next = bound("cf_request_follow"), bound("cf_request_refuse"), bound("cf_request_next")
-_deadline, _pass = bound("cf_request_deadline"), bound("cf_request_pass")
-_ready, _words = bound("cf_ledger_ready"), bound("cf_ledger_words")
+_follow, _refuse, _next = library_call("cf_request_follow"), library_call("cf_request_refuse"), library_call("cf_request_next")
+_deadline, _pass = library_call("cf_request_deadline"), library_call("cf_request_pass")
+_ready, _words = library_call("cf_ledger_ready"), library_call("cf_ledger_words")
 _ROW, _MANY = CTold(), c.c_size_t()
 _untold, _many = c.addressof(_ROW), c.addressof(_MANY)  # of a row without room, and of a number that isn't looked at
 
 
 class PlanCore:
-    """The plan of a flow. Of each stage the form, the numbers of its sources, its function or None, and its name.
+    """The plan of a flow.
 
     Attributes:
-        rows: What it was made of.
+        rows: Form, sources, function and name of each stage.
         at: The address of its handle.
         most: How many stages a request of it may have: two edges are set aside for each that is attached."""
 
@@ -70,8 +70,8 @@ if hasattr(os, "register_at_fork"):
 
 
 class Limit:
-    """What a stage gets when its time is over: a value, which gets this number then (below 0 where it is None), or an
-    exception that tells how many seconds it had."""
+    """The time limit of a stage: it gives a value of this number (below 0 for None), or an exception that names the
+    seconds."""
 
     __slots__ = ("stage", "gives", "is_value", "number", "moment")
 
@@ -79,13 +79,13 @@ class Limit:
         self.stage, self.gives, self.is_value, self.number, self.moment = stage, gives, is_value, number, -1
 
     def release(self, _settled: object = None) -> None:
-        """The stage is settled, and needs it no more. Nothing is rung for a request that has none left."""
+        """Forgets the limit of a settled stage, and with the last one the request's alarm."""
         request = self.stage.request
         limits = request._limits
         if limits.get(self.moment) is self:
             del limits[self.moment]
         if not limits:
-            request._works.clock.drop(request)
+            request._works.clock.drop_alarm(request)
 
 
 class Limits(Dict[int, Limit]):
@@ -94,7 +94,7 @@ class Limits(Dict[int, Limit]):
 
     Attributes:
         passed: The moment up to which time has passed.
-        alarm: The clock's own: when the request is to be rung, and the alarm's number."""
+        alarm: The clock's own: the moment and the number of the request's alarm."""
 
     passed, alarm = -1, (0, -1)
 
@@ -112,12 +112,12 @@ class Limits(Dict[int, Limit]):
                 del self[moment]
 
 
-class Calls:
+class MachineCalls:
     """Calls of a request's machine.
 
     Attributes:
         _stage_class: The class of its futures.
-        _chooses: Whether its class says whose turn is next, by a `_take_turn` and a `_hand_on_chosen` of its own."""
+        _chooses: Whether its class chooses the next turn, by its own `_take_turn` and `_give_chosen_turns`."""
 
     _stage_class: "ClassVar[Type[Stage[Any]]]"
 
@@ -139,28 +139,28 @@ class Calls:
         def _at(self) -> int:
             """The address of the machine's handle."""
 
-        def _code(self, error: BaseException) -> int:
+        def _add_error(self, error: BaseException) -> int:
             ...
 
-        def _keep(self, value: Any) -> int:
+        def _add_value(self, value: Any) -> int:
             ...
 
         def _attach_all(self, form: int, of: bytes, name: str) -> "Stage[Any]":
             ...
 
-        def _takes(self, stage: int, other: int, code: int) -> None:
+        def _set_failure_source(self, stage: int, other: int, code: int) -> None:
             ...
 
         def _link(self, stage: "Stage[Any]", who: int, to: Any) -> bool:
             ...
 
-        def _take_told(self) -> None:
+        def _announce_settled(self) -> None:
             ...
 
         def _take_turn(self) -> bool:
             ...
 
-        def _hand_on_chosen(self) -> None:
+        def _give_chosen_turns(self) -> None:
             ...
 
     else:
@@ -177,65 +177,65 @@ class Calls:
         raise RequestFull("a request has at most 4,096 stages")
 
     def _gather(self, form: int, of: "Sequence[Stage[Any]]", name: str) -> "Stage[Any]":
-        """The last of the stages that wait for all of these, or for one of them."""
+        """Attaches stages that wait for all of these, or for one of them, and returns the last."""
         if any(source.request is not self for source in of):
             raise TypeError("no stage of this request")
         return self._attach_all(form, array("H", [source.number for source in of]).tobytes(), name)
 
     @staticmethod
-    def _made(kind: int) -> BaseException:
-        """The exception of a stage that ended so, where nobody gave one."""
+    def _default_error(kind: int) -> BaseException:
+        """A new exception for an outcome of this kind."""
         return CancelledError() if kind == CANCELLED else TimeoutError() if kind == TIMED_OUT else BadAnswer()
 
     def _as_first_raised(self, error: BaseException) -> BaseException:
-        """An exception of a stage, with the traceback that it had when it was raised here for the first time. Each raise
-        adds to that, and all that fail by it share it."""
+        """Resets an exception's traceback to what it was at its first raise here: each raise adds frames, and stages
+        share the exception."""
         if not hasattr(self, "_traces"):
             self._traces = {}
         return error.with_traceback(self._traces.setdefault(id(error), (error, error.__traceback__))[1])
 
     def _open(self) -> None:
-        """Hands on what is ready in a plan from the start."""
-        self._take_told()
+        """Gives turns to the stages of a plan that are ready from the start."""
+        self._announce_settled()
 
     def _follow_within(self, relay: int, number: int) -> None:
         """Lets a relay end as another stage of this request does."""
         with self._lock:
-            self._takes(relay, number, -1)
+            self._set_failure_source(relay, number, -1)
             check(_follow(self._at, relay, number, _untold, 0, _many))
-        self._take_told()
+        self._announce_settled()
 
     def _fail_ready(self, error: BaseException) -> None:
-        """Nobody runs this request's functions any more."""
+        """Fails all ready stages: nobody runs this request's functions any more."""
         with self._lock:
-            self._take_back()
-            check(_refuse(self._at, 0, self._code(error), _untold, 0, _many))
+            self._take_turns_back()
+            check(_refuse(self._at, 0, self._add_error(error), _untold, 0, _many))
 
     def _refuse_ready(self) -> None:
-        """Nobody took a turn."""
+        """Fails all ready stages, since nobody took a turn."""
         self._fail_ready(self._works.refusal())
 
     def _refuse(self, error: BaseException) -> None:
-        """The same, and tells the stages that fail."""
+        """The same, and announces the stages that fail."""
         self._fail_ready(error)
-        self._take_told()
+        self._announce_settled()
 
-    def _take_back(self) -> None:
+    def _take_turns_back(self) -> None:
         """Takes all turns back. The lock is held."""
         self._turns, self._counts = 0, True
 
     def _limit(self, stage: "Stage[Any]", seconds: float, gives: Any, is_value: bool) -> int:
-        """Sets a deadline of a stage, after so many seconds, by which it gets a value or times out. Its moment. Where
-        it raises, nothing has changed."""
+        """Sets a deadline of a stage, after so many seconds, by which it gets a value or times out. Returns the moment.
+        If it raises, nothing has changed."""
         clock: Any = self._works.clock
         limits, number = self._limits if hasattr(self, "_limits") else self._first_limits(), -1
         if is_value and gives is not None:
             with self._lock:
-                number = self._keep(None)
+                number = self._add_value(None)
         limit = Limit(stage, gives if is_value else seconds, is_value, number)
         limits.add(limit, clock.now(self) + int(min(max(seconds, 0), _LONGEST) * 1e9))
         try:
-            clock.ask(self, limit.moment)
+            clock.ask_for_alarm(self, limit.moment)
             stage.add_done_callback(limit.release)
             given = _NIL if number < 0 else CValue(1, number)
             with self._lock:
@@ -246,15 +246,15 @@ class Calls:
         return limit.moment
 
     def _first_limits(self) -> Limits:
-        """Those of this request, of which two threads may ask at once."""
+        """Makes the limits of this request, once: two threads may ask at the same time."""
         with _first:
             if not hasattr(self, "_limits"):
                 self._limits = Limits()
             return self._limits
 
     def _ring(self, now: int) -> None:
-        """Time passes up to a moment. The machine settles what is due; what that gets is at hand before. Then the clock
-        is asked for the next limit."""
+        """Lets time pass up to a moment. Provides the values of the limits that are due, has the machine settle their
+        stages, and asks the clock for the next alarm."""
         limits = self._limits
         now = limits.passed = max(now, limits.passed)
         due = sorted(moment for moment in list(limits) if moment <= now)
@@ -264,20 +264,20 @@ class Calls:
             self._counts = True
             check(_pass(self._at, now, _untold, 0, _many))
         try:
-            self._take_told()
+            self._announce_settled()
         finally:
             left, clock = list(limits), cast(Any, self._works.clock)
             if left:
-                clock.ask(self, min(left))
+                clock.ask_for_alarm(self, min(left))
 
     def _hand_out(self, limit: Optional[Limit]) -> None:
-        """Puts what a limit gives where its stage takes it from. The lock is held."""
+        """Provides the value or the exception of a limit for its stage. The lock is held."""
         if limit is not None and not limit.is_value:
-            self._takes(limit.stage.number, -1, self._code(limit.stage._timed_out(limit.gives)))
+            self._set_failure_source(limit.stage.number, -1, self._add_error(limit.stage._timed_out(limit.gives)))
         elif limit is not None and limit.number >= 0:
             self._values[limit.number] = limit.gives
 
-    def _ready_ones(self) -> List[int]:
+    def _ready_stages(self) -> List[int]:
         """The stages whose functions are ready."""
         found: List[int] = []
         told = c.c_uint16()
@@ -290,13 +290,13 @@ class Calls:
                 found.append(told.value)
 
     def _leave_to_parent(self) -> None:
-        """In a child of `fork`, where no thread of the parent's is: what these were to run is claimed here by nobody.
-        The lock is held."""
-        step, task, code = CRequestStep(), CTask(), 0 if self._works.is_parents else int(Code.NOTHING)
+        """In a child of `fork`: claims all ready stages for nobody, since the parent's threads run them. The lock is
+        held."""
+        step, task, code = CRequestStep(), CTask(), 0 if self._works.belongs_to_parent else int(Code.NOTHING)
         while not code:
             code = _next(self._at, c.addressof(step), c.addressof(task), _untold, 0)
             task.held = 0
-        self._take_back()
+        self._take_turns_back()
 
     def _words(self) -> "array[int]":
         """All words. The lock is held."""
@@ -307,8 +307,8 @@ class Calls:
         return words[: many.value]
 
     def _facts(self) -> "Tuple[array[int], array[int], List[str], List[Any], List[BaseException]]":
-        """The words, the time of each in nanoseconds, and names, values and errors. What the machine does to a relay by
-        itself is told as the relay's."""
+        """The words, the time of each in nanoseconds, and names, values and errors. Words that the machine did to a
+        relay by itself have RELAY as caller."""
         with self._lock:
             words, times = self._words(), array("q", bytes(self._times))
             del words[len(times) :]

@@ -9,15 +9,15 @@ from itertools import accumulate, chain
 from typing import TYPE_CHECKING, Any, Callable, ContextManager, Optional, Sequence, Tuple
 
 from .. import _cf
-from .._cf import be
+from .._cf import set_caller
 from . import _machine
-from ._machine import Calls
+from ._machine import MachineCalls
 from .words import PENDING, VALUE
 
 if TYPE_CHECKING:
     from .request import Works
 
-__all__ = ["PlanCore", "RequestCore", "StageCore", "be"]
+__all__ = ["PlanCore", "RequestCore", "StageCore", "set_caller"]
 
 
 class PlanCore(_machine.PlanCore):
@@ -39,7 +39,7 @@ class PlanCore(_machine.PlanCore):
 _nothing = PlanCore([])
 
 
-class RequestCore(_cf.RequestCore, Calls):
+class RequestCore(_cf.RequestCore, MachineCalls):
     """A request of the module, which has no lock of its own."""
 
     __slots__ = ("_title", "_keeps", "_plan", "__weakref__")
@@ -119,7 +119,7 @@ class StageCore(_cf.StageCore):
         """Its exception, the same each time."""
         given: Optional[BaseException] = self._given
         if given is None:
-            given = self.__dict__.setdefault("_made", self.request._made(self._ended))
+            given = self.__dict__.setdefault("_default_error", self.request._default_error(self._ended))
         return given
 
     @property

@@ -1,17 +1,15 @@
 """Requests and stages in Python, over the library's requests by ctypes. `native/_cf.c` has the same, by the same names.
 
 A request is a machine of the library (docs/REQUEST.md) with one lock. Each change is a word that the machine does under
-it, and what the machine tells of it, its stages show under the same lock: nobody reads what lies behind what he was
-told. Callbacks and threads are told once the lock is free. The only locks that are taken under it are those of stages'
-conditions, and under these no request's lock is ever taken.
+the lock, and the settled stages show their outcomes under it, too. Callbacks run once the lock is free. Only the
+conditions of stages are locked under it, and no request's lock is taken under these.
 
-A fork waits until no request is being changed, so that the child has whole ones, with locks that its own threads give
-back.
+A fork waits until no request is being changed. So the child has whole requests, whose locks its own thread releases.
 
-What no lock can help is what comes up between two bytecodes: a signal's handler that raises in the main thread, or a
+No lock guards against code that runs between two bytecodes: a signal's handler that raises in the main thread, or a
 `__del__` that calls the very request in which it was collected, as within concurrent.futures. The C module has neither.
 
-All that a request's calls are given and tell stands in one block of memory, which is read as numbers.
+The arguments and results of a request's calls are in one block of memory, which is read as numbers.
 """
 import ctypes as c
 import os
@@ -25,7 +23,7 @@ from typing import TYPE_CHECKING, Any, Callable, Dict, List, Optional, Sequence,
 
 from .._library import CApplied, CGathering, CHandle, CRequestSizes, CRequestStep, CStage, CTask, CTold
 from ..values import Code, Form, Refused, check
-from ._machine import Calls, PlanCore, bound
+from ._machine import MachineCalls, PlanCore, library_call
 from .words import (
     ANSWER,
     ARGS,
@@ -50,17 +48,17 @@ from .words import (
     THROWS,
     VALUE,
     RequestFull,
-    Told,
+    OutcomeNumbers,
 )
 
 if TYPE_CHECKING:
     from .request import Works
     from .stage import Stage
 
-_new, _apply, _next = bound("cf_request_new"), bound("cf_request_apply"), bound("cf_request_next")
-_gather, _more, _ready = bound("cf_request_gather"), bound("cf_request_told"), bound("cf_request_ready")
-_grow, _count_words, _stage = bound("cf_request_grow"), bound("cf_ledger_words"), bound("cf_ledger_stage")
-_free = bound("cf_free")
+_new, _apply, _next = library_call("cf_request_new"), library_call("cf_request_apply"), library_call("cf_request_next")
+_gather, _more, _ready = library_call("cf_request_gather"), library_call("cf_request_told"), library_call("cf_request_ready")
+_grow, _count_words, _stage = library_call("cf_request_grow"), library_call("cf_ledger_words"), library_call("cf_ledger_stage")
+_free = library_call("cf_free")
 _free.restype = None  # type: ignore[attr-defined]
 _nothing = PlanCore([])
 
@@ -68,7 +66,7 @@ ROWS = 16  # how many stages a call tells at once
 
 
 class _Block(c.Structure):
-    """A request's handle, and what its calls are given and tell."""
+    """A request's handle, and the arguments and results of its calls."""
 
     _fields_ = [
         ("handle", CHandle),
@@ -99,22 +97,22 @@ _REPLY_ARGS = _REPLY + ARGS
 _TOLD_FAULT_ALONE = (Form.EXCEPTIONALLY, Form.EXCEPTIONALLY_COMPOSE)
 
 
-class _Here(threading.local):
-    """Which caller this thread is."""
+class _ThreadCaller(threading.local):
+    """This thread's number as a caller."""
 
     who = 0
 
 
-_here = _Here()
+_here = _ThreadCaller()
 
 
-def be(who: int) -> None:
-    """Gives this thread the number of a caller."""
+def set_caller(who: int) -> None:
+    """Sets this thread's number as a caller."""
     _here.who = who
 
 
-class _Parents:
-    """The lock of a request that a thread of the parent's kept while it forked: in the child nobody gives it back."""
+class _LockOfParent:
+    """Replaces the lock that a thread of the parent held at the fork: in the child nobody releases it."""
 
     def __enter__(self) -> None:
         raise RuntimeError("this request was being changed as its process forked: it is the parent's alone")
@@ -130,8 +128,8 @@ class _Parents:
 
 
 class _Forks:
-    """Lets a fork wait until no request is being changed, and none is made. Stages know by `count` which process's
-    threads wait for them."""
+    """Makes a fork wait until no request is being changed or made. Stages know by `count` which process their waiters
+    belong to."""
 
     SECONDS = 10.0  # one that is changed for longer is the parent's alone
 
@@ -157,7 +155,7 @@ class _Forks:
     def in_child(self) -> None:
         self.count += 1
         for request in self._left:
-            request._lock = _Parents()
+            request._lock = _LockOfParent()
         for request in self._held:
             request._leave_to_parent()
         self._let_go()
@@ -174,10 +172,10 @@ if hasattr(os, "register_at_fork"):
     os.register_at_fork(before=_forks.before, after_in_parent=_forks.in_parent, after_in_child=_forks.in_child)
 
 
-class _Row:
-    """What stands beside a stage. Its future is held until it is settled, and may be missing of a planned one. `kind`
-    is that of its outcome. `error` is the number of the exception of a stage that timed out or has a bad answer, which
-    its outcome doesn't tell; None where nobody gave one. `of` are the stages that it may have that from."""
+class _StageRow:
+    """What a request keeps of a stage. `stage` is its future until it is settled; a planned stage may have none. `kind`
+    is the kind of its outcome. `error` is the number of the exception of a stage that timed out or has a bad answer, or
+    None. `of` are the stages that it may inherit that exception from."""
 
     __slots__ = ("form", "of", "stage", "kind", "error", "running")
 
@@ -250,15 +248,15 @@ class StageCore(_Future):
         self._guard = (_forks.count, condition)
 
     def _own_condition(self) -> threading.Condition:
-        """In a child of `fork`: those who wait by the old one, or had it at that moment, are the parent's threads."""
+        """Makes a new condition in a child of `fork`: the waiters of the old one are the parent's threads."""
         with _forks.gate:
             if self._guard[0] != _forks.count:
                 self._waiters = []
                 self._condition = threading.Condition()
             return self._guard[1]
 
-    def _publish(self, told: Told) -> None:
-        """Shows what the machine has told. The request's lock is held, or nobody else has the stage."""
+    def _publish(self, told: OutcomeNumbers) -> None:
+        """Publishes an outcome and wakes the waiters. The request's lock is held, or nobody else has the stage."""
         with self._condition:
             if told.kind == VALUE:
                 self._result, self._state, note = self.request._value(told.some, told.number), FINISHED, "add_result"
@@ -272,8 +270,8 @@ class StageCore(_Future):
             self._condition.notify_all()
 
     def _let_go(self) -> Optional[BaseException]:
-        """Calls the callbacks, and forgets them and what it needs no more. The first that was raised and isn't an
-        `Exception`."""
+        """Calls the callbacks and forgets them, the function and its arguments. Returns the first raised error that
+        isn't an `Exception`."""
         callbacks, self._done_callbacks, first = self._done_callbacks, [], None
         for call in callbacks:
             try:
@@ -288,7 +286,7 @@ class StageCore(_Future):
 
 
 class _Machine:
-    """A request of the library, and what its calls are given and tell; one thread at a time has it, and frees it."""
+    """A request of the library, with the block of its calls. One thread at a time uses it."""
 
     __slots__ = ("_memory", "numbers", "at", "applied", "told", "count")
 
@@ -301,8 +299,8 @@ class _Machine:
         of = plan or _nothing
         check(_new(of.at, at + 4 * _SIZES, bytes(len(of.rows) + 1), len(of.rows), at))
 
-    def more(self) -> int:
-        """Has further stages told, and says how many there are."""
+    def load_more_settled(self) -> int:
+        """Loads the next settled stages, and returns how many are left with them."""
         check(_more(self.at, self.told, ROWS, self.count))
         return self.numbers[_COUNT]
 
@@ -323,22 +321,21 @@ class _Machine:
         check(_count_words(self.at, place, self.told, 0, self.count))
         return self.numbers[_COUNT]
 
-    def outcome(self, stage: int) -> Told:
-        """What a stage came to."""
+    def outcome(self, stage: int) -> OutcomeNumbers:
+        """The outcome of a stage."""
         check(_stage(self.at, stage, self.at + 4 * (_OUTCOME - 3)))
-        return Told(*self.numbers[_OUTCOME : _OUTCOME + 5])
+        return OutcomeNumbers(*self.numbers[_OUTCOME : _OUTCOME + 5])
 
 
 _Begun = Tuple["Stage[Any]", Callable[..., Any], Tuple[Any, ...], Dict[str, Any]]
 _Claimed = Tuple[int, Callable[..., Any], Tuple[Any, ...], Dict[str, Any]]
 
 
-class RequestCore(Calls):
+class RequestCore(MachineCalls):
     """A machine, and the objects that it knows by numbers.
 
-    The works are given the request once for each function that becomes ready. That is a turn: who has it runs whichever
-    function is the lowest ready one then. There are as many turns as ready functions, or more. One for which no
-    function is left does nothing."""
+    The works get the request once for each function that becomes ready. That is a turn: its owner runs the lowest ready
+    function. There are at least as many turns as ready functions. A turn without a function does nothing."""
 
     __slots__ = (
         "_works",
@@ -361,8 +358,8 @@ class RequestCore(Calls):
 
     def __init__(self, works: "Works", title: str, room: int, keeps: object = None, plan: Optional[PlanCore] = None) -> None:
         self._works, self._title, self._keeps, self._plan = works, title, keeps, plan
-        self._lock: "threading.Lock | _Parents" = threading.Lock()
-        self._rows: List[_Row] = [] if plan is None else [_Row(form, of) for form, of, _, _ in plan.rows]
+        self._lock: "threading.Lock | _LockOfParent" = threading.Lock()
+        self._rows: List[_StageRow] = [] if plan is None else [_StageRow(form, of) for form, of, _, _ in plan.rows]
         self._names: List[str] = [] if plan is None else [name for _, _, _, name in plan.rows]
         self._most = (plan or _nothing).most
         self._machine = _Machine(plan, min(max(room, plan is None), self._most - len(self._rows)))
@@ -370,14 +367,14 @@ class RequestCore(Calls):
         self._errors: List[BaseException] = []
         self._times, self._counts, self._turns, self._chooses = array("q"), False, 0, False
         if plan is not None:
-            self._note(self._machine.more(), [])
+            self._take_in_settled(self._machine.load_more_settled(), [])
         _forks.add(self)
 
     def __del__(self) -> None:
         self._let_go()
 
     def _let_go(self) -> None:
-        """Nobody has the request any more. (A `__del__` of the machine's own might come before one that asks it.)"""
+        """Frees the machine. (A `__del__` of the machine itself might run before one that still calls it.)"""
         if _free is not None and hasattr(self, "_machine"):
             _free(self._machine.at)
 
@@ -396,19 +393,18 @@ class RequestCore(Calls):
     # One call of the machine, under the lock.
 
     def _apply(self, word: int, settled: "List[Stage[Any]]", error: Optional[int] = None) -> memoryview:
-        """Does a word, and shows what came of it. `error` is the number of the exception that its stage times out with
-        by it, or has a bad answer with; it has not if the word came too late, though it may be told now what it was
-        settled with before."""
+        """Does a word, and shows the stages that it settled. `error` is the number of the exception for a stage that the
+        word times out or gives a bad answer. A word that comes too late doesn't set it."""
         machine = self._machine
         code = _apply(machine.at, word, 0, machine.applied, machine.told, ROWS)
         if code:
             check(code)
-        self._stamp(1)
+        self._note_times(1)
         if machine.numbers[_APPLIED_TOLD]:
-            self._note(machine.numbers[_APPLIED_TOLD], settled, word >> 36 & 4095, error if machine.numbers[_REPLY + ANSWER] else None)
+            self._take_in_settled(machine.numbers[_APPLIED_TOLD], settled, word >> 36 & 4095, error if machine.numbers[_REPLY + ANSWER] else None)
         return machine.numbers
 
-    def _add(self, row: _Row, name: str, word: int, settled: "List[Stage[Any]]") -> None:
+    def _attach_row(self, row: _StageRow, name: str, word: int, settled: "List[Stage[Any]]") -> None:
         """Attaches the stage of a row by a word."""
         machine = self._machine
         code = _apply(machine.at, word, 0, machine.applied, machine.told, ROWS)
@@ -418,24 +414,24 @@ class RequestCore(Calls):
         check(code)
         self._rows.append(row)
         self._names.append(name)
-        self._stamp(1)
-        self._note(machine.numbers[_APPLIED_TOLD], settled)
+        self._note_times(1)
+        self._take_in_settled(machine.numbers[_APPLIED_TOLD], settled)
 
-    def _stamp(self, words: int) -> None:
-        """Writes down when these words were done. They are counted where the machine may have done some by itself."""
+    def _note_times(self, words: int) -> None:
+        """Notes the time of these words. Counts them first where the machine may have done some by itself."""
         if self._counts:
             words = self._machine.words_from(len(self._times))
         self._times.extend([monotonic_ns()] * words)
 
-    def _note(self, many: int, settled: "List[Stage[Any]]", own: int = -1, error: Optional[int] = None) -> None:
-        """Shows the stages that are told, and adds them to those that were settled. The stage `own` has the exception
-        of this number, where it is one; one that its limit lets time out has its own. Those behind take that of their
+    def _take_in_settled(self, many: int, settled: "List[Stage[Any]]", own: int = -1, error: Optional[int] = None) -> None:
+        """Publishes the outcomes of these stages, and adds the stages to `settled`. The stage `own` gets the exception of
+        the number `error`. A stage that timed out by its limit has one already. The stages behind inherit it from their
         first source that has one."""
         machine, rows = self._machine, self._rows
         while many:
             told = machine.numbers[_TOLD : _TOLD + _TOLD_NUMBERS * min(many, ROWS)].tolist()
             for k in range(0, len(told), _TOLD_NUMBERS):
-                number, outcome = told[k] & 0xFFFF, Told(*told[k + 1 : k + 6])
+                number, outcome = told[k] & 0xFFFF, OutcomeNumbers(*told[k + 1 : k + 6])
                 row = rows[number]
                 row.kind = outcome.kind
                 if outcome.kind not in FAILURES:
@@ -448,14 +444,14 @@ class RequestCore(Calls):
                 if stage is not None:
                     stage._publish(outcome)
                     settled.append(stage)
-            many = machine.more() if many > ROWS else 0
+            many = machine.load_more_settled() if many > ROWS else 0
 
-    def _error_of(self, row: _Row, kind: int) -> Optional[int]:
-        """What the row of the first source says of an exception whose outcome is of this kind."""
+    def _error_of(self, row: _StageRow, kind: int) -> Optional[int]:
+        """The number of the exception of the first source with an outcome of this kind."""
         return next((self._rows[source].error for source in row.of if self._rows[source].kind == kind), None)
 
     @staticmethod
-    def _show_running(row: _Row) -> None:
+    def _show_running(row: _StageRow) -> None:
         row.running = True
         if row.stage is not None:
             with row.stage._condition:
@@ -473,7 +469,7 @@ class RequestCore(Calls):
         kwargs: Optional[Dict[str, Any]],
         name: str,
     ) -> "Stage[Any]":
-        """A stage more, to at most two sources of this request. Below a composing one stands its relay, a source."""
+        """Attaches a stage to at most two sources of this request, and below a composing stage its relay, a source."""
         of = [source.number for source in (first, second) if source is not None]
         if any(source is not None and source.request is not self for source in (first, second)):
             raise TypeError("no stage of this request")
@@ -486,21 +482,21 @@ class RequestCore(Calls):
             if len(self._rows) + 1 + composes > self._most:
                 self._refuse_stage()
             if composes:
-                self._add(_Row(Form.SOURCE, ()), "relay", ATTACH << 56 | _here.who << 48, settled)
+                self._attach_row(_StageRow(Form.SOURCE, ()), "relay", ATTACH << 56 | _here.who << 48, settled)
             stage.number = number = len(self._rows)
             sources = (*of, 0, 0)
-            self._add(
-                _Row(form, of, stage),
+            self._attach_row(
+                _StageRow(form, of, stage),
                 name,
                 ATTACH << 56 | _here.who << 48 | sources[0] << 36 | len(of) << 32 | form << 24 | sources[1] << 12 | (0 if call is None else number),
                 settled,
             )
             is_ready = call is not None and (not of or any(self._rows[source].kind for source in of))
-        self._tell(settled, is_ready)
+        self._announce(settled, is_ready)
         return stage
 
     def _attach_all(self, form: int, of: bytes, name: str) -> "Stage[Any]":
-        """The last of the stages that wait for all stages of these numbers, or for one of them."""
+        """Attaches stages that wait for all stages of these numbers, or for one of them, and returns the last."""
         numbers = array("H", of)
         many = max(len(numbers) - 1, 1)
         stage: "Stage[Any]" = self._stage_class(self, 0)
@@ -519,33 +515,35 @@ class RequestCore(Calls):
                     machine.grow()
             check(code)
             stage.number = at + many - 1
-            self._rows += [_Row(form, numbers[:2] if not k else (at + k - 1, numbers[k + 1]), stage if k == many - 1 else None) for k in range(many)]
+            self._rows += [
+                _StageRow(form, numbers[:2] if not k else (at + k - 1, numbers[k + 1]), stage if k == many - 1 else None) for k in range(many)
+            ]
             self._names += [name] * many
-            self._stamp(many)
-            self._note(machine.numbers[_GATHERED_TOLD], settled)
-        self._tell(settled, True)
+            self._note_times(many)
+            self._take_in_settled(machine.numbers[_GATHERED_TOLD], settled)
+        self._announce(settled, True)
         return stage
 
     def _change(self, kind: int, who: int, stage: "int | Stage[Any]", given: Any) -> bool:
-        """Completes, fails or cancels a stage, and says whether that did it. `given` is the value, the exception, or
-        True where a stage whose function runs isn't to be cancelled."""
+        """Completes, fails or cancels a stage, and returns whether this call settled it. `given` is the value or the
+        exception; of a cancel it says whether to leave a running function alone."""
         number = stage if isinstance(stage, int) else stage.number
         settled: "List[Stage[Any]]" = []
         with self._lock:
             row = self._rows[number]
             if kind == CANCEL and given is True and row.running and row.kind == PENDING:
                 return False
-            error = self._code(given) if kind >= FAIL_AS else None
-            low = self._number(given) if kind == COMPLETE else self._code(given) if kind == FAIL else int(kind == FAIL_BADLY) << 32
+            error = self._add_error(given) if kind >= FAIL_AS else None
+            low = self._value_bits(given) if kind == COMPLETE else self._add_error(given) if kind == FAIL else int(kind == FAIL_BADLY) << 32
             kind = min(kind, FAIL_AS)
             numbers = self._apply(kind << 56 | (_here.who if who == THIS_THREAD else who) << 48 | number << 36 | low, settled, error)
             did, is_ready = numbers[_REPLY + ANSWER], bool(numbers[_APPLIED_TOLD])
-        self._tell(settled, is_ready)
+        self._announce(settled, is_ready)
         return bool(did)
 
-    def _takes(self, stage: int, other: int, code: int) -> None:
-        """If a stage times out from now on, or has a bad answer, it has that by another one or with an exception, whose
-        numbers these are; -1 stands for neither. The lock is held."""
+    def _set_failure_source(self, stage: int, other: int, code: int) -> None:
+        """Says where a stage's exception comes from if it times out or has a bad answer: from the stage `other`, or the
+        exception of the number `code`; -1 stands for neither. The lock is held."""
         row, self._counts = self._rows[stage], True
         if other >= 0:
             row.of = (other,)
@@ -559,7 +557,7 @@ class RequestCore(Calls):
             pass
 
     def _work(self, who: int) -> None:
-        """Runs all that is ready, and all that gets ready by that, where nobody else does."""
+        """Runs all ready functions in this thread, until none is ready."""
         is_over, first = False, None
         while not is_over:
             try:
@@ -572,7 +570,7 @@ class RequestCore(Calls):
             raise first
 
     def _step(self, who: int) -> Optional[bool]:
-        """Runs the lowest ready function. Whether another turn is this thread's; None where none is ready."""
+        """Runs the lowest ready function. Returns whether this thread has another turn; None where none is ready."""
         claimed = self._claim(who)
         if claimed is None:
             return None
@@ -591,13 +589,13 @@ class RequestCore(Calls):
         return goes_on
 
     def _begin(self, who: int, stage: "Optional[Stage[Any]]" = None) -> Optional[_Begun]:
-        """Claims this stage, or the lowest that is ready. The stage, and its function with its arguments; None where
-        nobody is to call one."""
+        """Claims this stage, or the lowest ready one. Returns the stage and its function with arguments, or None where
+        there is no function to call."""
         claimed = self._claim(who, stage)
         return None if claimed is None else (self._stage(claimed[0]), *claimed[1:])
 
     def _claim(self, who: int, stage: "Optional[Stage[Any]]" = None) -> Optional[_Claimed]:
-        """The same, with the stage's number. So the future of a planned stage is made once somebody asks for it."""
+        """The same, with the stage's number: the future of a planned stage is made only on demand."""
         with self._lock:
             machine = self._machine
             self._turns -= self._turns > 0
@@ -608,7 +606,7 @@ class RequestCore(Calls):
                 if code == Code.NOTHING:
                     return None
                 check(code)
-                self._stamp(1)
+                self._note_times(1)
                 number, at = machine.numbers[_TASK_STAGE] & 0xFFFF, _TASK_ARGS
             elif self._apply(CLAIM << 56 | who << 48 | stage.number << 36, [])[_REPLY + ANSWER]:
                 return None
@@ -624,14 +622,15 @@ class RequestCore(Calls):
         return None if self._plan is None or number >= len(self._plan.rows) else self._plan.rows[number][2]
 
     def _end(self, stage: "Stage[Any]", who: int, kind: int, given: Any) -> bool:
-        """Finishes a stage with a value, an exception or a lower stage, and says whether a turn is left to the
-        caller."""
+        """Finishes a stage with a value, an exception or a lower stage. Returns whether the caller has another turn."""
         return self._finish(stage.number, who, kind, given)
 
     def _finish(self, number: int, who: int, kind: int, given: Any) -> bool:
         settled: "List[Stage[Any]]" = []
         with self._lock:
-            low = self._number(given) if kind == GIVES else THROWS << 32 | self._code(given) if kind == THROWS else LINKS << 32 | given.number
+            low = (
+                self._value_bits(given) if kind == GIVES else THROWS << 32 | self._add_error(given) if kind == THROWS else LINKS << 32 | given.number
+            )
             if kind == LINKS:
                 self._rows[number].of = (given.number,)  # it takes that one's exception
             numbers = self._apply(FINISH << 56 | who << 48 | number << 36 | low, settled)
@@ -640,7 +639,7 @@ class RequestCore(Calls):
             self._turns += left > 0
         goes_on = is_ready and self._take_turn() if self._chooses else left > 0
         try:
-            self._tell(settled, is_ready if self._chooses else left > 1)
+            self._announce(settled, is_ready if self._chooses else left > 1)
         except BaseException:
             if goes_on:
                 self._hand_over()
@@ -648,20 +647,20 @@ class RequestCore(Calls):
         return goes_on
 
     def _hand_over(self) -> None:
-        """Gives somebody else the turn of this thread, which leaves."""
+        """Hands this thread's turn back to the works."""
         if self._chooses:
             self._works.put(self)  # type: ignore[arg-type]
             return
         with self._lock:
             self._turns = max(self._turns - 1, 0)
-        self._take_told()
+        self._announce_settled()
 
     def _stage(self, number: int) -> "Stage[Any]":
-        """The future of a stage that may have none yet."""
+        """The future of a stage, made where there is none yet."""
         with self._lock:
-            return self._known(number)
+            return self._stage_under_lock(number)
 
-    def _known(self, number: int) -> "Stage[Any]":
+    def _stage_under_lock(self, number: int) -> "Stage[Any]":
         """The same, under the lock."""
         row = self._rows[number]
         if row.stage is not None:
@@ -677,8 +676,8 @@ class RequestCore(Calls):
         return stage
 
     def _set_running(self, stage: "Stage[Any]") -> Optional[bool]:
-        """Lets nobody cancel it any more but `abandon`. None where it is settled otherwise or runs, else whether it
-        does now."""
+        """Marks a stage as running, so that only `abandon` cancels it. False where it is cancelled, None where it runs
+        already or is settled otherwise."""
         with self._lock:
             row = self._rows[stage.number]
             if stage._state == CANCELLED_AND_NOTIFIED:
@@ -690,35 +689,35 @@ class RequestCore(Calls):
 
     # Turns.
 
-    def _take_told(self) -> None:
-        """Tells what others' calls of the machine have left to be told, and hands on what is ready."""
+    def _announce_settled(self) -> None:
+        """Announces stages that other calls of the machine have settled, and gives turns to ready ones."""
         settled: "List[Stage[Any]]" = []
         with self._lock:
-            self._stamp(0)
-            self._note(self._machine.more(), settled)
-        self._tell(settled, True)
+            self._note_times(0)
+            self._take_in_settled(self._machine.load_more_settled(), settled)
+        self._announce(settled, True)
 
-    def _tell(self, settled: "List[Stage[Any]]", is_ready: bool) -> None:
-        """Gives turns for functions that may be ready, and calls the callbacks of the stages that were settled. The
-        lock is free. What a callback raises is raised once all is told."""
+    def _announce(self, settled: "List[Stage[Any]]", is_ready: bool) -> None:
+        """Gives turns for functions that may be ready, and calls the callbacks of settled stages. The lock is free. The
+        first error of a callback is raised at the end."""
         first: Optional[BaseException] = None
         if is_ready and self._chooses:
-            self._hand_on_chosen()
+            self._give_chosen_turns()
         elif is_ready:
-            first = self._hand_on()
+            first = self._give_turns()
         if self._counts:
             with self._lock:
-                self._stamp(0)
-                self._note(self._machine.more(), settled)
+                self._note_times(0)
+                self._take_in_settled(self._machine.load_more_settled(), settled)
         for stage in settled:
             raised_by_callback = stage._let_go()
             first = first or raised_by_callback
         if first is not None:
             raise first
 
-    def _hand_on(self) -> Optional[BaseException]:
-        """Gives a turn for each function that is ready and has none. If nobody takes it, those that are ready fail.
-        What was raised meanwhile."""
+    def _give_turns(self) -> Optional[BaseException]:
+        """Gives a turn for each ready function that has none. If nobody takes it, the ready stages fail. Returns the
+        first error raised meanwhile."""
         with self._lock:
             turns = max(self._machine.ready() - self._turns, 0)
             self._turns += turns
@@ -742,10 +741,10 @@ class RequestCore(Calls):
     # What the machine's numbers stand for. The lock is held.
 
     def _args(self, number: int, at: int) -> Tuple[Any, ...]:
-        """What a function is called with, as it is told from a place on."""
+        """The arguments of a function, read from this place of the block."""
         kind, first_some, first, second_some, second, *outcome = self._machine.numbers[at : at + 10]
         if kind == GOT:
-            got, row = Told(*outcome), self._rows[number]
+            got, row = OutcomeNumbers(*outcome), self._rows[number]
             error = None if got.kind == VALUE else self._error(got, self._error_of(row, got.kind))
             if row.form in _TOLD_FAULT_ALONE:
                 return (error,)
@@ -755,20 +754,19 @@ class RequestCore(Calls):
     def _value(self, some: int, number: int) -> Any:
         return self._values[number] if some else None
 
-    def _error(self, told: Told, error: Optional[int]) -> BaseException:
-        """The exception of an outcome that is a fault, with the number that stands beside it. Where there is none,
-        it is made."""
+    def _error(self, told: OutcomeNumbers, error: Optional[int]) -> BaseException:
+        """The exception of a fault: that of its code, else that of the number `error`, else a new one."""
         number = told.code if told.kind == THROWN else error
-        return self._made(told.kind) if number is None else self._errors[number]
+        return self._default_error(told.kind) if number is None else self._errors[number]
 
-    def _number(self, value: Any) -> int:
+    def _value_bits(self, value: Any) -> int:
         """The last bits of a word that gives a value."""
-        return 0 if value is None else GIVES << 32 | self._keep(value)
+        return 0 if value is None else GIVES << 32 | self._add_value(value)
 
-    def _keep(self, value: Any) -> int:
+    def _add_value(self, value: Any) -> int:
         self._values.append(value)
         return len(self._values) - 1
 
-    def _code(self, error: BaseException) -> int:
+    def _add_error(self, error: BaseException) -> int:
         self._errors.append(error)
         return len(self._errors) - 1

@@ -63,14 +63,14 @@ class ContextRequest(Request):
             error.__traceback__ = error.__traceback__ and error.__traceback__.tb_next
             goes_on = self._end(stage, who, THROWS, error)
         else:
-            goes_on = ended(stage, who, given)
+            goes_on = finish_stage(stage, who, given)
             del given
         # An error's traceback may keep this frame, which is to keep nothing.
         del stage, begun, call, args, kwargs
         return goes_on
 
 
-def ended(stage: "Stage[Any]", who: int, given: Any) -> bool:
+def finish_stage(stage: "Stage[Any]", who: int, given: Any) -> bool:
     """Finishes a stage with what its function gave, and says whether a turn is left to the caller."""
     if stage._form in COMPOSE_FORMS:
         return stage.request._link(stage, who, given)

@@ -97,7 +97,7 @@ class EndingRequest(ContextRequest):
         try:
             if self._ends.requests.pop(id(self), None) is not None:
                 history = History(self.name, self._plan, self._facts())
-                described = partial(history._described, getattr(self, "_describe", self._works.describe))
+                described = partial(history._with_descriptions, getattr(self, "_describe", self._works.describe))
                 self._ends.tell(described, self._context)
         except Exception:
             LOGGER.warning("the end of a request isn't told", exc_info=True)

@@ -94,11 +94,11 @@ class Step(Generic[T]):
             The last try. It passes on the value of an earlier one."""
         step, name = self, self.name
         for k in range(times):
-            step = self.flow._step(Form.EXCEPTIONALLY, (step,), Again(self.number), f"{name} again")
+            step = self.flow._step(Form.EXCEPTIONALLY, (step,), FurtherTry(self.number), f"{name} again")
         return step
 
 
-class Again:
+class FurtherTry:
     """A further try of a step whose worker is gone. Where no process can outlive another, none is: the exception
     stays."""
 

@@ -11,9 +11,9 @@ from .._library import CNews, CReply, CStage
 from ..events import Event, event_of
 from ..ledger import Ledger
 from ..plan import Plan
-from ..tale import Kind, Said, Tale
+from ..tale import TaleKind, Subject, Tale
 from ..values import Form
-from .words import BAD_ANSWER, CANCELLED, CLIENT, CLOCK, FIRST_WORKER, IS_SETTLED, RELAY, REPLY_NUMBERS, THROWN, TIMED_OUT, Told
+from .words import BAD_ANSWER, CANCELLED, CLIENT, CLOCK, FIRST_WORKER, IS_SETTLED, RELAY, REPLY_NUMBERS, THROWN, TIMED_OUT, OutcomeNumbers
 
 if TYPE_CHECKING:
     from typing import Protocol
@@ -34,7 +34,7 @@ CALLERS = {CLIENT: "caller", CLOCK: "clock", RELAY: "relay"}
 CAUSES = {CANCELLED: "cancelled", TIMED_OUT: "timed out", BAD_ANSWER: "a bad answer"}  # of faults without a code
 
 
-class Entry(NamedTuple):
+class HistoryEntry(NamedTuple):
     """One event of a history.
 
     Attributes:
@@ -50,7 +50,7 @@ class Entry(NamedTuple):
     word: int
     event: Event
     reply: Tuple[int, ...]
-    told: List[Tuple[int, Told]]
+    told: List[Tuple[int, OutcomeNumbers]]
 
 
 def describe_all(value: object) -> str:
@@ -88,7 +88,7 @@ def _escape(character: str) -> str:
     return "".join(f"\\u{code[k:k + 4]}" for k in range(0, len(code), 4))
 
 
-def _by(describe: Describe, value: object) -> str:
+def _description_by(describe: Describe, value: object) -> str:
     """What a function tells of a value; `?` where it raises."""
     try:
         text = describe(value)
@@ -134,40 +134,40 @@ class History:
         self._times = _numbers("q", times)
         self._since = time.time_ns() - time.monotonic_ns()  # when the clock of the times was at 0
         self._opened: Optional[int] = None  # in nanoseconds since 1970, where the first event doesn't tell it
-        self._entries: Optional[List[Entry]] = None
-        self._start: Optional[List[Tuple[int, Told]]] = None
+        self._entries: Optional[List[HistoryEntry]] = None
+        self._start: Optional[List[Tuple[int, OutcomeNumbers]]] = None
 
-    def _described(self, describe: Describe) -> "History":
+    def _with_descriptions(self, describe: Describe) -> "History":
         """The same with what a function tells of values and exceptions. It is called here, and no lock is held."""
         if describe is not describe_all:
-            self.values = [_by(describe, it) for it in self.values]
-            self.errors = [_by(describe, it) for it in self.errors]
+            self.values = [_description_by(describe, it) for it in self.values]
+            self.errors = [_description_by(describe, it) for it in self.errors]
             self._describe = describe
         return self
 
-    def entries(self) -> List[Entry]:
+    def entries(self) -> List[HistoryEntry]:
         """All events, as named tuples. The library does the words again for these."""
         if self._entries is None:
             first = self._times[0] if self._times else 0
             self._entries = [
-                Entry(k + 1, (self._times[k] - first) / 1e9, word, event_of(word), reply, told)
-                for k, (word, (reply, told)) in enumerate(zip(self.words, self._done_again()))
+                HistoryEntry(k + 1, (self._times[k] - first) / 1e9, word, event_of(word), reply, told)
+                for k, (word, (reply, told)) in enumerate(zip(self.words, self._replayed()))
             ]
         return self._entries
 
-    def start(self) -> List[Tuple[int, Told]]:
+    def settled_at_start(self) -> List[Tuple[int, OutcomeNumbers]]:
         """Which stages are settled before the first event, and with what."""
         if self._start is None:
             with Ledger(self._plan()) as ledger:
-                stages = [(number, ledger._tell("cf_ledger_stage", CStage(), number)) for number in range(len(self.planned))]
+                stages = [(number, ledger._call_for("cf_ledger_stage", CStage(), number)) for number in range(len(self.planned))]
             self._start = [(number, _outcome(it)) for number, it in stages if it.kind == IS_SETTLED]
         return self._start
 
-    def _done_again(self) -> Iterator[Tuple[Tuple[int, ...], List[Tuple[int, Told]]]]:
+    def _replayed(self) -> Iterator[Tuple[Tuple[int, ...], List[Tuple[int, OutcomeNumbers]]]]:
         """Of each word what it was answered, and which stages it settled."""
         reply, count, many = CReply(), c.c_size_t(), len(self.names)
         numbers, news = (c.c_uint32 * REPLY_NUMBERS).from_buffer(reply), (CNews * max(many, 1))()
-        settled = {number for number, _ in self.start()}
+        settled = {number for number, _ in self.settled_at_start()}
         with Ledger(self._plan(), many - len(self.planned)) as ledger:
             for word in self.words:
                 ledger._call("cf_ledger_apply", word, c.byref(reply), news, many, c.byref(count))
@@ -178,7 +178,7 @@ class History:
     # As texts, which the library tells.
 
     def __str__(self) -> str:
-        return self._as(Kind.LINES).rstrip("\n")
+        return self._text_as(TaleKind.LINES).rstrip("\n")
 
     def lines(self) -> List[str]:
         """A line that says how much happened; then a line for each event, and below it one for each stage that the event
@@ -187,7 +187,7 @@ class History:
 
     def line(self) -> str:
         """One line, for a log: how much happened, which stage failed first, and which one is open."""
-        return self._as(Kind.LINE)
+        return self._text_as(TaleKind.LINE)
 
     def sentences(self) -> List[Tuple[str, List[str]]]:
         """For each event its line, and the lines of the stages that it settled."""
@@ -196,28 +196,28 @@ class History:
 
     def account(self) -> str:
         """The events as a line of JSON, which `cf_look check` judges and `cf_look page` shows."""
-        return self._as(Kind.ACCOUNT).rstrip("\n")
+        return self._text_as(TaleKind.ACCOUNT).rstrip("\n")
 
     def script(self, most: Optional[int] = None) -> str:
         """The events as a line of JSON, which `cf run` does again, without your functions, and `cf_look dot` draws.
 
         Args:
             most: How many of the first events it has. By default all."""
-        return self._as(Kind.SCRIPT, most).rstrip("\n")
+        return self._text_as(TaleKind.SCRIPT, most).rstrip("\n")
 
     def report(self) -> str:
         """What `cf run` prints for the script: the replies, and what the stages end with."""
-        return self._as(Kind.REPORT)
+        return self._text_as(TaleKind.REPORT)
 
-    def _as(self, kind: Kind, most: Optional[int] = None) -> str:
+    def _text_as(self, kind: TaleKind, most: Optional[int] = None) -> str:
         with Tale(self._plan(), len(self.names) - len(self.planned), self.words[:most]) as tale:
-            if kind not in (Kind.SCRIPT, Kind.REPORT):
-                tale.time(self._clock())
-                tale.say(Said.NAME, [self.name])
-                tale.say(Said.STAGES, self.names)
-                tale.say(Said.CALLERS, self._callers())
-                tale.say(Said.VALUES, [self._text(value) for value in self.values])
-                tale.say(Said.ERRORS, [self._text(error) for error in self.errors])
+            if kind not in (TaleKind.SCRIPT, TaleKind.REPORT):
+                tale.set_times(self._clock())
+                tale.set_texts(Subject.NAME, [self.name])
+                tale.set_texts(Subject.STAGES, self.names)
+                tale.set_texts(Subject.CALLERS, self._callers())
+                tale.set_texts(Subject.VALUES, [self._text(value) for value in self.values])
+                tale.set_texts(Subject.ERRORS, [self._text(error) for error in self.errors])
             return tale.text(kind)
 
     def _plan(self) -> Plan:
@@ -232,7 +232,7 @@ class History:
 
     def _callers(self) -> List[str]:
         """What the callers are called, up to the last that did something."""
-        return [self.caller(who) for who in range(1 + max((word >> 48 & 0xFF for word in self.words), default=-1))]
+        return [self.caller_name(who) for who in range(1 + max((word >> 48 & 0xFF for word in self.words), default=-1))]
 
     def page(self, program: str = "cf_look") -> str:
         """A page for a browser, which loads nothing. The program cf_look makes it of the account.
@@ -248,25 +248,25 @@ class History:
 
     # What things are called.
 
-    def caller(self, who: int) -> str:
+    def caller_name(self, who: int) -> str:
         """The name of a caller, by its number."""
         return CALLERS.get(who, f"worker {who - FIRST_WORKER}")
 
-    def error(self, code: int) -> str:
+    def error_text(self, code: int) -> str:
         """The text of an exception, by its code."""
         return escaped(self._text(self.errors[code]))
 
-    def fault(self, told: Told) -> str:
+    def fault_text(self, told: OutcomeNumbers) -> str:
         """What a stage failed with."""
-        return self.error(told.code) if told.kind == THROWN else CAUSES[told.kind]
+        return self.error_text(told.code) if told.kind == THROWN else CAUSES[told.kind]
 
     def _text(self, thing: Any) -> str:
-        return _by(describe_all, thing) if self._describe is describe_all else str(thing)
+        return _description_by(describe_all, thing) if self._describe is describe_all else str(thing)
 
 
-def _outcome(stage: CStage) -> Told:
+def _outcome(stage: CStage) -> OutcomeNumbers:
     outcome = stage.outcome
-    return Told(outcome.kind, outcome.wrapped, outcome.code, outcome.value.kind, outcome.value.number % 2**32)
+    return OutcomeNumbers(outcome.kind, outcome.wrapped, outcome.code, outcome.value.kind, outcome.value.number % 2**32)
 
 
 def _numbers(kind: str, given: Any) -> List[int]:

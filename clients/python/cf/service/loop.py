@@ -6,14 +6,14 @@ import itertools
 from types import CoroutineType
 from typing import TYPE_CHECKING, Any, Awaitable, Callable, Optional, Set, Type, TypeVar, cast
 
-from .contexts import ContextRequest, ended, Within
+from .contexts import ContextRequest, finish_stage, Within
 from .ending import EndingRequest, Ends, Hook
 from .flow import Flow
 from .history import Describe, describe_all
 from .request import Request
 from .service import ROOM
 from .stage import Stage
-from .waits import LoopWakes
+from .waits import LoopWaker
 from .watch import Watch, WatchedRequest
 from .words import COMPOSE_FORMS, FIRST_WORKER, GIVES, THROWS
 
@@ -86,10 +86,10 @@ class _WatchedRequest(WatchedRequest, ContextRequest):
     """One that tells a watch what is done to it."""
 
 
-class _LoopWorks(LoopWakes):
+class _LoopWorks(LoopWaker):
     """What `Works` is to a request."""
 
-    is_parents = False
+    belongs_to_parent = False
 
     def __init__(self, loop: asyncio.AbstractEventLoop, describe: Describe, ends: Optional[Ends]) -> None:
         super().__init__(loop)
@@ -119,7 +119,7 @@ class _LoopWorks(LoopWakes):
                 if type(given) is CoroutineType or inspect.isawaitable(given) and not isinstance(given, Stage):
                     within.func(self._await, stage, given)
                     return
-                goes_on = ended(stage, FIRST_WORKER, given)
+                goes_on = finish_stage(stage, FIRST_WORKER, given)
 
     def _raised(self, stage: "Stage[Any]", error: BaseException) -> bool:
         """Finishes a stage whose function raised. What leaves a loop as a task raises it does so here, too, once no

@@ -1,8 +1,8 @@
-"""Relays: stages of a request that end as a future does that stands elsewhere.
+"""Relays: stages of a request that end as a future from outside the request does.
 
-A callback can't be taken back from a future of `concurrent.futures`. So a future has one for all its relays, a row,
-from which each can be taken out by itself: once it is settled, by whomever, or once nobody has its request any more.
-What lives long keeps nothing that is over.
+A callback can't be removed from a future of `concurrent.futures`. So a future has one callback for all its relays, a
+row. A relay is taken out of the row once it is settled, or once nobody has its request any more. So a long-lived future
+keeps no finished request.
 """
 import concurrent.futures
 import threading
@@ -24,15 +24,15 @@ Hold = Callable[[object], None]
 CHANGES = {TIMED_OUT: FAIL_AS, BAD_ANSWER: FAIL_BADLY}  # by which a relay ends as a stage did
 
 
-def link(relay: "Stage[Any]", future: "concurrent.futures.Future[Any]") -> Optional[Hold]:
-    """Lets a relay end as the future does. Until then the future keeps the relay, and with it the request. What is
-    given lets it keep the relay no longer: it is still told, if somebody else has it then. None where it is told
+def follow_future(relay: "Stage[Any]", future: "concurrent.futures.Future[Any]") -> Optional[Hold]:
+    """Lets a relay end as the future does. Until then the future keeps the relay, and so the request. Returns a function
+    that releases the relay, which still follows the future if somebody else has it; None where the future was done
     already."""
     if future.done():
         _drain([relay], future)
         return None
     row = _row_of(future)
-    made = _Link(relay, _gone)
+    made = _KeptRelay(relay, _forget)
     made.row, made.held = row, relay
     row.links[made] = True
     if row.is_over:  # it was called meanwhile
@@ -40,10 +40,10 @@ def link(relay: "Stage[Any]", future: "concurrent.futures.Future[Any]") -> Optio
     return made.release
 
 
-def _row_of(future: Any) -> "_Row":
+def _row_of(future: Any) -> "_RelayRow":
     row = getattr(future, "_relays", None)
-    if not isinstance(row, _Row):
-        row = _Row()
+    if not isinstance(row, _RelayRow):
+        row = _RelayRow()
         future.add_done_callback(row)
         try:
             future._relays = row  # (of two threads that come at once each has a row, which is as good)
@@ -52,11 +52,11 @@ def _row_of(future: Any) -> "_Row":
     return row
 
 
-class _Link(_Ref):
-    """A relay in a row. `held` is the relay while the future keeps it."""
+class _KeptRelay(_Ref):
+    """A relay in a row. `held` is the relay as long as the future keeps it."""
 
     __slots__ = ("row", "held")
-    row: "_Row"
+    row: "_RelayRow"
     held: "Optional[Stage[Any]]"
 
     def release(self, _settled: object = None) -> None:
@@ -66,18 +66,18 @@ class _Link(_Ref):
             self.row.links.pop(self, None)
 
 
-def _gone(made: Any) -> None:
+def _forget(made: Any) -> None:
     made.row.links.pop(made, None)
 
 
-class _Row:
-    """The relays of one future, which calls it once it is done. Nothing here is under a lock: who takes a link out,
-    tells its relay."""
+class _RelayRow:
+    """The callback of one future, with its relays. It needs no lock: the thread that takes a link out settles its
+    relay."""
 
     __slots__ = ("links", "is_over")
 
     def __init__(self) -> None:
-        self.links: Dict[_Link, bool] = {}
+        self.links: Dict[_KeptRelay, bool] = {}
         self.is_over = False
 
     def __len__(self) -> int:
@@ -87,8 +87,8 @@ class _Row:
         self.is_over = True
         self.tell(list(self.links), future)
 
-    def tell(self, links: List[_Link], future: "concurrent.futures.Future[Any]") -> None:
-        """Settles the relays of those of these links that nobody else took out before."""
+    def tell(self, links: List[_KeptRelay], future: "concurrent.futures.Future[Any]") -> None:
+        """Settles the relays of these links, except those that another thread took out."""
         relays = []
         for each in links:
             relay = each()
@@ -100,17 +100,17 @@ class _Row:
 
 def is_relay(call: object) -> bool:
     """Whether a callback hands an outcome on to relays."""
-    return isinstance(call, _Row)
+    return isinstance(call, _RelayRow)
 
 
 def is_release(call: object) -> bool:
     """Whether a callback only lets go of a relay or a limit."""
-    return getattr(call, "__func__", None) in (_Link.release, Limit.release)
+    return getattr(call, "__func__", None) in (_KeptRelay.release, Limit.release)
 
 
 class _Handing(threading.local):
-    """What this thread is about to hand over. What comes up within that waits its turn, so chains of any length need
-    no stack."""
+    """The relays that this thread has to settle. Those that come up meanwhile wait their turn, so long chains need no
+    stack."""
 
     def __init__(self) -> None:
         self.left: "Deque[Tuple[Stage[Any], concurrent.futures.Future[Any]]]" = deque()
@@ -121,7 +121,7 @@ _handing = _Handing()
 
 
 def _drain(relays: "List[Stage[Any]]", future: "concurrent.futures.Future[Any]") -> None:
-    """Settles relays as a future was. What a callback raises lets none of them out."""
+    """Settles relays as a future was. If a callback raises, the others are still settled."""
     handing, first = _handing, None
     for relay in relays:
         handing.left.append((relay, future))
@@ -146,8 +146,7 @@ def _settle_as(relay: "Stage[Any]", future: "concurrent.futures.Future[Any]") ->
 
 
 def _outcome_of(future: "concurrent.futures.Future[Any]") -> Tuple[int, Any]:
-    """What a future that is done came to, as a change of a stage. Where one of others' raises when it is asked,
-    that."""
+    """The outcome of a done future, as a change of a stage. If a foreign future's own method raises, its error."""
     try:
         if future.cancelled():
             return CANCEL, False

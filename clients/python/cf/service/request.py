@@ -3,81 +3,81 @@
 The design of `cf.service`, which this file leads through:
 
 A request is one machine of the proved library (docs/REQUEST.md) and the Python objects that the machine knows by
-numbers. Who may settle a stage, which stage is ready and whose function is called next, who has to be told, and what
-follows from a settled stage is decided by the machine alone. The code here is its host: it hands words in, and does to
-Python objects what the machine tells.
+numbers. The machine alone decides who may settle a stage, which stage is ready, which function is called next, and what
+follows from a settled stage. The code here is its host: it hands words in, and applies the machine's answers to Python
+objects.
 
 What is kept where
     - `RequestCore` and `StageCore` are written twice, with the same names and answers: in C (`native/_cf.c`, with
       `_module.py` for what isn't hot of it) and in Python over ctypes (`_plain.py`). `_core.py` chooses. A core has the
-      machine; for each word its time; for each stage a row with form, future, and what was told of it; and the lists of
+      machine; for each word its time; for each stage a row with form, future and outcome; and the lists of
       names, values and exceptions. A word names a value or an exception by its index in these lists. The future of a
       stage is in its row until the stage is settled, and has the function with its arguments until then.
-    - What isn't hot stands once, for both cores, in `_machine.py`: plans and machines, names, relays within a
-      request, time limits, refusals, words.
-    - `Request` and `Stage` are below the cores, and have what isn't hot either: the methods that users call, and relays
-      of futures that stand elsewhere.
-    - All that waits and wakes stands in waits.py: threads, a clock, who waits for a stage, what wakes a loop. Of it
-      `Works` (works.py) has the threads and the clock of a `Service`, `_LoopWorks` (loop.py) the event loop of a
-      `LoopService`. To a request both are the protocol `Works` below.
+    - Cold code that both cores share is in `_machine.py`: plans and machines, names, relays within a request, time
+      limits, refusals, words.
+    - `Request` and `Stage` inherit from the cores. They have the methods that users call, and relays of futures from
+      outside the request.
+    - Waiting and waking is in waits.py: threads, a clock, the waiters of a stage, the wake-up of a loop. `Works`
+      (works.py) has the threads and the clock of a `Service`, `_LoopWorks` (loop.py) the event loop of a
+      `LoopService`. A request sees both as the protocol `Works` below.
 
 What guards what
-    - In Python each request has a lock. It guards machine, rows and lists. Under it only the conditions of stages are
-      taken, with the locks of those who wait by `wait` and `as_completed`; under these never a request's lock. No
-      thread has the locks of two requests.
-    - In C there is no such lock: one call of the machine with all that is written down of it runs no Python code, and
-      keeps the interpreter's lock, so it is one step for all threads.
+    - In Python each request has a lock. It guards machine, rows and lists. Only the conditions of stages are taken under
+      it, with the locks of the waiters of `wait` and `as_completed`. No request's lock is taken under these. No thread
+      has the locks of two requests.
+    - In C there is no such lock. A call of the machine and its bookkeeping run no Python code and keep the
+      interpreter's lock, so other threads see them as one step.
     - Either way no function and no callback of a user runs within that step.
-    - `Threads._lock` is taken to start and to end threads, and around nothing that calls back; no request's lock is
-      held meanwhile.
-    - Relays (relays.py) need no lock: whoever takes a relay out of its row settles it.
+    - `Threads._lock` is taken to start and to end threads. Nothing calls back under it, and no request's lock is held
+      meanwhile.
+    - Relays (relays.py) need no lock: the thread that takes a relay out of its row settles it.
 
 What happens at a change (`_change`: complete, fail, cancel; also `_attach`, `_gather` and `_end`)
-    1. The machine does one word. It tells the stages that are settled by it.
-    2. What is told is written into rows. So whoever sees an outcome can also see the outcomes of all earlier words.
-    3. Threads that wait for settled stages are woken, and `wait` and `as_completed` are told. (In Python this comes
+    1. The machine does one word, and names the stages that the word settled.
+    2. Their outcomes are written into rows. So a thread that sees an outcome sees the outcomes of all earlier words.
+    3. Wake the waiters of the settled stages, and those of `wait` and `as_completed`. (In Python this comes
        within step 2, under the lock, in C right after it.)
-    4. If more functions are ready than there are turns, the works are given turns (`_hand_on`). If nobody takes one,
-       all that is ready fails with `Works.refusal`.
-    5. Callbacks of settled stages are called, in the thread that made the change. One that raises keeps no other from
-       being called. An `Exception` is logged; the first of anything else is raised at the end.
+    4. If more functions are ready than there are turns, give the works further turns (`_give_turns`). If nobody takes
+       one, all ready stages fail with `Works.refusal`.
+    5. Call the callbacks of the settled stages, in the thread that made the change. If one raises, the others are still
+       called. An `Exception` is logged; the first of anything else is raised at the end.
 
 A function from ready to finished
-    A turn is the request itself, put before the works by `Works.put`: it stands for one function that is ready, and
-    doesn't say which. A thread, or the loop, that takes it calls `_run`. The machine claims the lowest ready stage, and
-    tells its function and arguments; the function is called without a lock; the finish is one more word. If a function
-    became ready by it that has no turn, the same thread goes on with that one. There are as many turns as ready
-    functions, or more: if somebody settles a stage that is ready, a turn is too many, and does nothing. A finish that
-    comes too late changes nothing. A flow that one thread runs (`flow.run`) needs no turns: it goes on while the
-    machine has a function (`_work`).
+    A turn is the request itself, handed to the works by `Works.put`. It stands for one ready function, and doesn't say
+    which. The thread or the loop that takes it calls `_run`. The machine claims the lowest ready stage and returns its
+    function and arguments. The function is called without a lock, and the finish is one more word. If that makes a
+    function ready that has no turn, the same thread goes on with it. There are at least as many turns as ready
+    functions. If a ready stage is settled by somebody else, one turn is too many, and does nothing. A late finish
+    changes nothing. A flow that one thread runs (`flow.run`) needs no turns: it goes on while the machine has a
+    function (`_work`).
 
 Relays
-    A source has to be a stage of the same request. A future that isn't gets a relay: a source of this request that ends
-    as the future does (`link` in relays.py). The future keeps the relay, and so the request, until either is settled.
-    If a stage needed the relay alone, its end lets go of it (`_let_go_with`). A composing stage has a relay right below
+    A source has to be a stage of the same request. Any other future gets a relay: a source of this request that ends as
+    the future does (`follow_future` in relays.py). The future keeps the relay, and so the request, until either is
+    settled. If only one stage needed the relay, the relay is released once that stage is settled (`_let_go_with`). A composing stage has a relay right below
     it. Its finish links to the stage that the function returned, if that is a lower one of this request, and else to
     the relay (`_link`). If the function returned a higher stage of this request, the machine lets the relay follow it
-    (`_follow_within`), and else `link` does (`_follow`).
+    (`_follow_within`), and else `follow_future` does (`_follow`).
 
 Time limits
-    Each is a deadline of the machine (`_limit`), by moments of the clock of the works, no two of which are the same.
-    The request asks that clock for one alarm at a time, at the first of its limits. When it is rung (`_ring`), it lets
-    time pass up to then: the machine settles what is due, in the name of CLOCK. A stage's `Limit` says what it gets by
-    that, and is let go of by a callback once the stage is settled; with the last one the alarm goes, too.
+    Each is a deadline of the machine (`_limit`), at a moment of the works' clock that no other limit of the request has.
+    The request asks that clock for one alarm at a time, at its first limit. When the alarm rings (`_ring`), the machine
+    lets time pass up to then, and settles the stages that are due, in the name of CLOCK. A stage's `Limit` has the value
+    or the exception for that. A callback releases the limit once the stage is settled; the last one takes the alarm
+    along.
 
 Room
     A request has at most 4,096 stages, and 16,384 mentions of sources, two of which are set aside for each stage that
-    is attached. The machine has room for a few at first, and makes more when it says that there is none. What takes
-    several stages asks `_check_room` before it attaches the first, so that a call that raises `RequestFull` has changed
-    nothing.
+    is attached. The machine has room for a few at first, and grows when that is used up. A call that attaches several
+    stages asks `_check_room` first, so one that raises `RequestFull` has changed nothing.
 
 Forks
-    In a child of `fork` no thread of a service is there, and what it was to run is the parent's. So what is ready then
-    is claimed there by nobody (`_leave_to_parent`).
+    A child of `fork` has no threads of a service, and the parent runs the functions that are ready. So the child claims
+    those stages for nobody (`_leave_to_parent`).
 
 Contexts and ends
-    A request whose functions have contexts is a `ContextRequest` (contexts.py), and one of a service with a hook an
-    `EndingRequest` (ending.py). Other requests know nothing of either.
+    A request whose functions have contexts is a `ContextRequest` (contexts.py). One of a service with a hook is an
+    `EndingRequest` (ending.py).
 
 Which methods call a user's code
     `_run` and `_LoopWorks.use` (functions), `_let_go` (callbacks), `Works.begin` (the initializer of threads),
@@ -92,7 +92,7 @@ from typing import TYPE_CHECKING, Any, Callable, List, Optional, Sequence, Tuple
 from ..values import Form
 from ._core import RequestCore
 from .history import Describe, History
-from .relays import Hold, link
+from .relays import Hold, follow_future
 from .stage import Stage
 from .words import FAIL, LINKS, RELAY, THROWS, name_of
 
@@ -105,17 +105,17 @@ if TYPE_CHECKING:
     from .flow import Step
 
     class Clock(Protocol):
-        """Knows the time, and rings each request (`_ring`) at the first of its limits. Moments are nanoseconds of a
-        clock that never goes back."""
+        """Has the time, and rings each request (`_ring`) at its first limit. Moments are nanoseconds of a clock that
+        never goes back."""
 
         def now(self, request: "Request") -> int:
             ...
 
-        def ask(self, request: "Request", moment: int) -> None:
-            """A request that has limits is to be rung at this moment, if it isn't before."""
+        def ask_for_alarm(self, request: "Request", moment: int) -> None:
+            """Rings a request that has limits at this moment, or before."""
 
-        def drop(self, request: "Request") -> None:
-            """A request that has no limits needn't be rung."""
+        def drop_alarm(self, request: "Request") -> None:
+            """Drops the alarm of a request that has no limits."""
 
     class Works(Protocol):
         """Runs stages that are ready: threads or an event loop."""
@@ -143,8 +143,8 @@ if TYPE_CHECKING:
             ...
 
         @property
-        def is_parents(self) -> bool:
-            """Whether what was put isn't there in a child of `fork`."""
+        def belongs_to_parent(self) -> bool:
+            """Whether the turns stay with the parent at a `fork`."""
 
     P = ParamSpec("P")
 
@@ -154,16 +154,15 @@ R = TypeVar("R", bound="Request")
 
 
 class Request(RequestCore):
-    """Stages that belong together, of which one history is kept. `Service.request` and `Service.start` open one. Any
-    thread may use it; calls on one request wait for one another.
+    """Stages that belong together, with one history. `Service.request` and `Service.start` open one. Any thread may use
+    it; calls on one request wait for one another.
 
         request = service.request("order 17")
         user, price = request.supply(load_user, 3), request.supply(quote, "lamp")
         print(user.combine(price, total).or_timeout(2).result())
 
-    Each change is one event of the request. An event and what follows from it are shown in one step; callbacks
-    and threads are told after that. Values and exceptions are kept until nobody has the request or one of its stages
-    any more.
+    Each change is one event of the request. An event and its consequences become visible in one step, before callbacks
+    run. The request keeps values and exceptions as long as somebody has it or one of its stages.
 
     Each method that attaches stages raises
 
@@ -176,7 +175,7 @@ class Request(RequestCore):
 
     @property
     def name(self) -> str:
-        """What histories call it."""
+        """Its name in histories."""
         return self._title or (self._name_of(0) if self._stages else "request")
 
     # Stages.
@@ -194,7 +193,7 @@ class Request(RequestCore):
         return self._attach(Form.SUPPLY, None, None, fn, args or None, kwargs or None, name_of(fn))
 
     def promise(self, name: str = "promise") -> "Stage[Any]":
-        """A stage without a function, which somebody settles: by `complete`, `fail`, `cancel` or a time limit.
+        """Attaches a stage without a function. Settle it by `complete`, `fail`, `cancel` or a time limit.
 
             approval = request.promise("approval")
             shipped = approval.then(ship)
@@ -215,7 +214,7 @@ class Request(RequestCore):
 
         Args:
             future: Any future of `concurrent.futures`. It keeps the request alive until it or the returned stage is
-                settled. If it may take long, cancel the stage once it isn't needed.
+                settled. If that may take long, cancel the stage once you don't need it.
 
         Returns:
             A stage that ends as the future does; a stage of this request is returned as it is."""
@@ -282,7 +281,7 @@ class Request(RequestCore):
 
     def history(self) -> History:
         """All that happened until now, as a `History` that stays as it is. It takes about a microsecond an event."""
-        return History(self.name, self._plan, self._facts())._described(getattr(self, "_describe", self._works.describe))
+        return History(self.name, self._plan, self._facts())._with_descriptions(getattr(self, "_describe", self._works.describe))
 
     def cancel(self) -> None:
         """Cancels all stages that aren't settled, as `abandon` does: also those whose functions run. It begins with the last
@@ -343,8 +342,8 @@ class Request(RequestCore):
         return stage
 
     def _relays_of(self, of: "Sequence[concurrent.futures.Future[Any]]", more: int) -> "Tuple[List[Stage[Any]], List[Hold]]":
-        """Stages of this request that end as these futures do, and what lets go of the relays among them. There is
-        room to gather them and for so many stages more, else nothing is attached."""
+        """Stages of this request that end as these futures do, and the holds on the relays among them. Where there isn't
+        room to gather them and for `more` stages, nothing is attached."""
         _check_futures(of)
         others = sum(not isinstance(future, Stage) or future.request is not self for future in of)
         self._check_room(others + max(len(of) - 1, 1) + more)
@@ -352,23 +351,23 @@ class Request(RequestCore):
         return [self._relay_of(future, holds) for future in of], holds
 
     def _relay_of(self, future: "concurrent.futures.Future[T]", holds: List[Hold]) -> "Stage[T]":
-        """As `adopt`. What lets the future keep the relay no longer is put with the others."""
+        """As `adopt`. Adds the hold on a new relay to `holds`."""
         if isinstance(future, Stage) and future.request is self:
             return future
         _check_futures([future])
         relay: Stage[T] = self.promise(f"relay of {self._title_of(future)}")
-        hold = link(relay, future)
+        hold = follow_future(relay, future)
         if hold is not None:
             holds.append(hold)
         return relay
 
     def _check_room(self, stages: int) -> None:
-        """Raises where so many more wouldn't find room, before any is attached."""
+        """Raises `RequestFull` where there is no room for so many more."""
         if self._stages + stages > self._most:
             self._refuse_stage()
 
     def _limited(self, stage: "Stage[T]", seconds: float, gives: Any, is_value: bool) -> "Stage[T]":
-        """Gives a stage a time limit, after endless seconds none."""
+        """Gives a stage a time limit; with `math.inf` none."""
         if math.isnan(seconds):
             raise ValueError("a time limit can't be NaN")
         if seconds != math.inf and not stage.done():
@@ -376,8 +375,8 @@ class Request(RequestCore):
         return stage
 
     def _link(self, stage: "Stage[Any]", who: int, to: Any) -> bool:
-        """Finishes a composing stage with the future that its function gave. A stage links to lower ones alone, and
-        one that its function made is higher; so its relay, which stands just below it, is settled as that one is."""
+        """Finishes a composing stage with the future that its function returned. A stage links only to lower ones, and
+        its function made higher ones. So it links to its relay, just below it, which then follows the future."""
         if not isinstance(to, concurrent.futures.Future):
             return self._end(stage, who, THROWS, TypeError(f"{to!r} is no future"))
         if isinstance(to, Stage) and to.request is self and to.number < stage.number:
@@ -396,26 +395,26 @@ class Request(RequestCore):
         return goes_on
 
     def _follow(self, stage: "Stage[Any]", relay: "Stage[Any]", to: "concurrent.futures.Future[Any]") -> None:
-        """Lets a relay end as the future does, and as a future of others' fails that can't be asked."""
+        """Lets a relay end as the future does. If a foreign future's own method raises, the relay fails with that."""
         if isinstance(to, Stage) and to.request is self:
             self._follow_within(relay.number, to.number)
             return
         try:
-            hold = link(relay, to)
+            hold = follow_future(relay, to)
         except Exception as error:
             self._change(FAIL, RELAY, relay, error)
         else:
             _let_go_with(stage, [] if hold is None else [hold])
 
     def _title_of(self, future: "concurrent.futures.Future[Any]") -> str:
-        """What histories call a future that stands elsewhere, or further up."""
+        """The name in histories of a future from outside, or of a higher stage."""
         if not isinstance(future, Stage):
             return f"a {type(future).__name__}"
         return future.name if future.request is self else f"{future.name} of {future.request.name}"
 
 
 def _check_futures(of: Sequence[object]) -> None:
-    """Raises where one of these can't be waited for, before anything is attached."""
+    """Raises `TypeError` where one of these is no future."""
     for future in of:
         if not hasattr(future, "add_done_callback"):
             raise TypeError(
@@ -430,7 +429,6 @@ def _results(stages: "List[Stage[T]]", _: None) -> List[T]:
 
 
 def _let_go_with(stage: "Stage[Any]", holds: List[Hold]) -> None:
-    """Lets futures keep relays no longer than the stage is open for which they were made: it is all that is told
-    what they end in."""
+    """Releases relays once the only stage that needs them is settled."""
     for hold in holds:
         stage.add_done_callback(hold)

@@ -11,8 +11,8 @@ from typing import Any, Dict, Iterator, List, NamedTuple, Optional, Sequence, Se
 from ..events import Attach, Claim, Finish
 from ..values import Link, Thrown
 from .ending import Hook
-from .history import Entry, History, _whole
-from .words import ANSWER, COMPOSE_FORMS, FIRST_WORKER, FORMS, NUMBER, VALUE, Told
+from .history import HistoryEntry, History, _whole
+from .words import ANSWER, COMPOSE_FORMS, FIRST_WORKER, FORMS, NUMBER, VALUE, OutcomeNumbers
 
 UNSET, OK, ERROR = range(3)  # the codes of a status
 INTERNAL = 1  # the kind of these spans
@@ -57,9 +57,9 @@ class _Reading:
         self.history = history
         self.moments = [history._since + at for at in history._times]
         self.shapes: Dict[int, Tuple[int, Sequence[int]]] = {number: (form, of) for number, (form, of, _) in enumerate(history.planned)}
-        self.claims: Dict[int, Entry] = {}
-        self.finishes: Dict[int, Entry] = {}
-        self.ends: Dict[int, Told] = dict(history.start())
+        self.claims: Dict[int, HistoryEntry] = {}
+        self.finishes: Dict[int, HistoryEntry] = {}
+        self.ends: Dict[int, OutcomeNumbers] = dict(history.settled_at_start())
         self.inner: Set[int] = set()  # stages for which another one waits, or that a function attached
         for entry in history.entries():
             self.ends.update(entry.told)
@@ -67,7 +67,7 @@ class _Reading:
         for number, (form, of) in self.shapes.items():
             self.inner.update((*of, number - 1) if form in COMPOSE_FORMS else of)  # (below that is its relay)
 
-    def _read(self, entry: Entry) -> None:
+    def _read(self, entry: HistoryEntry) -> None:
         event, reply = entry.event, entry.reply
         if isinstance(event, Attach) and not reply[ANSWER]:
             self.shapes[reply[NUMBER]] = int(event.form), event.of
@@ -99,12 +99,12 @@ class _Reading:
             return UNSET, ""
         if told.kind == VALUE:
             return OK, ""
-        return ERROR, self.history.fault(told)
+        return ERROR, self.history.fault_text(told)
 
     def _span(self, stage: int) -> Span:
         form, of = self.shapes[stage]
         claim, finish = self.claims[stage], self.finishes.get(stage)
-        attributes: Attributes = {"cf.stage": stage, "cf.caller": self.history.caller(claim.event.who), "cf.form": FORMS[form]}
+        attributes: Attributes = {"cf.stage": stage, "cf.caller": self.history.caller_name(claim.event.who), "cf.form": FORMS[form]}
         return Span(
             _whole(self.history.names[stage]),
             self.moments[claim.place - 1],
@@ -115,11 +115,11 @@ class _Reading:
             self._raised(finish),
         )
 
-    def _raised(self, finish: Optional[Entry]) -> Optional[Attributes]:
+    def _raised(self, finish: Optional[HistoryEntry]) -> Optional[Attributes]:
         answer = finish.event.answer if finish is not None and isinstance(finish.event, Finish) else None
         if not isinstance(answer, Thrown):
             return None
-        error, told = self.history.errors[answer.code], self.history.error(answer.code)
+        error, told = self.history.errors[answer.code], self.history.error_text(answer.code)
         kind: Attributes = {}
         if isinstance(error, BaseException):  # and not what `describe` told of it
             module, name = type(error).__module__, type(error).__qualname__

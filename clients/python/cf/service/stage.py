@@ -8,7 +8,7 @@ from typing import TYPE_CHECKING, Any, Callable, Dict, Generator, Generic, Optio
 from ..values import Form
 from ._core import StageCore
 from .history import escaped
-from .waits import Waited
+from .waits import AwaitedFuture
 from .words import CANCEL, COMPLETE, FAIL, THIS_THREAD
 
 if TYPE_CHECKING:
@@ -26,7 +26,7 @@ ASYNCIOS: Dict[Type[BaseException], Type[BaseException]] = {
 
 if TYPE_CHECKING:
 
-    class _Future(Waited, StageCore, concurrent.futures.Future[T]):
+    class _Future(AwaitedFuture, StageCore, concurrent.futures.Future[T]):
         request: "Request"
 
         def result(self, timeout: Optional[float] = None) -> T:
@@ -37,15 +37,15 @@ if TYPE_CHECKING:
 
 else:
 
-    class _Future(Waited, StageCore, concurrent.futures.Future, Generic[T]):
+    class _Future(AwaitedFuture, StageCore, concurrent.futures.Future, Generic[T]):
         """Python 3.8 has futures without a parameter."""
 
 
 class Stage(_Future[T]):
     """A `concurrent.futures.Future` that other stages can wait for, and that can be awaited.
 
-    The request's machine decides what happens to a stage. `result`, `done` and the like tell what the machine has told
-    of it. The head of request.py tells the design.
+    The request's machine decides what happens to a stage. `result`, `done` and the like read its answer. The head of
+    request.py describes the design.
 
     Functions run on one of the service's threads, or on the loop of a `LoopService`, where they may be coroutine
     functions. Callbacks (`add_done_callback`) run in the thread that settles the stage.
@@ -208,8 +208,8 @@ class Stage(_Future[T]):
         return self.request._change(CANCEL, THIS_THREAD, self, False)
 
     def or_timeout(self, seconds: float) -> "Stage[T]":
-        """Sets a time limit, after which the stage fails with a `TimeoutError` unless it is settled. That goes for all
-        who wait for the stage, unlike the timeout of `result`. A function that runs in a thread goes on, and its answer
+        """Sets a time limit, after which the stage fails with a `TimeoutError` unless it is settled. All waiters of the
+        stage see that, unlike the timeout of `result`. A function that runs in a thread goes on, and its answer
         comes too late; a coroutine of a `LoopService` is cancelled. The stages that it waits for go on. The stage's
         callbacks then run on the clock's thread, or on the loop: a slow one delays all limits of the service.
 
@@ -258,7 +258,7 @@ class Stage(_Future[T]):
             raise InvalidStateError(f"{self._state}: {self!r}")
 
     def set_running_or_notify_cancel(self) -> bool:
-        """Marks the stage as running, for a promise that somebody outside works on. From then on `cancel` returns
+        """Marks a promise as running, for code outside that works on it. From then on `cancel` returns
         False, and `abandon` still cancels.
 
         Returns:
@@ -275,7 +275,7 @@ class Stage(_Future[T]):
 
     @property
     def name(self) -> str:
-        """What histories call the stage: by default its function's name."""
+        """The stage's name in histories: by default its function's name."""
         return self.request._name_of(self.number)
 
     def named(self, name: str) -> "Stage[T]":
@@ -307,7 +307,7 @@ class Stage(_Future[T]):
     # For what stands below.
 
     def _timed_out(self, seconds: float) -> TimeoutError:
-        """What it fails with by a time limit."""
+        """The exception of its time limit."""
         return TimeoutError(f"{escaped(self.name)} took longer than {seconds} s")
 
     _relays: Optional[object] = None  # of other requests, that end as it does

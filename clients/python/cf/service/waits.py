@@ -1,11 +1,11 @@
-"""All that waits and wakes in `cf.service`: threads that use turns (`Threads`), the clock (`Clock`), the thread of a hook
-(`Aside`), whoever waits for a stage (`Waited`), and what wakes an event loop (`LoopWakes`).
+"""Waiting and waking in `cf.service`: threads that use turns (`Threads`), the clock (`Clock`), the thread of a hook
+(`Aside`), the waiters of a stage (`AwaitedFuture`), and the wake-up of an event loop (`LoopWaker`).
 
-Locks, conditions, queues, threads and the time come from `by` alone. So a test can lead all that runs here through
-every order, with starts of threads that fail, interrupts, and objects that are collected at each step: tests/waits.
+Locks, conditions, queues, threads and the time come from `primitives` alone. So tests/waits can run this code in every
+order, with threads that don't start, interrupts, and objects that are collected at each step.
 
-Each lock may be taken again by the thread that has it, as a `__del__` does that comes up meanwhile. Nothing of a user's
-is called under one.
+Each lock may be taken again by the thread that has it, as by a `__del__` that runs meanwhile. No user's code is called
+under one.
 """
 import asyncio
 import contextlib
@@ -27,8 +27,8 @@ if TYPE_CHECKING:
 LOGGER = logging.getLogger("concurrent.futures")
 
 
-class By:
-    """Where locks, threads, queues and the time come from. A test has another one."""
+class Primitives:
+    """Makes locks, conditions, queues and threads, and has the time. A test replaces it."""
 
     lock: Callable[[], Any] = staticmethod(threading.RLock)
     condition: Callable[[], threading.Condition] = staticmethod(threading.Condition)
@@ -38,12 +38,12 @@ class By:
     now: Callable[[], int] = staticmethod(time.monotonic_ns)
 
 
-by = By()
+primitives = Primitives()
 
 
-def _begun(run: Callable[[], object], name: str) -> "Tuple[Optional[threading.Thread], Optional[BaseException]]":
-    """Starts a thread. Gives the thread, if it runs, and what was raised: an interrupt may come before the thread runs
-    or after that, so whoever comes first, the thread or who starts it, decides."""
+def _start_thread(run: Callable[[], object], name: str) -> "Tuple[Optional[threading.Thread], Optional[BaseException]]":
+    """Starts a thread. Returns the thread, if it runs, and the error that was raised. An interrupt may come before or
+    after the thread begins: whichever of the two takes the mark first decides."""
     mark = [True]
 
     def is_first() -> bool:
@@ -51,7 +51,7 @@ def _begun(run: Callable[[], object], name: str) -> "Tuple[Optional[threading.Th
             return mark.pop()
         return False
 
-    thread = by.thread(target=lambda: is_first() and run(), name=name, daemon=True)
+    thread = primitives.thread(target=lambda: is_first() and run(), name=name, daemon=True)
     try:
         thread.start()
     except BaseException as error:
@@ -60,18 +60,18 @@ def _begun(run: Callable[[], object], name: str) -> "Tuple[Optional[threading.Th
 
 
 class Threads:
-    """Threads, started as they are needed, that use turns. A turn is a request, which is put once for each function that
-    becomes ready. The threads end once this is closed and no turn is left.
+    """Threads, started on demand, that use turns. A turn is a request, put once for each function that becomes ready. The
+    threads end once this is closed and no turn is left.
 
-    Once all threads are there, turns go through the queue without the lock. A thread ends only where it finds the
-    queue empty under the lock, and who puts a turn without the lock looks behind it whether this was closed: so each
-    turn is used or refused. Until all are there, a thread more is started if there are more turns than idle threads:
-    so a function that waits for another one doesn't keep it from being called.
+    Once all threads are there, turns go through the queue without the lock. A thread ends only if it finds the queue
+    empty under the lock, and `put` without the lock checks afterwards whether this was closed. So each turn is used or
+    refused. Before, another thread is started whenever there are more turns than idle threads, so that a function that
+    waits for another one doesn't block it.
 
     Attributes:
         closed: Whether threads end.
-        broken: Whether one couldn't begin, as its initializer failed.
-        threads: Those that were started, and that nobody has waited for."""
+        broken: Whether an initializer failed.
+        threads: The started threads that nobody has joined."""
 
     def __init__(self, most: int, name: str) -> None:
         self.most, self.name, self.closed, self.broken = most, name, False, False
@@ -80,8 +80,8 @@ class Threads:
     def _reset(self) -> None:
         """No thread is there."""
         self.threads: Set[threading.Thread] = set()
-        self._lock = by.lock()
-        self._turns = by.queue()  # None lets a thread end, if no turn is behind it
+        self._lock = primitives.lock()
+        self._turns = primitives.queue()  # None lets a thread end, if no turn is behind it
         self._alive = 0
         self._idle = 0  # the threads that wait, less the turns in the queue; it isn't kept once all are there
         self._rested: Deque[None] = deque()  # those that began to wait, which `_idle` doesn't count yet
@@ -90,7 +90,7 @@ class Threads:
     # What a pool says.
 
     def begin(self, number: int) -> bool:
-        """Called by each thread, which has this number, before it uses turns. False if it is to use none."""
+        """Called in the thread of this number before it uses turns. False if it shall use none."""
         raise NotImplementedError
 
     def use(self, turn: "Request", number: int) -> None:
@@ -98,13 +98,13 @@ class Threads:
         raise NotImplementedError
 
     def refuse(self, turns: "Sequence[Request]") -> None:
-        """Nobody will use these turns."""
+        """Refuses turns that nobody will use."""
         raise NotImplementedError
 
     # What others call.
 
     def put(self, turn: "Request") -> bool:
-        """Has a thread use a turn, and says whether one will. If this raises, one may all the same."""
+        """Has a thread use a turn, and returns whether one will. If this raises, one may use it all the same."""
         if self.broken:
             return False
         is_put = self._is_full and not self.closed
@@ -115,22 +115,22 @@ class Threads:
         with self._lock:
             if not is_put:
                 self._turns.put(turn)
-            self._idle += self._new_ones() - 1
+            self._idle += self._count_new_idle() - 1
             if self._idle < 0 and self._alive < self.most and (self._alive or not self.closed) and not self.broken:
                 self._start()
-            left = [] if self._alive else self._drained()
+            left = [] if self._alive else self._drain()
         if left:
             self.refuse([it for it in left if it is not turn])
         return turn not in left
 
     def close(self) -> None:
-        """Lets threads end once no turn is left. It may be called again."""
+        """Ends the threads once no turn is left. It may be called again."""
         self.closed = True
         self._turns.put(None)
 
     def join(self) -> None:
         """Waits for all threads but this one."""
-        own = by.current()
+        own = primitives.current()
         while True:
             with self._lock:
                 thread = next((it for it in self.threads if it is not own), None)
@@ -140,16 +140,16 @@ class Threads:
             with self._lock:
                 self.threads.discard(thread)
 
-    def take_back(self) -> "List[Request]":
-        """The turns that no thread has taken yet."""
+    def take_turns_back(self) -> "List[Request]":
+        """Takes back the turns that no thread has taken yet."""
         with self._lock:
-            return self._drained()
+            return self._drain()
 
     # What threads do.
 
     def _start(self) -> None:
-        """Starts one more thread, which has a turn from the start. If there are no more for now, or the interpreter
-        ends, the next turn tries again. The lock is held."""
+        """Starts one more thread with a first turn. If no thread can be started, the next turn tries again. The lock is
+        held."""
         number, first = len(self.threads), self._next()
         if self.closed:
             self._turns.put(None)
@@ -158,7 +158,7 @@ class Threads:
         self._alive += 1
         self._idle += 1
         try:
-            thread, error = _begun(functools.partial(self._work, number, [first]), f"{self.name}_{number}")
+            thread, error = _start_thread(functools.partial(self._work, number, [first]), f"{self.name}_{number}")
         except BaseException as interrupt:
             thread, error = None, interrupt
         if thread is None:
@@ -176,7 +176,7 @@ class Threads:
             with self._lock:
                 self.broken = True
                 self._alive -= 1
-                left = self._drained()
+                left = self._drain()
             self.close()
             self.refuse(left + first)
             return
@@ -187,7 +187,7 @@ class Threads:
             turn = self._take()
 
     def _take(self) -> "Optional[Request]":
-        """Waits for a turn. None where this thread is to end."""
+        """Waits for a turn. None where this thread has to end."""
         if not self._is_full:
             self._rested.append(None)  # (who started this thread may still hold the lock)
         turn: "Optional[Request]" = self._turns.get()
@@ -201,7 +201,7 @@ class Threads:
         return turn
 
     def _next(self) -> "Optional[Request]":
-        """A turn of the queue, if there is one. What lets threads end is taken out."""
+        """Takes a turn from the queue, if there is one, and drops the marks that end threads."""
         with contextlib.suppress(Empty):  # (threads take from it without the lock)
             while True:
                 turn: "Optional[Request]" = self._turns.get_nowait()
@@ -209,15 +209,15 @@ class Threads:
                     return turn
         return None
 
-    def _new_ones(self) -> int:
-        """How many threads have begun to wait since the last call. The lock is held."""
+    def _count_new_idle(self) -> int:
+        """Counts the threads that have begun to wait since the last call. The lock is held."""
         many = len(self._rested)
         for _ in range(many):
             self._rested.popleft()
         return many
 
-    def _drained(self) -> "List[Request]":
-        """All turns of the queue. The lock is held."""
+    def _drain(self) -> "List[Request]":
+        """Takes all turns from the queue. The lock is held."""
         turns = list(iter(self._next, None))
         self._idle += len(turns)
         if self.closed:
@@ -225,23 +225,23 @@ class Threads:
         return turns
 
 
-class _Alone:
-    """A thread that is there while there is something to do."""
+class _OnDemandThread:
+    """A thread that runs while there is something to do."""
 
     def __init__(self, name: str) -> None:
         self.name = name
         self._reset()
 
     def _reset(self) -> None:
-        self._changed = by.condition()
+        self._changed = primitives.condition()
         self._is_there = False
         self._thread: Optional[threading.Thread] = None
 
     def _begin(self) -> None:
-        """Starts the thread, unless it is there. Where that raises, the next call tries again. The lock is held."""
+        """Starts the thread, unless it runs. If that raises, the next call tries again. The lock is held."""
         if not self._is_there:
             self._is_there = True
-            self._thread, error = _begun(self._run, self.name)
+            self._thread, error = _start_thread(self._run, self.name)
             self._is_there = self._thread is not None
             if error is not None:
                 raise error
@@ -250,8 +250,8 @@ class _Alone:
         raise NotImplementedError
 
 
-class Clock(_Alone):
-    """A thread that rings requests at the first of their limits."""
+class Clock(_OnDemandThread):
+    """A thread that rings each request at its first limit."""
 
     def __init__(self, name: str) -> None:
         self._numbers = itertools.count()
@@ -265,10 +265,10 @@ class Clock(_Alone):
 
     def now(self, _request: "Optional[Request]" = None) -> int:
         """In nanoseconds."""
-        return by.now()
+        return primitives.now()
 
-    def ask(self, request: "Request", moment: int) -> None:
-        """Has a request that has limits rung at a moment, if it isn't rung before."""
+    def ask_for_alarm(self, request: "Request", moment: int) -> None:
+        """Rings a request that has limits at this moment, or before."""
         limits = request._limits
         at, number = limits.alarm
         if at <= moment and number in self._wanted:  # (who drops an alarm, or rings it, looks for limits behind that)
@@ -288,18 +288,17 @@ class Clock(_Alone):
             if self._due[0] is alarm:
                 self._changed.notify()
 
-    def drop(self, request: "Request") -> None:
+    def drop_alarm(self, request: "Request") -> None:
         """Doesn't ring a request that has no limits."""
         limits = request._limits
         with self._changed:
             if not limits:
                 self._forget(limits.alarm[1])
         if limits:
-            self.ask(request, min(list(limits), default=0))
+            self.ask_for_alarm(request, min(list(limits), default=0))
 
     def end(self) -> None:
-        """Forgets what is due later, for good, and waits for its thread: an interpreter within this process can't end
-        while there is one."""
+        """Drops all alarms for good, and joins the thread: a subinterpreter can't end while it runs."""
         with self._changed:
             self._is_over = True
             thread, wanted, self._wanted = self._thread, self._wanted, {}
@@ -310,7 +309,7 @@ class Clock(_Alone):
             thread.join()
 
     def _forget(self, number: int) -> None:
-        """Nobody wants an alarm any more. Where that goes for most of the list, they are taken out."""
+        """Drops an alarm. Once most of the list is dropped ones, takes them out."""
         self._wanted.pop(number, None)
         due, many = self._due, len(self._due)
         if many > 64 + 2 * len(self._wanted):
@@ -332,7 +331,7 @@ class Clock(_Alone):
             del request
 
     def _next(self) -> "Optional[Request]":
-        """Waits for the next alarm. Who wants it; None where none is left."""
+        """Waits for the next alarm, and returns its request; None where none is left."""
         while self._due:
             moment, number = self._due[0]
             left = moment - self.now() if number in self._wanted else 0
@@ -346,9 +345,9 @@ class Clock(_Alone):
         return None
 
 
-class Aside(_Alone):
-    """A thread that does one thing after another, which raise nothing. At most so many wait for it. It stays for a while
-    once nothing is left, until this is closed: to start a thread costs more than most of what it does."""
+class Aside(_OnDemandThread):
+    """A thread that calls functions one after another. They raise nothing, and at most so many wait. It stays for a while
+    once none is left, until this is closed: starting a thread costs more than most of the calls."""
 
     STAYS = 1.0  # seconds
 
@@ -362,8 +361,8 @@ class Aside(_Alone):
         self._is_losing = self._is_idle = self._is_closed = False
 
     def put(self, act: Callable[[], object], lost: Callable[[], object]) -> None:
-        """Has something done. Where too much waits, it isn't, and of several such that come in a row the first is told
-        by `lost`. If no thread can be started, the next call tries again."""
+        """Has the thread call `act`. If too many wait, drops it instead, and calls `lost` for the first dropped one in a
+        row. If no thread can be started, the next call tries again."""
         with self._changed:
             is_full, was_losing = len(self._left) >= self._most, self._is_losing
             self._is_losing = is_full
@@ -377,14 +376,14 @@ class Aside(_Alone):
             lost()
 
     def close(self) -> None:
-        """The thread ends once nothing is left. More may be put all the same."""
+        """Ends the thread once nothing is left. More may be put all the same."""
         with self._changed:
             self._is_closed = True
             self._changed.notify_all()
 
     def wait(self, seconds: float) -> bool:
-        """Waits until all is done and the thread has ended, at most so long, and says whether it is so. What no thread
-        could be started for is done here. It is closed."""
+        """Closes this, and waits at most so long until all is done and the thread has ended. Returns whether it has. If
+        no thread could be started, the rest is done here."""
         self.close()
         with self._changed:
             is_done = self._changed.wait_for(lambda: not self._is_there, seconds)
@@ -404,7 +403,7 @@ class Aside(_Alone):
             act = self._next()
 
     def _next(self) -> Optional[Callable[[], object]]:
-        """What is to be done next, for which the thread waits a while. None where it ends."""
+        """Waits a while for the next function. None where the thread has to end."""
         with self._changed:
             if not self._left and not self._is_closed:
                 self._is_idle = True
@@ -417,9 +416,8 @@ class Aside(_Alone):
             return None
 
 
-class Waited:
-    """A future as others wait for it: by its condition, by `wait` and `as_completed`, which have waiters there, or on a
-    loop."""
+class AwaitedFuture:
+    """The waiting side of a future: by its condition, by `wait` and `as_completed`, or on a loop."""
 
     if TYPE_CHECKING:
         _condition: threading.Condition
@@ -441,7 +439,7 @@ class Waited:
             self._condition.wait_for(functools.partial(getattr, self, "_shown"), timeout)
 
     def _show(self) -> None:
-        """Tells those who wait. It is settled. Where this ends by an interrupt, it is called once more, and goes on."""
+        """Wakes the waiters of a settled future. If an interrupt ends this, it is called again and goes on."""
         condition = self._condition
         with condition:
             condition.notify_all()  # (they look once the condition is free)
@@ -458,7 +456,7 @@ class Waited:
             self._shown = True
 
     def _wait_on(self, loop: asyncio.AbstractEventLoop) -> Generator[Any, None, None]:
-        """Waits on a loop, which runs, until it is settled. If whoever waits is cancelled, `cancel` is called."""
+        """Waits on the running loop until it is settled. If the waiting task is cancelled, calls `cancel`."""
         end = loop.create_future()
 
         def tell() -> None:
@@ -480,9 +478,8 @@ class Waited:
             raise
 
 
-class LoopWakes:
-    """What wakes an event loop: turns that it is to use, or a time that is to pass. Any thread may ask for it. Alarms are
-    changed by the loop alone."""
+class LoopWaker:
+    """Wakes an event loop, for turns or for alarms. Any thread may ask for it. Only the loop changes alarms."""
 
     def __init__(self, loop: asyncio.AbstractEventLoop) -> None:
         self._loop = loop
@@ -499,7 +496,7 @@ class LoopWakes:
         return self._loop.is_closed()
 
     def put(self, turn: "Request") -> bool:
-        """Has the loop use a turn, and says whether it will. If this raises, it may all the same."""
+        """Has the loop use a turn, and returns whether it will. If this raises, it may use it all the same."""
         self._turns.append(turn)
         if self._is_woken and not self._loop.is_closed():
             return True
@@ -515,7 +512,7 @@ class LoopWakes:
         return True
 
     def _use_all(self) -> None:
-        """Uses the turns that are there. Those that come meanwhile wait for what else the loop has to do."""
+        """Uses the turns that are there. Later ones wait until the loop has done its other work."""
         self._is_woken = False
         try:
             for _ in range(len(self._turns)):
@@ -531,7 +528,7 @@ class LoopWakes:
         (self._loop.call_soon if is_here else self._loop.call_soon_threadsafe)(act, *given)
 
     def _soon(self, act: Callable[..., object], *given: object) -> bool:
-        """The same, and says whether it will, as a loop that is closed doesn't."""
+        """The same, and returns whether it will: a closed loop calls nothing."""
         try:
             self._call(act, *given)
         except RuntimeError:
@@ -542,11 +539,11 @@ class LoopWakes:
         """In nanoseconds."""
         return int(self._loop.time() * 1e9)
 
-    def ask(self, request: "Request", moment: int) -> None:
-        """Has the loop ring a request that has limits at a moment, if it isn't rung before."""
+    def ask_for_alarm(self, request: "Request", moment: int) -> None:
+        """Has the loop ring a request that has limits at this moment, or before."""
         self._call(self._ask, request, moment)
 
-    def drop(self, request: "Request") -> None:
+    def drop_alarm(self, request: "Request") -> None:
         """Doesn't ring a request that has no limits."""
         self._soon(self._drop, request)
 

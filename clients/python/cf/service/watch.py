@@ -13,7 +13,7 @@ import functools
 from array import array
 from typing import Any, Callable, Dict, List, Optional, Protocol, Sequence, Set, Tuple, TypeVar, cast
 
-from ._core import be
+from ._core import set_caller
 from .ending import Ends
 from .history import Describe, History
 from .relays import Hold, is_relay, is_release
@@ -28,46 +28,46 @@ class Watch(Protocol):
     """Runs a service in place of threads and a clock, and is told what is done to its stages."""
 
     @property
-    def busy(self) -> bool:
+    def is_busy(self) -> bool:
         """Whether a function is ready or runs."""
 
     def now(self, request: Request) -> float:
         """The seconds that have passed for a request. Its history has them."""
 
-    def opened(self, request: Request) -> None:
+    def on_opened(self, request: Request) -> None:
         """A request was opened."""
 
-    def attached(self, stage: "Stage[Any]", of: "Sequence[Stage[Any]]") -> None:
+    def on_attached(self, stage: "Stage[Any]", of: "Sequence[Stage[Any]]") -> None:
         """A stage was attached behind others."""
 
-    def changed(self, stage: "Stage[Any]", did: bool) -> None:
+    def on_changed(self, stage: "Stage[Any]", did: bool) -> None:
         """Somebody wanted to settle a stage, and did or was too late."""
 
-    def claimed(self, stage: "Stage[Any]") -> None:
+    def on_claimed(self, stage: "Stage[Any]") -> None:
         """Somebody wanted to run a stage's function."""
 
-    def finished(self, stage: "Stage[Any]", to: "Optional[Stage[Any]]") -> None:
+    def on_finished(self, stage: "Stage[Any]", to: "Optional[Stage[Any]]") -> None:
         """A stage's function has ended; the stage waits for another one, if that is given."""
 
-    def settled(self, stage: "Stage[Any]") -> None:
+    def on_settled(self, stage: "Stage[Any]") -> None:
         """A stage was settled by the event that is told next."""
 
-    def calls_back(self, stage: "Stage[Any]", calls: "List[Callback]", at_once: bool) -> None:
+    def on_callbacks(self, stage: "Stage[Any]", calls: "List[Callback]", at_once: bool) -> None:
         """The callbacks of a settled stage are to be called, one after another; here and now if they have to."""
 
-    def ready(self, task: "Task") -> None:
+    def on_ready(self, task: "ReadyStage") -> None:
         """A stage's function is ready to be run."""
 
-    def read(self, stage: "Stage[Any]") -> None:
+    def on_read(self, stage: "Stage[Any]") -> None:
         """Somebody looks at a stage."""
 
-    def linked(self, relay: "Stage[Any]", future: "concurrent.futures.Future[Any]") -> None:
+    def on_linked(self, relay: "Stage[Any]", future: "concurrent.futures.Future[Any]") -> None:
         """A stage is to end as a future does that stands elsewhere."""
 
-    def looked(self, request: Request) -> None:
+    def on_history_read(self, request: Request) -> None:
         """Somebody looks at all that happened to a request."""
 
-    def limit(self, stage: "Stage[Any]", seconds: float, act: Callable[[], object]) -> None:
+    def on_limit(self, stage: "Stage[Any]", seconds: float, act: Callable[[], object]) -> None:
         """A stage gets a time limit, after which something is to be done."""
 
     def wait(self, stages: "Sequence[Stage[Any]]", is_over: Callable[[], bool], timeout: Optional[float]) -> None:
@@ -84,7 +84,7 @@ class Callback:
         self.fn(self.stage)
 
 
-class Task:
+class ReadyStage:
     """A stage that is ready, which is run in three steps: `claim`, `call`, `finish`."""
 
     def __init__(self, stage: "Stage[Any]") -> None:
@@ -106,7 +106,7 @@ class Task:
     def call(self, leaves: Tuple[type, ...] = ()) -> None:
         """Calls the function, and keeps what it returns or raises. Only what `leaves` names is raised."""
         assert self.fn is not None
-        be(self._who)
+        set_caller(self._who)
         try:
             args, kwargs = self._args
             self._given = self.fn(*args, **kwargs)
@@ -115,9 +115,9 @@ class Task:
                 raise
             self._kind, self._given, self.error = THROWS, error, error
         finally:
-            be(0)
+            set_caller(0)
 
-    def finish(self) -> "Optional[Task]":
+    def finish(self) -> "Optional[ReadyStage]":
         """Finishes the stage. A stage that became ready by that, which is run once the callbacks were called."""
         stage, request = self.stage, self.stage.request
         if self._kind == GIVES and stage._form in COMPOSE_FORMS:
@@ -130,7 +130,7 @@ class Task:
 class WatchedWorks:
     """What `Works` is to a request, where a watch runs the service."""
 
-    is_parents = False
+    belongs_to_parent = False
 
     def __init__(self, watch: Watch, describe: Describe) -> None:
         self.watch, self.describe, self.closed = watch, describe, False
@@ -144,19 +144,19 @@ class WatchedWorks:
         """In nanoseconds."""
         return int(self.watch.now(request) * 1e9)
 
-    def ask(self, request: Request, moment: int) -> None:
+    def ask_for_alarm(self, request: Request, moment: int) -> None:
         """The watch knows each limit, and rings by itself."""
 
-    def drop(self, request: Request) -> None:
+    def drop_alarm(self, request: Request) -> None:
         """The watch looks whether a stage is settled."""
 
     def refusal(self) -> RuntimeError:
         return RuntimeError("cannot schedule new futures after shutdown")
 
     def put(self, request: Request) -> bool:
-        if self.closed and not self.watch.busy:
+        if self.closed and not self.watch.is_busy:
             return False
-        self.watch.ready(cast(WatchedRequest, request)._task())
+        self.watch.on_ready(cast(WatchedRequest, request)._task())
         return True
 
     def close(self) -> None:
@@ -166,7 +166,7 @@ class WatchedWorks:
         """What is ready is told as any other change."""
 
     def join(self) -> None:
-        self.watch.wait((), lambda: not self.watch.busy, None)
+        self.watch.wait((), lambda: not self.watch.is_busy, None)
 
 
 class WatchedRequest(Request):
@@ -179,7 +179,7 @@ class WatchedRequest(Request):
         self._moments = array("q")
         self._told_ready: Set[int] = set()
         self._own = 0  # of these the one whose turn is the caller's
-        works.watch.opened(self)
+        works.watch.on_opened(self)
 
     @property
     def watch(self) -> Watch:
@@ -191,7 +191,7 @@ class WatchedRequest(Request):
         return not isinstance(self._works, WatchedWorks)
 
     def history(self) -> History:
-        self.watch.looked(self)
+        self.watch.on_history_read(self)
         return super().history()
 
     def _facts(self) -> Any:
@@ -208,20 +208,20 @@ class WatchedRequest(Request):
 
     def _choose(self) -> Optional[int]:
         """A stage that is ready and wasn't told."""
-        news = [number for number in self._ready_ones() if number not in self._told_ready]
+        news = [number for number in self._ready_stages() if number not in self._told_ready]
         self._told_ready.update(news[:1])
         return news[0] if news else None
 
-    def _task(self) -> Task:
+    def _task(self) -> ReadyStage:
         """The stage whose turn is the caller's."""
-        return Task(self._stage(self._own))
+        return ReadyStage(self._stage(self._own))
 
     def _take_turn(self) -> bool:
         chosen = self._choose()
         self._own = self._own if chosen is None else chosen
         return chosen is not None
 
-    def _hand_on_chosen(self) -> None:
+    def _give_chosen_turns(self) -> None:
         own = self._own
         for self._own in iter(self._choose, None):
             if not self._works.put(self):
@@ -235,7 +235,7 @@ class WatchedRequest(Request):
             _meet(self._stage(number))
         plan = self._plan
         for number, (_, of, _, _) in enumerate([] if plan is None else plan.rows):
-            self.watch.attached(self._stage(number), [self._stage(source) for source in of])
+            self.watch.on_attached(self._stage(number), [self._stage(source) for source in of])
         super()._open()
 
     def _attach(
@@ -266,14 +266,14 @@ class WatchedRequest(Request):
 
     def _meet(self, stage: "Stage[Any]", of: "Sequence[Stage[Any]]") -> None:
         _meet(stage)
-        self.watch.attached(stage, of)
+        self.watch.on_attached(stage, of)
 
     def _change(self, kind: int, who: int, stage: "int | Stage[Any]", given: Any) -> bool:
         its = self._stage(stage) if isinstance(stage, int) else stage
-        self.watch.read(its)
+        self.watch.on_read(its)
         did = super()._change(kind, who, stage, given)
         self._date()
-        self.watch.changed(its, did)
+        self.watch.on_changed(its, did)
         return did
 
     def _begin(self, who: int, stage: "Optional[Stage[Any]]" = None) -> Any:
@@ -281,41 +281,41 @@ class WatchedRequest(Request):
         self._date()
         its = stage if begun is None else begun[0]
         if its is not None:
-            self.watch.claimed(its)
+            self.watch.on_claimed(its)
         return begun
 
     def _end(self, stage: "Stage[Any]", who: int, kind: int, given: Any) -> bool:
         goes_on = super()._end(stage, who, kind, given)
         self._date()
-        self.watch.finished(stage, given if kind == LINKS else None)
+        self.watch.on_finished(stage, given if kind == LINKS else None)
         return goes_on
 
     def _relay_of(self, future: "concurrent.futures.Future[T]", holds: List[Hold]) -> "Stage[T]":
         relay = super()._relay_of(future, holds)
         if relay is not future:
-            self.watch.linked(relay, future)
+            self.watch.on_linked(relay, future)
         return relay
 
     def _follow_within(self, relay: int, number: int) -> None:
         super()._follow_within(relay, number)
         self._date()
         its = self._stage(relay)
-        self.watch.changed(its, is_settled(its))
+        self.watch.on_changed(its, is_settled(its))
 
     def _follow(self, stage: "Stage[Any]", relay: "Stage[Any]", to: "concurrent.futures.Future[Any]") -> None:
         super()._follow(stage, relay, to)
-        self.watch.linked(relay, to)
+        self.watch.on_linked(relay, to)
 
     def _limit(self, stage: "Stage[Any]", seconds: float, gives: Any, is_value: bool) -> int:
         moment = super()._limit(stage, seconds, gives, is_value)
         if not self._is_on_loop:
-            self.watch.limit(stage, seconds, lambda: self._pass(stage, moment))
+            self.watch.on_limit(stage, seconds, lambda: self._pass(stage, moment))
         return moment
 
     def _pass(self, stage: "Stage[Any]", moment: int) -> None:
         """The limit of a stage passes, which may be settled by now."""
         if is_settled(stage):
-            self.watch.changed(stage, False)
+            self.watch.on_changed(stage, False)
         else:
             self._ring(moment)
 
@@ -325,7 +325,7 @@ class WatchedRequest(Request):
         super()._ring(now)
         self._date()
         for stage in still_open:
-            self.watch.changed(stage, True)
+            self.watch.on_changed(stage, True)
 
 
 class WatchedStage(Stage[T]):
@@ -334,15 +334,15 @@ class WatchedStage(Stage[T]):
     _calls: List[Callable[[Any], object]]
 
     def done(self) -> bool:
-        _watch_of(self).read(self)
+        _watch_of(self).on_read(self)
         return super().done()
 
     def cancelled(self) -> bool:
-        _watch_of(self).read(self)
+        _watch_of(self).on_read(self)
         return super().cancelled()
 
     def running(self) -> bool:
-        _watch_of(self).read(self)
+        _watch_of(self).on_read(self)
         return super().running()
 
     def result(self, timeout: Optional[float] = None) -> T:
@@ -355,16 +355,16 @@ class WatchedStage(Stage[T]):
 
     def add_done_callback(self, fn: Callable[[Any], object]) -> None:
         watch = _watch_of(self)
-        watch.read(self)
+        watch.on_read(self)
         if not is_settled(self):
             _meet(self)
             self._calls.append(fn)
         elif not is_release(fn):
-            watch.calls_back(self, [Callback(self, fn)], True)
+            watch.on_callbacks(self, [Callback(self, fn)], True)
 
     def _awaited(self, timeout: Optional[float]) -> None:
         watch = _watch_of(self)
-        watch.read(self)
+        watch.on_read(self)
         if not is_settled(self) and timeout != 0:
             watch.wait((self,), functools.partial(is_settled, self), timeout)
 
@@ -381,7 +381,7 @@ class WatchedStage(Stage[T]):
 
     @property
     def _condition(self) -> Any:
-        _watch_of(self).read(self)
+        _watch_of(self).on_read(self)
         return super()._condition
 
     @_condition.setter
@@ -400,7 +400,7 @@ class _Waiters(List[Any]):
         self._stage = stage
 
     def append(self, waiter: Any) -> None:
-        _watch_of(self._stage).read(self._stage)
+        _watch_of(self._stage).on_read(self._stage)
         if not isinstance(waiter.event, _Event):
             waiter.event = _Event(_watch_of(self._stage), waiter.event.is_set())
         waiter.event.stages.append(self._stage)
@@ -448,10 +448,10 @@ def _meet(stage: "Stage[Any]") -> None:
 
 def _tell(stage: Any) -> None:
     watch = _watch_of(stage)
-    watch.settled(stage)
+    watch.on_settled(stage)
     calls, stage.__dict__["_calls"] = stage.__dict__["_calls"], []
     for call in filter(is_release, calls):
         call(stage)
     told = [Callback(stage, call) for call in calls if not is_release(call)]
     if told:
-        watch.calls_back(stage, told, cast(WatchedRequest, stage.request)._is_on_loop)
+        watch.on_callbacks(stage, told, cast(WatchedRequest, stage.request)._is_on_loop)

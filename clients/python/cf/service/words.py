@@ -53,7 +53,7 @@ COMPOSE_FORMS = (int(Form.COMPOSE), int(Form.EXCEPTIONALLY_COMPOSE))  # those wh
 FORMS_WITHOUT_FUNCTION = (int(Form.SOURCE), int(Form.ALL_OF), int(Form.ANY_OF))
 
 
-class Told(NamedTuple):
+class OutcomeNumbers(NamedTuple):
     """The outcome of a stage, in the library's numbers: PENDING, VALUE or another kind; whether it is wrapped; the
     code of a throw; and whether there is a value, and its number."""
 
@@ -64,7 +64,7 @@ class Told(NamedTuple):
     number: int
 
 
-NOT_YET = Told(PENDING, 0, 0, 0, 0)
+NOT_YET = OutcomeNumbers(PENDING, 0, 0, 0, 0)
 
 
 def name_of(call: Any) -> str:

@@ -1,5 +1,5 @@
-"""What a service's threads do with turns, and what becomes of those that nobody uses: at a shutdown, at the end of the
-interpreter, in a child of `fork`."""
+"""The threads of a service: how they use turns, and what happens to unused turns at a shutdown, at the end of the
+interpreter and in a child of `fork`."""
 import atexit
 import logging
 import os
@@ -7,7 +7,7 @@ import weakref
 from concurrent.futures.thread import BrokenThreadPool
 from typing import TYPE_CHECKING, Any, Callable, Iterable, Optional, Sequence, Tuple, TypeVar
 
-from ._core import be
+from ._core import set_caller
 from .ending import Ends
 from .history import Describe, describe_all
 from .stage import Stage
@@ -25,7 +25,7 @@ BROKEN = "A thread initializer failed, the thread pool is not usable anymore"
 class Works(Threads):
     """The threads and the clock of a service. A turn is used by running a function of the request that is ready."""
 
-    is_parents = True
+    belongs_to_parent = True
 
     def __init__(
         self,
@@ -40,16 +40,16 @@ class Works(Threads):
         self.describe, self.ends = describe, ends
         self.clock = Clock(f"{prefix}_clock")
         self._initializer, self._initargs = initializer, initargs
-        _open.add(self)
+        _open_works.add(self)
 
     def refusal(self) -> RuntimeError:
-        """Why nobody runs what is attached now."""
+        """The error for a stage that nobody will run."""
         if self.broken:
             return BrokenThreadPool(BROKEN)
         return RuntimeError("cannot schedule new futures after shutdown" if self.closed else "can't start new thread")
 
     def begin(self, number: int) -> bool:
-        be(_who(number))
+        set_caller(_caller_number_of(number))
         if self._initializer is None:
             return True
         try:
@@ -61,39 +61,38 @@ class Works(Threads):
 
     def use(self, turn: "Request", number: int) -> None:
         try:
-            turn._run(_who(number))
+            turn._run(_caller_number_of(number))
         except BaseException:  # a callback's, such as SystemExit
             LOGGER.critical("Exception in worker", exc_info=True)
 
     def refuse(self, turns: "Sequence[Request]") -> None:
-        _all(lambda request: request._refuse(self.refusal()), dict.fromkeys(turns))
+        _do_to_all(lambda request: request._refuse(self.refusal()), dict.fromkeys(turns))
 
     def cancel_all(self) -> None:
         """Cancels the stages that no thread has taken yet."""
-        _all(_cancel_ready, dict.fromkeys(self.take_back()))
+        _do_to_all(_cancel_ready, dict.fromkeys(self.take_turns_back()))
 
     def _forked(self) -> None:
-        """In a child of `fork` no thread is there. What they had to do is the parent's."""
+        """Starts afresh in a child of `fork`: the threads and their turns are the parent's."""
         self._reset()
         self.clock._reset()
         if self.closed:
             self.close()
 
 
-def _who(number: int) -> int:
-    """Which caller a thread is."""
+def _caller_number_of(number: int) -> int:
+    """The number of a thread as a caller."""
     return FIRST_WORKER + number % (MOST_CALLERS - FIRST_WORKER)
 
 
 def _cancel_ready(request: "Request") -> None:
     with request._lock:
-        request._take_back()
-    _all(Stage.cancel, [request._stage(number) for number in request._ready_ones()])
+        request._take_turns_back()
+    _do_to_all(Stage.cancel, [request._stage(number) for number in request._ready_stages()])
 
 
-def _all(act: "Callable[[T], object]", things: "Iterable[T]") -> None:
-    """Does it to all of these, also where callbacks raise what isn't an `Exception`. The first of that is raised
-    then."""
+def _do_to_all(act: "Callable[[T], object]", things: "Iterable[T]") -> None:
+    """Calls `act` with each of these, and raises the first error at the end."""
     first: Optional[BaseException] = None
     for thing in things:
         try:
@@ -105,9 +104,9 @@ def _all(act: "Callable[[T], object]", things: "Iterable[T]") -> None:
 
 
 class Here:
-    """This thread, which runs all that is ready before it goes on. There is no clock."""
+    """The works of a flow that one thread runs. There is no clock."""
 
-    closed = is_parents = False
+    closed = belongs_to_parent = False
     ends: Optional[Ends] = None
 
     @property
@@ -125,13 +124,13 @@ class Here:
         return True
 
 
-_open: "weakref.WeakSet[Works]" = weakref.WeakSet()
+_open_works: "weakref.WeakSet[Works]" = weakref.WeakSet()
 
 
 @atexit.register
 def _at_exit() -> None:
-    """What was handed in is done before the interpreter ends."""
-    open_ones = list(_open)
+    """Finishes all work before the interpreter ends."""
+    open_ones = list(_open_works)
     for works in open_ones:
         works.close()
     for works in open_ones:
@@ -141,7 +140,7 @@ def _at_exit() -> None:
 
 
 def _after_fork() -> None:
-    for works in list(_open):
+    for works in list(_open_works):
         works._forked()
 
 

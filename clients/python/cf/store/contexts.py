@@ -62,13 +62,13 @@ class Trace(Carrier):
         self._context.attach(self._propagate.extract({name: it for name, it in carried.items() if type(it) is str}))
 
 
-def captured(carriers: Sequence[Carrier]) -> Dict[str, Any]:
+def capture_all(carriers: Sequence[Carrier]) -> Dict[str, Any]:
     """What a plan or an attached stage says of its context: nothing where there is nothing."""
     carried = {name: it for carrier in carriers for name, it in carrier.capture().items()}
     return {"context": carried} if carried else {}
 
 
-def within(carriers: Sequence[Carrier], carried: Mapping[str, Any]) -> contextvars.Context:
+def restored_context(carriers: Sequence[Carrier], carried: Mapping[str, Any]) -> contextvars.Context:
     """A context of its own, in which what went along is set."""
     context = contextvars.copy_context()
     for carrier in carriers:

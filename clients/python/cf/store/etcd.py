@@ -19,17 +19,17 @@ from .rows import (
     Entry,
     Glance,
     Gone,
-    Listed,
-    Open,
+    ListedRequest,
+    OpenRequest,
     Opened,
     Pulse,
     Put,
-    Row,
+    ReadRow,
     Store,
     StoreError,
     Timer,
     Unknown,
-    Wanted,
+    RowQuery,
     flow_of,
     in_a_row,
 )
@@ -176,14 +176,14 @@ class Etcd(Store):
         ends = {name: words for (name, _), words in _ends(kvs).items()}
         return ends, max(mark or 0, revision)  # (a member that lags behind has a lower one)
 
-    def listing(self) -> List[Listed]:
+    def listing(self) -> List[ListedRequest]:
         ends = self.ends()
         closed = {_name(key): json.loads(value) for key, value in self._get(b"cf/c/", b"cf/c0")}
         told = []
         for key, value in self._get(b"cf/r/", b"cf/r0"):
             name = _name(key)
             at, words = closed.get(name, (None, ends.get(name, 0)))
-            told.append(Listed(name, json.loads(value)["opened"], None if name in ends else at, ends.get(name, words)))
+            told.append(ListedRequest(name, json.loads(value)["opened"], None if name in ends else at, ends.get(name, words)))
         return sorted(told)
 
     def end(self, name: str, at: int, number: int = 0) -> bool:
@@ -265,7 +265,7 @@ class Etcd(Store):
             return []
         return _entries(name, at, _pairs(told["responses"][0]["response_range"].get("kvs", [])))
 
-    def read_rows(self, wanted: Sequence[Wanted]) -> Dict[str, Row]:
+    def read_rows(self, wanted: Sequence[RowQuery]) -> Dict[str, ReadRow]:
         ranges = []
         for it in wanted:
             row = self._row("w", it.name, str(it.number))
@@ -276,7 +276,7 @@ class Etcd(Store):
             with contextlib.suppress(Broken):
                 if len(kvs) < MOST_WORDS and [head["create_revision"] for head in heads] == [str(it.number)]:
                     opened = None if it.at else self._found(it.name, heads)
-                    told[it.name] = Row(opened, _entries(it.name, it.at, _pairs(kvs)), {})
+                    told[it.name] = ReadRow(opened, _entries(it.name, it.at, _pairs(kvs)), {})
         return told
 
     def payloads_of(self, wanted: Mapping[Tuple[str, int], Sequence[int]]) -> Dict[str, Dict[int, bytes]]:
@@ -298,7 +298,7 @@ class Etcd(Store):
             raise self._gone(name)
         return told
 
-    def changed(self, seconds: float) -> None:
+    def wait_for_change(self, seconds: float) -> None:
         """By a watch of this thread's own, a stream that stays open."""
         watch = getattr(self._local, "watch", None)
         try:
@@ -368,10 +368,10 @@ class Etcd(Store):
 
     # What lists ask for.
 
-    def overview(self) -> List[Open]:
+    def overview(self) -> List[OpenRequest]:
         return self._overview()[0]
 
-    def _overview(self) -> Tuple[List[Open], int, Dict[str, str]]:
+    def _overview(self) -> Tuple[List[OpenRequest], int, Dict[str, str]]:
         """All open requests; the revision of that; and by their names those of the keys that say that they are open."""
         kvs, revision = self._keys(b"cf/o/", b"cf/o0")
         ends = _ends(kvs)
@@ -479,11 +479,11 @@ class Etcd(Store):
         found = self._ranges([_range(_key("g", name)) for name in names], serializable=True)
         return _glances_of([it for kvs in found for it in _pairs(kvs)])
 
-    def _opens(self, ends: Dict[Tuple[str, str], int], glances: Dict[Tuple[str, int], Glance]) -> List[Open]:
+    def _opens(self, ends: Dict[Tuple[str, str], int], glances: Dict[Tuple[str, int], Glance]) -> List[OpenRequest]:
         """What lists tell of these requests, as far as they are there."""
         self._read_heads([key for key in ends if key not in self._heads])
         opened = [(name, words, *self._heads[name, born]) for (name, born), words in ends.items() if (name, born) in self._heads]
-        return [Open(name, number, at, words, flow, glances.get((name, number))) for name, words, number, at, flow in opened]
+        return [OpenRequest(name, number, at, words, flow, glances.get((name, number))) for name, words, number, at, flow in opened]
 
     def _read_heads(self, keys: List[Tuple[str, str]]) -> None:
         if len(keys) > MOST_KEYS and self._count(b"cf/r/", b"cf/r0") <= 2 * len(keys):
@@ -546,7 +546,7 @@ class Etcd(Store):
         if not self._txn([self._is_there(timer.request, revision)], [_put(key, value)]).get("succeeded"):
             raise self._gone(timer.request)
 
-    def due(self, now: float) -> List[Timer]:
+    def timers_due(self, now: float) -> List[Timer]:
         told = []
         for key, value in self._get(b"cf/t/", b"cf/t0", serializable=True):
             due, payload = json.loads(value)

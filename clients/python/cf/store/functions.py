@@ -4,13 +4,13 @@ import importlib
 import operator
 from typing import Any, Callable, Dict, NamedTuple, Optional, Tuple, TypeVar
 
-from ..service.flow import Again, _alone
+from ..service.flow import FurtherTry, _alone
 from .rows import StoreError
 
 F = TypeVar("F", bound=Callable[..., Any])
 
 
-class Known(NamedTuple):
+class RegisteredFunction(NamedTuple):
     """A function. One that is transactional is called with the engine's connection first, and what it does with that
     stands exactly where its finish does."""
 
@@ -32,8 +32,8 @@ class Functions:
     """
 
     def __init__(self) -> None:
-        self._known: Dict[Tuple[str, int], Known] = {}
-        self._names: Dict[Any, Known] = {}
+        self._known: Dict[Tuple[str, int], RegisteredFunction] = {}
+        self._names: Dict[Any, RegisteredFunction] = {}
         self.function("cf.gather")(_alone)
         self.function("cf.add")(operator.add)
 
@@ -56,7 +56,7 @@ class Functions:
             ValueError: Another function is registered by this name and version."""
 
         def named(call: F) -> F:
-            known = Known(name or call.__name__, version, call, transactional)
+            known = RegisteredFunction(name or call.__name__, version, call, transactional)
             there = self._known.setdefault((known.name, version), known)
             if there.call is not call:
                 raise ValueError(f"{known.name}, version {version}, is another function already")
@@ -70,7 +70,7 @@ class Functions:
         for known in other._known.values():
             self.function(known.name, known.version, known.is_transactional)(known.call)
 
-    def of(self, call: Callable[..., Any]) -> Known:
+    def registration_of(self, call: Callable[..., Any]) -> RegisteredFunction:
         """What a function is registered as; `TypeError` if it isn't."""
         found = self._names.get(call)
         if found is None:
@@ -78,12 +78,12 @@ class Functions:
             raise TypeError(f"{name} isn't registered: other processes know functions by the names that @service.function(..) gives")
         return found
 
-    def named(self, name: str, version: int) -> Optional[Known]:
+    def find(self, name: str, version: int) -> Optional[RegisteredFunction]:
         """The function of a name and version, or None."""
         return self._known.get((name, version))
 
     @staticmethod
-    def of_module(name: str) -> "Functions":
+    def from_module(name: str) -> "Functions":
         """The functions of a module: its member `functions`."""
         module = importlib.import_module(name)
         found = getattr(module, "functions", None)
@@ -92,16 +92,16 @@ class Functions:
         return found
 
 
-def said_of(functions: Functions, call: Optional[Callable[..., Any]], args: Tuple[Any, ...], kwargs: Dict[str, Any]) -> Dict[str, Any]:
+def definition_of(functions: Functions, call: Optional[Callable[..., Any]], args: Tuple[Any, ...], kwargs: Dict[str, Any]) -> Dict[str, Any]:
     """What a plan or an attached stage's payload says of its function."""
     if call is None:
         return {}
-    if isinstance(call, Again):
+    if isinstance(call, FurtherTry):
         return {"again": call.of}
     if isinstance(call, functools.partial):
         partial: "functools.partial[Any]" = call
         call, args, kwargs = partial.func, (*partial.args, *args), {**partial.keywords, **kwargs}
-    known = functions.of(call)
+    known = functions.registration_of(call)
     said: Dict[str, Any] = {"fn": known.name, "version": known.version}
     if args:
         said["args"] = list(args)

@@ -19,7 +19,7 @@ MOST_TRIES = 100
 NAMED = {IS_CLAIMED: "at work", IS_READY: "ready", IS_PENDING: "pending", IS_LINKED: "linked"}
 
 
-class Wait(NamedTuple):
+class AwaitedStage(NamedTuple):
     """A stage that a request waits for, and how it stands: a value of `NAMED`."""
 
     stage: int
@@ -27,7 +27,7 @@ class Wait(NamedTuple):
     how: str
 
 
-class Claim(NamedTuple):
+class RunningStage(NamedTuple):
     """A stage whose function runs, which session runs it, and since when."""
 
     stage: int
@@ -45,7 +45,7 @@ class Queue(NamedTuple):
     since: float
 
 
-class Seen(NamedTuple):
+class GlanceContent(NamedTuple):
     """What a glance says.
 
     Attributes:
@@ -58,36 +58,36 @@ class Seen(NamedTuple):
 
     stages: int
     open: int
-    waits: List[Wait]
-    claims: List[Claim]
+    waits: List[AwaitedStage]
+    claims: List[RunningStage]
     ready: List[Queue]
     tries: int
     since: float
 
 
-def seen_of(view: RowView, now: float, before: Optional[Seen]) -> Seen:
+def content_of(view: RowView, now: float, before: Optional[GlanceContent]) -> GlanceContent:
     """What a view shows. What already was so in an earlier one is so since then."""
     order, claims, ready = _order(view), _claims(view), sorted(view.ready)
-    view.look_up(told_of(view))
-    view.look_up({int(view.said(stage).get("again", stage)) for stage in [*order[:1], *ready]})
+    view.read_definitions(stages_told(view))
+    view.read_definitions({int(view.definition(stage).get("again", stage)) for stage in [*order[:1], *ready]})
     known = {(it.stage, it.session): it.since for it in (before.claims if before else [])}
     lasting = {(it.function, it.version): it.since for it in (before.ready if before else [])}
     functions: Dict[Tuple[str, int], int] = {}
     for stage in ready:
         said = _called(view, stage)
         functions[said] = functions.get(said, 0) + 1
-    return Seen(
+    return GlanceContent(
         len(view.kinds),
         sum(kind != IS_SETTLED for kind in view.kinds),
-        [Wait(number, str(view.said(number)["name"]), NAMED[view.kinds[number]]) for number in order[:MOST_NAMED]],
-        [Claim(stage, str(view.said(stage)["name"]), session, known.get((stage, session), now)) for stage, session in claims],
+        [AwaitedStage(number, str(view.definition(number)["name"]), NAMED[view.kinds[number]]) for number in order[:MOST_NAMED]],
+        [RunningStage(stage, str(view.definition(stage)["name"]), session, known.get((stage, session), now)) for stage, session in claims],
         [Queue(*said, many, lasting.get(said, now)) for said, many in sorted(functions.items())[:MOST_TOLD]],
         max([0, *(_tries(view, number) for number in order[:1])]),
-        now if view.seen else view.opened.opened,
+        now if view.words_seen else view.opened.opened,
     )
 
 
-def told_of(view: RowView) -> Set[int]:
+def stages_told(view: RowView) -> Set[int]:
     """The stages that a glance says something of."""
     return {*_order(view)[:MOST_NAMED], *view.ready, *(stage for stage, _ in _claims(view))}
 
@@ -103,28 +103,28 @@ def _claims(view: RowView) -> List[Tuple[int, int]]:
 
 def _called(view: RowView, stage: int) -> Tuple[str, int]:
     """Name and version of the function that a stage calls: of a further try, those of what it tries again."""
-    said = view.said(stage)
+    said = view.definition(stage)
     if "again" in said:
-        said = view.said(int(said["again"]))
+        said = view.definition(int(said["again"]))
     return str(said.get("fn", "")), int(said.get("version", 0))
 
 
 def _tries(view: RowView, stage: int) -> int:
     """How many tries there were before this one: they stand in a row before it."""
-    first, tries = view.said(stage).get("again"), 0
+    first, tries = view.definition(stage).get("again"), 0
     while first is not None and stage != first and view.forms[stage][1] and tries < MOST_TRIES:
         stage, tries = view.forms[stage][1][0], tries + 1
     return tries
 
 
-def glance_of(view: RowView, now: float, before: Optional[Seen]) -> Glance:
+def glance_of(view: RowView, now: float, before: Optional[GlanceContent]) -> Glance:
     """A glance at what a view shows. `Broken` where what is said of a stage can't be read."""
-    seen = seen_of(view, now, before)
+    seen = content_of(view, now, before)
     said = json.dumps({"glance": FORMAT, **seen._asdict()}, separators=(",", ":"))
-    return Glance(view.name, view.opened.number, view.seen, said)
+    return Glance(view.name, view.opened.number, view.words_seen, said)
 
 
-def read(glance: Optional[Glance]) -> Optional[Seen]:
+def read(glance: Optional[Glance]) -> Optional[GlanceContent]:
     """What a glance says, or None where there is none that can be read."""
     if glance is None:
         return None
@@ -135,20 +135,20 @@ def read(glance: Optional[Glance]) -> Optional[Seen]:
     except ValueError:
         return _seen_in(glance.said)
     seen = _seen_in(head + "}")
-    return None if seen is None else Seen(*seen[:-1], moment)
+    return None if seen is None else GlanceContent(*seen[:-1], moment)
 
 
 @functools.lru_cache(4096)
-def _seen_in(text: str) -> Optional[Seen]:
+def _seen_in(text: str) -> Optional[GlanceContent]:
     try:
         said: Dict[str, Any] = json.loads(text)
         if said.get("glance") != FORMAT:
             return None
-        return Seen(
+        return GlanceContent(
             int(said["stages"]),
             int(said["open"]),
-            [Wait(int(stage), str(name), str(how)) for stage, name, how in said["waits"]],
-            [Claim(int(stage), str(name), int(session), float(since)) for stage, name, session, since in said["claims"]],
+            [AwaitedStage(int(stage), str(name), str(how)) for stage, name, how in said["waits"]],
+            [RunningStage(int(stage), str(name), int(session), float(since)) for stage, name, session, since in said["claims"]],
             [Queue(str(name), int(version), int(many), float(since)) for name, version, many, since in said["ready"]],
             int(said["tries"]),
             float(said.get("since", 0)),

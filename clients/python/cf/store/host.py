@@ -56,22 +56,22 @@ class Host:
         return made
 
     def call(self, known: Any, *args: Any, **kwargs: Any) -> Any:
-        """Calls a function, which is a `Known`."""
+        """Calls a function, which is a `RegisteredFunction`."""
         return known.call(*args, **kwargs)
 
-    def warns(self, text: str, request: str) -> None:
+    def warn(self, text: str, request: str) -> None:
         """Says that something can't be done now in a request."""
         LOGGER.warning("%s", text)
 
-    def fails(self, text: str, error: BaseException) -> None:
+    def report_failure(self, text: str, error: BaseException) -> None:
         """Says that a function has raised. Its stage fails with that."""
         LOGGER.warning("%s", text, exc_info=error)
 
-    def breaks(self, error: BaseException) -> None:
+    def report_broken(self, error: BaseException) -> None:
         """Says that a request can't be gone on with."""
         LOGGER.error("%s", error)
 
-    def raised(self, text: str, error: BaseException) -> None:
+    def report_raised(self, text: str, error: BaseException) -> None:
         """What nobody waits for has raised."""
         LOGGER.critical("%s", text, exc_info=error)
 

@@ -4,11 +4,11 @@ from typing import Any, Dict, List, Optional, Sequence, Tuple
 
 from ..plan import Plan
 from ..service.flow import Flow
-from ..service.words import COMPOSE_FORMS, FORMS, FORMS_WITHOUT_FUNCTION, Told
+from ..service.words import COMPOSE_FORMS, FORMS, FORMS_WITHOUT_FUNCTION, OutcomeNumbers
 from ..values import Form, Refused
 from .codec import json_of
-from .contexts import Carrier, captured
-from .functions import Functions, said_of
+from .contexts import Carrier, capture_all
+from .functions import Functions, definition_of
 from .replica import Replica
 from .rows import Broken
 
@@ -28,33 +28,33 @@ class SharedPlan:
             if read["cf"] != FORMAT:
                 raise ValueError(f"it is of version {read['cf']}")
             self.flow = str(read["flow"])
-            self.carried: Dict[str, Any] = dict(read.get("context", {}))
-            self.said: List[Dict[str, Any]] = [said_in(it, number) for number, it in enumerate(read["stages"])]
-            forms = [FORMS.index(it["form"]) for it in self.said]
+            self.carried_context: Dict[str, Any] = dict(read.get("context", {}))
+            self.definitions: List[Dict[str, Any]] = [checked_definition(it, number) for number, it in enumerate(read["stages"])]
+            forms = [FORMS.index(it["form"]) for it in self.definitions]
             self.rows: List[Tuple[int, Tuple[int, ...], Any, str]] = [
                 (form, tuple(it.get("of", [])), None if form in FORMS_WITHOUT_FUNCTION else _nobody, str(it["name"]))
-                for form, it in zip(forms, self.said)
+                for form, it in zip(forms, self.definitions)
             ]
             self._plan = Plan()
             for number, (form, of, call, _) in enumerate(self.rows):
                 self._plan.stage(Form(form), *of, function=None if call is None else number)
-            fresh = self.replica(0, 0, 0)
-            self.start: List[Tuple[int, Told]] = [fresh.stage(number) for number in range(len(self.rows))]
+            fresh = self.new_replica(0, 0, 0)
+            self.start: List[Tuple[int, OutcomeNumbers]] = [fresh.stage(number) for number in range(len(self.rows))]
         except (ValueError, KeyError, TypeError, Refused) as error:
             raise Broken(name, 0, f"its plan can't be read: {error!r}") from None
 
-    def is_of(self, flow: Flow) -> bool:
+    def is_plan_of(self, flow: Flow) -> bool:
         """Whether it is a flow's: it has the flow's name and steps, be their functions of another version."""
         its = [(int(form), of, name) for form, of, _, name in self.rows]
         return self.flow == flow.name and its == [(int(form), of, name) for form, of, _, name in flow._rows]
 
-    def replica(self, room: int, session: int, first: int) -> Replica:
+    def new_replica(self, room: int, session: int, first: int) -> Replica:
         """What a session has seen of a row of it before the first word, with room for so many stages more. Its tokens
         count from `first` on."""
         return Replica(self._plan, len(self.rows), room, session, first)
 
 
-def said_in(read: Any, number: int) -> Dict[str, Any]:
+def checked_definition(read: Any, number: int) -> Dict[str, Any]:
     """What was read of a stage of this number, if it is something of the kind: its name, its function's name,
     version and arguments, and the lower stages that it speaks of."""
     kinds = {"name": str, "fn": str, "version": int, "args": list, "kwargs": dict, "again": int, "to": int, "by": int, "context": dict}
@@ -77,8 +77,8 @@ def text_of(flow: Optional[Flow], functions: Functions, carriers: Sequence[Carri
     for form, of, call, name in [] if flow is None else flow._rows:
         if form in COMPOSE_FORMS:
             raise TypeError(f"{name}: a flow in a store has no compose; a stage of a request has")
-        stages.append({"form": FORMS[form], "of": list(of), "name": name, **said_of(functions, call, (), {})})
-    return json_of({"cf": FORMAT, "flow": "" if flow is None else flow.name, "stages": stages, **captured(carriers)}, separators=(",", ":"))
+        stages.append({"form": FORMS[form], "of": list(of), "name": name, **definition_of(functions, call, (), {})})
+    return json_of({"cf": FORMAT, "flow": "" if flow is None else flow.name, "stages": stages, **capture_all(carriers)}, separators=(",", ":"))
 
 
 def are_alike(text: str, other: str) -> bool:
@@ -94,6 +94,6 @@ def _bare(text: str) -> Any:
     return {name: it for name, it in read.items() if name != "context"} if isinstance(read, dict) else read
 
 
-def alike_in(said: Dict[str, Any]) -> Dict[str, Any]:
+def comparable_definition(said: Dict[str, Any]) -> Dict[str, Any]:
     """What is said of a stage that is the same where its function is to do the same."""
     return {name: it for name, it in said.items() if name not in ("context", "to")}

@@ -7,7 +7,7 @@ import threading
 import time
 from typing import Any, Dict, Generator, Iterator, List, Mapping, NoReturn, Optional, Sequence, Set, Tuple
 
-from .rows import FIRST, Broken, Entry, Glance, Opened, Pulse, Put, Row, StoreError, Timer, Transaction, Unknown, Wanted, in_a_row
+from .rows import FIRST, Broken, Entry, Glance, Opened, Pulse, Put, ReadRow, StoreError, Timer, Transaction, Unknown, RowQuery, in_a_row
 from .tables import ANEW, COLUMNS, GLANCED, TableStore, _Mark, _opens, _Other
 
 psycopg2: Any = importlib.import_module("psycopg2")  # (its types are installed on some machines only)
@@ -358,7 +358,7 @@ class Postgres(TableStore):
 
     # What pages ask for, each by one statement: while a machine is busy, what takes long is the next turn.
 
-    def read_rows(self, wanted: Sequence[Wanted]) -> Dict[str, Row]:
+    def read_rows(self, wanted: Sequence[RowQuery]) -> Dict[str, ReadRow]:
         its = [it.number for it in wanted], [it.at for it in wanted]
         heads: Dict[int, Optional[Opened]] = {}
         words: Dict[int, List[Tuple[Any, ...]]] = {it.number: [] for it in wanted}
@@ -374,7 +374,7 @@ class Postgres(TableStore):
             with contextlib.suppress(Broken):
                 if it.number in heads:
                     entries = in_a_row(it.name, it.at, sorted(words[it.number]))
-                    told[it.name] = Row(heads[it.number], entries, payloads[it.number])
+                    told[it.name] = ReadRow(heads[it.number], entries, payloads[it.number])
         return told
 
     def payloads_of(self, wanted: Mapping[Tuple[str, int], Sequence[int]]) -> Dict[str, Dict[int, bytes]]:
@@ -433,7 +433,7 @@ class Postgres(TableStore):
         if db is not None:
             db.close()
 
-    def changed(self, seconds: float) -> None:
+    def wait_for_change(self, seconds: float) -> None:
         with self._telling():
             db = getattr(self._local, "listens", None)
             try:
@@ -478,7 +478,7 @@ class Postgres(TableStore):
         )[0]:
             raise self._gone(timer.request)
 
-    def due(self, now: float) -> List[Timer]:
+    def timers_due(self, now: float) -> List[Timer]:
         rows = self._ask("select name, stage, due, payload, id from cf_timer join cf_request on id = request where due <= %s order by due", now)
         return [Timer(str(name), int(stage), float(at), bytes(payload), int(number)) for name, stage, at, payload, number in rows]
 

@@ -1,4 +1,4 @@
-"""What a session has seen of a row, by a view of the library, whose replies and news are read as numbers."""
+"""A session's replica of a row, by a view of the library, whose replies and news are read as numbers."""
 import ctypes as c
 from array import array
 from typing import Any, Callable, Iterator, NamedTuple, Optional, Sequence, Tuple
@@ -7,14 +7,14 @@ from .. import _library
 from .._library import CALLS, CEntry, CNews, CReply, CRowClaim, CRowOpening, CStage, CTask, path
 from ..handle import Handle
 from ..plan import Plan
-from ..service.words import GIVES, LINKS, REPLY_NUMBERS, THROWS, Told
+from ..service.words import GIVES, LINKS, REPLY_NUMBERS, THROWS, OutcomeNumbers
 from ..values import Code, check
 
 _loaded = c.PyDLL(path)  # it keeps the interpreter's lock: to let it go and take it again costs more than a call does
 
 
 def _bound(name: str, address: int = -1) -> Callable[..., int]:
-    """A call, of which the argument at a place may be given as an address."""
+    """A call of the library that takes an address in one place."""
     call: Any = getattr(_loaded, name)
     call.argtypes = [c.c_void_p if place == address else kind for place, kind in enumerate(CALLS[name])]
     call.restype = c.c_uint32
@@ -30,30 +30,30 @@ NO_VALUE = 0  # what a finish says that gives none
 _ANSWERS = {NO_VALUE: _library.GIVE, GIVES: _library.GIVE, THROWS: _library.THROW, LINKS: _library.LINK}
 
 
-class Ended(NamedTuple):
-    """A stage whose function has ended, and what it came to, as a finish says it: `NO_VALUE`, or one of `GIVES`,
-    `THROWS` and `LINKS` with its number."""
+class FinishAnswer(NamedTuple):
+    """A stage whose function has ended, and its answer: `NO_VALUE`, or one of `GIVES`, `THROWS` and `LINKS` with its
+    number."""
 
     stage: int
     kind: int
     number: int
 
 
-def told_of(stage: CStage) -> Told:
-    """What a stage came to."""
+def told_of(stage: CStage) -> OutcomeNumbers:
+    """The outcome of a stage."""
     outcome = stage.outcome
-    return Told(outcome.kind, outcome.wrapped, outcome.code, outcome.value.kind, outcome.value.number)
+    return OutcomeNumbers(outcome.kind, outcome.wrapped, outcome.code, outcome.value.kind, outcome.value.number)
 
 
 class Replica(Handle):
-    """What a session has seen of the row of a plan of so many stages, with room for some that are attached, and the
-    put that it has under way. One thread at a time has it. Each call raises `Refused` as cf.h says.
+    """A session's replica of a row, and its put under way. One thread at a time uses it. Each call raises `Refused` as
+    cf.h says.
 
     Args:
         plan: The plan that the row begins with.
         stages: How many stages it has.
-        room: How many may be attached.
-        session: Whose view it is.
+        room: How many stages may be attached.
+        session: The session whose view it is.
         first: The count of its first token; each further one has the next, up to 2^23.
 
     Attributes:
@@ -71,30 +71,31 @@ class Replica(Handle):
         self.reply = (c.c_uint32 * REPLY_NUMBERS).from_buffer(reply)
         self._news = (CNews * max(stages + room, 1))()
 
-    def number(self) -> int:
-        """The session's caller's number: that which it has, or that which it takes with its next put."""
+    def caller_number(self) -> int:
+        """The session's number as a caller, or the one that its next put will take."""
         check(_number(self._to, self._to_who))
         return self._who.value
 
-    def plan(self, words: Sequence[int]) -> int:
-        """Plans a put of these words behind what is seen, and gives the token of the first. The put is under way then,
-        and nothing is seen before it was met or given up. A word above 64 bits raises `OverflowError`."""
+    def plan_put(self, words: Sequence[int]) -> int:
+        """Plans a put of these words at the end of the replica, and returns the token of the first. The put is under way
+        then, and no entry can be taken in until it has landed or is given up. A word above 64 bits raises
+        `OverflowError`."""
         given = array("Q", words)
         check(_plan(self._to, given.buffer_info()[0], len(given), self._to_token))
         return self._token.value
 
-    def met(self, word: int, token: int) -> bool:
-        """At the put's place this entry stands. Whether it is the put's own, which has landed; the put is over then."""
+    def landed(self, word: int, token: int) -> bool:
+        """Ends the put under way. Returns whether it has landed, by the entry that stands at its place."""
         self._entry.word, self._entry.token = word, token
         check(_met(self._to, self._to_entry, self._to_landed))
         return bool(self._landed.value)
 
-    def give_up(self) -> None:
-        """The put is over, if there is one, and it isn't known whether it stands."""
+    def give_up_put(self) -> None:
+        """Ends the put under way, if there is one, without knowing whether it stands."""
         check(_give_up(self._to))
 
-    def saw(self, word: int, token: int) -> Sequence[CNews]:
-        """This entry stands behind all that was seen. The stages that it changed."""
+    def take_in(self, word: int, token: int) -> Sequence[CNews]:
+        """Takes in the next entry of the row, and returns the stages that it changed."""
         self._entry.word, self._entry.token = word, token
         check(_saw(self._to, self._to_entry, self._to_reply, self._news, len(self._news), self._to_changed))
         return self._news[: self._changed.value]
@@ -104,51 +105,49 @@ class Replica(Handle):
         check(_grow(self._to, more))
         self._news = (CNews * (len(self._news) + more))()
 
-    def stage(self, number: int) -> Tuple[int, Told]:
-        """How far a stage has come, and what it came to."""
+    def stage(self, number: int) -> Tuple[int, OutcomeNumbers]:
+        """The kind of a stage's state, and its outcome."""
         told = CStage()
         check(_stage(self._to, number, c.byref(told)))
         return told.kind, told_of(told)
 
     def claims(self, first: int = 0) -> Iterator[Tuple[int, int]]:
-        """The stages from a number on whose claim is open, rising, each with the session to which it was granted. What
-        is asked here and below, any thread may ask."""
+        """The stages from a number on whose claim is open, rising, each with the session that holds it. Any thread may
+        call this and the methods below."""
         told = CRowClaim()
         while _is_there(_open_claim(self._to, first, c.byref(told))):
             yield told.stage, told.session
             first = told.stage + 1
 
-    def held(self, session: int, first: int = 0) -> Iterator[int]:
-        """The stages from a number on that a session has, rising: its claim was granted to the session and is open, and
-        it isn't settled."""
+    def stages_held_by(self, session: int, first: int = 0) -> Iterator[int]:
+        """The unsettled stages from a number on whose open claim this session holds, rising."""
         told = c.c_uint16()
         while _is_there(_held(self._to, session, first, c.byref(told))):
             yield told.value
             first = told.value + 1
 
-    def abandon(self, session: int, first: int, code: int) -> Optional[int]:
-        """The word that fails the lowest stage from a number on that a session has, with this code, or None where it
-        has none."""
+    def word_to_abandon(self, session: int, first: int, code: int) -> Optional[int]:
+        """The word that fails, with this code, the lowest stage from a number on that a session holds, or None where it
+        holds none."""
         word = c.c_uint64()
         return word.value if _is_there(_abandon(self._to, session, first, code, c.byref(word))) else None
 
-    def finish(self, ended: Ended) -> Optional[int]:
-        """The word that finishes a stage of the session's own, or None where no claim of it is open that was granted to
-        the session."""
+    def word_to_finish(self, ended: FinishAnswer) -> Optional[int]:
+        """The word that finishes a stage, or None where this session has no open claim of it."""
         word = c.c_uint64()
         return word.value if _is_there(_finish(self._to, c.byref(_task_of(ended)), c.byref(word))) else None
 
-    def next_claims(self, ended: Optional[Ended]) -> Iterator[int]:
-        """The stages that the session could claim next, rising: those that are ready, and those that are ready once
-        this stage is finished, and wait for it alone."""
+    def next_claims(self, ended: Optional[FinishAnswer]) -> Iterator[int]:
+        """The stages that the session could claim next, rising: the ready ones, and those that become ready by this
+        finish."""
         task, told, first = c.byref(_task_of(ended)), c.c_uint16(), 0
         while _is_there(_next_claim(self._to, task, first, c.byref(told))):
             yield told.value
             first = told.value + 1
 
 
-def _task_of(ended: Optional[Ended]) -> CTask:
-    """What the library is told of a stage that has ended."""
+def _task_of(ended: Optional[FinishAnswer]) -> CTask:
+    """The answer of a function, as the library takes it."""
     task = CTask()
     if ended is not None:
         task.held, task.stage, answer = 1, ended.stage, task.answer
@@ -158,7 +157,7 @@ def _task_of(ended: Optional[Ended]) -> CTask:
 
 
 def _is_there(code: int) -> bool:
-    """Whether a call told something, where it may say that there is nothing."""
+    """Whether a call found something. A code other than NOTHING raises `Refused`."""
     if code != Code.NOTHING:
         check(code)
     return code != Code.NOTHING

@@ -45,7 +45,7 @@ Relays
     (`_relay`).
 
 Deadlines
-    `_later` keeps a timer in the store. The pump of any process that works on the request fires it (`_fire`), which is
+    `_set_timer` keeps a timer in the store. The pump of any process that works on the request fires it (`_fire`), which is
     a change as any other, and forgets it then. A stage has one timer.
 
 Room
@@ -57,7 +57,7 @@ Errors
     `Gone`, a `Broken`: the request was dropped. `StoreError`: all else that a store refuses.
 
 Which methods call a user's code
-    `DurableService._called`, `_composed` and `_tried` (functions), `DurableStage._invoke_callbacks`, the codec in
+    `DurableService._call_for_result`, `_call_composing` and `_try_in_transaction` (functions), `DurableStage._invoke_callbacks`, the codec in
     `_outcome` and `_value`, and `history` (codec and `describe`).
 """
 import asyncio
@@ -69,7 +69,7 @@ import threading
 from concurrent.futures import CancelledError, InvalidStateError
 from typing import TYPE_CHECKING, Any, Callable, ContextManager, Dict, Generator, Generic, Iterable, List, Optional, Sequence, Set, Tuple, TypeVar
 
-from ..service.flow import Again, Step, _alone
+from ..service.flow import FurtherTry, Step, _alone
 from ..service.history import Describe, History, escaped
 from ..service.stage import ASYNCIOS
 from ..service.words import (
@@ -88,22 +88,22 @@ from ..service.words import (
     TIMED_OUT,
     VALUE,
     RequestFull,
-    Told,
+    OutcomeNumbers,
 )
 from ..values import BadAnswer, Form
-from .view import Done, RowView
+from .view import DoneWord, RowView
 from .codec import Abandoned, json_of
-from .contexts import captured
-from .functions import said_of
-from .plans import alike_in
-from .glances import Seen, glance_of
+from .contexts import capture_all
+from .functions import definition_of
+from .plans import comparable_definition
+from .glances import GlanceContent, glance_of
 from .glances import read as read_glance
 from .rows import Glance, Put, StoreError, Timer, Transaction, Unknown
 
 if TYPE_CHECKING:
     from typing_extensions import ParamSpec
 
-    from .service import DurableService, Finish
+    from .service import DurableService, FunctionResult
 
     P = ParamSpec("P")
 
@@ -151,7 +151,7 @@ class DurableStage(_Future[T]):
     @property
     def name(self) -> str:
         """What histories call the stage: the name of its function, or of the promise."""
-        return str(self.request._view.said(self.number)["name"])
+        return str(self.request._view.definition(self.number)["name"])
 
     def then(self, fn: Callable[[T], U]) -> "DurableStage[U]":
         """As `cf.service.Stage.then`, with a registered function."""
@@ -207,12 +207,12 @@ class DurableStage(_Future[T]):
         Returns:
             The last try. It passes on the value of an earlier one."""
         stage, name = self, f"{self.name} again"
-        composes = "to" in self.request._view.said(self.number)
+        composes = "to" in self.request._view.definition(self.number)
         for _ in range(times):
             if composes:
-                stage = self.request._compose(stage, Again(self.number), name)
+                stage = self.request._compose(stage, FurtherTry(self.number), name)
             else:
-                stage = self.request._attach(Form.EXCEPTIONALLY, (stage,), Again(self.number), name=name)
+                stage = self.request._attach(Form.EXCEPTIONALLY, (stage,), FurtherTry(self.number), name=name)
         return stage
 
     def complete(self, value: T) -> bool:
@@ -244,12 +244,12 @@ class DurableStage(_Future[T]):
         Returns:
             This stage itself."""
         error = TimeoutError(f"{escaped(self.name)} took longer than {seconds} s")
-        return self.request._later(self, seconds, b"E" + self.request._service.codec.write_error(error))
+        return self.request._set_timer(self, seconds, b"E" + self.request._service.codec.write_error(error))
 
     def complete_on_timeout(self, value: T, seconds: float) -> "DurableStage[T]":
         """Sets a timer in the store, by which the stage gets a value unless it is settled, as `or_timeout`."""
         payload = b"N" if value is None else b"V" + self.request._service.codec.write(value)
-        return self.request._later(self, seconds, payload)
+        return self.request._set_timer(self, seconds, payload)
 
     def set_result(self, result: T) -> None:
         """As `complete`; a settled stage raises `InvalidStateError`."""
@@ -292,7 +292,7 @@ class DurableStage(_Future[T]):
     @property
     def _ended(self) -> int:
         """The kind of its outcome, as far as it is read."""
-        return self.request._view.told[self.number].kind
+        return self.request._view.outcomes[self.number].kind
 
     def _show(self, value: Any, error: Optional[BaseException], is_cancelled: bool) -> None:
         """Tells those who wait, once."""
@@ -336,18 +336,20 @@ class Composing:
         self.stage, self.first = stage, stage if first is None else first
         self.taken: Set[int] = set()
 
-    def goes_on(self, view: RowView) -> None:
+    def check_goes_on(self, view: RowView) -> None:
         """`Abandoned` where the stage isn't the session's any more: another try attaches stages."""
         if view.is_settled(self.stage) or view.holder(self.stage) != view.session:
-            raise Abandoned(f"{view.said(self.first)['name']} is settled, and its function attaches nothing any more")
+            raise Abandoned(f"{view.definition(self.first)['name']} is settled, and its function attaches nothing any more")
 
-    def attached(self, view: RowView, form: Tuple[int, Tuple[int, ...]], said: Dict[str, Any]) -> List[int]:
+    def stages_of_earlier_tries(self, view: RowView, form: Tuple[int, Tuple[int, ...]], said: Dict[str, Any]) -> List[int]:
         """The stages that earlier tries have attached, that are such ones, and that weren't taken yet."""
         if self.first == self.stage:
             return []
-        wanted = alike_in(json.loads(json.dumps(said)))
+        wanted = comparable_definition(json.loads(json.dumps(said)))
         return [
-            number for number in view.attached if view.forms[number] == form and number not in self.taken and alike_in(view.said(number)) == wanted
+            number
+            for number in view.attach_places
+            if view.forms[number] == form and number not in self.taken and comparable_definition(view.definition(number)) == wanted
         ]
 
 
@@ -369,18 +371,18 @@ class DurableRequest:
         self.kept = 0  # how often it was asked for again
         self._rested = -1  # how many words were seen at the last beat
         self.glanced: int = -1  # how many the glance has seen that was kept
-        self._glance_seen: Optional[Seen] = None  # what the last glance says
+        self._glance_seen: Optional[GlanceContent] = None  # what the last glance says
         self._composed_by: Dict[int, Composing] = {}  # by threads, the stages whose functions attach stages
         self._unshown: Set[int] = set()  # settled stages whose payload couldn't be read yet
         self._describe: Describe = service._describe
 
     def __repr__(self) -> str:
-        return f"<{type(self).__name__} {self.name!r} of {len(self._view.told)} stages>"
+        return f"<{type(self).__name__} {self.name!r} of {len(self._view.outcomes)} stages>"
 
     @property
-    def seen(self) -> int:
+    def words_seen(self) -> int:
         """How many words of it this process has read."""
-        return self._view.seen
+        return self._view.words_seen
 
     # Stages.
 
@@ -401,21 +403,21 @@ class DurableRequest:
     def all_of(self, *of: "DurableStage[Any]") -> "DurableStage[None]":
         """A stage that ends once all are settled: with None if all have values, else with the exception of the first
         one in this order that has one. For n stages it takes n - 1, at least one."""
-        return self._tree(Form.ALL_OF, of, "all of")
+        return self._attach_tree(Form.ALL_OF, of, "all of")
 
     def first_of(self, *of: "DurableStage[T]") -> "DurableStage[T]":
         """A stage that ends as the first one that is settled, be it with an exception. For n stages it takes n - 1,
         at least one. `ValueError` if no stage is given."""
         if not of:
             raise ValueError("of no stages none is the first")
-        return self._tree(Form.ANY_OF, of, "first of")
+        return self._attach_tree(Form.ANY_OF, of, "first of")
 
     def gather(self, *of: "DurableStage[T]") -> "DurableStage[List[T]]":
         """A stage that ends with the list of the values of all, in this order, or fails as `all_of` does. For n
         stages it takes 2 n - 1. `ValueError` if no stage is given."""
         if not of:
             raise ValueError("a list of nothing needs no stage")
-        add = self._service.functions.named("cf.add", 1)
+        add = self._service.functions.find("cf.add", 1)
         assert add is not None
         row: List[DurableStage[Any]] = [self._attach(Form.APPLY, (stage,), _alone, name="gather") for stage in of]
         while len(row) > 1:
@@ -427,11 +429,11 @@ class DurableRequest:
         """The stage of a flow's step, the one of a number, or the first one of a name. `KeyError` if there is none, or
         if the request wasn't begun with the step's flow: one of its name, with these steps."""
         self._catch_up()
-        if isinstance(which, Step) and not self._view.plan.is_of(which.flow):
+        if isinstance(which, Step) and not self._view.plan.is_plan_of(which.flow):
             raise KeyError(f"{which.name} is a step of another flow")
         many = len(self._view.forms)
         if isinstance(which, str):
-            which = next((k for k in range(many) if self._view.said(k)["name"] == which), many)
+            which = next((k for k in range(many) if self._view.definition(k)["name"] == which), many)
         number = which.number if isinstance(which, Step) else which
         if not 0 <= number < many:
             raise KeyError(which)
@@ -445,19 +447,19 @@ class DurableRequest:
 
     def _history(self) -> History:
         """All that is seen."""
-        return self._view.history(self._service.codec, self._lock)._described(self._describe)
+        return self._view.history(self._service.codec, self._lock)._with_descriptions(self._describe)
 
     def end(self) -> None:
         """Closes the request: nothing is left to do in it, and workers look at it no more. Its timers are forgotten.
         A flow's request is closed by itself once all its stages are settled. A stage that is attached opens a
         request again."""
         self._catch_up()
-        if self._view.sure(lambda: self._service.store.end(self.name, self.seen, self.number)):
+        if self._view.retrying_for_a_minute(lambda: self._service.store.end(self.name, self.words_seen, self.number)):
             self._service._tell_end(self)
 
     # Acting on the row.
 
-    def _act(self, decide: Callable[[RowView], Any], opens: bool = False) -> Optional[List[Done]]:
+    def _act(self, decide: Callable[[RowView], Any], opens: bool = False) -> Optional[List[DoneWord]]:
         if threading.get_ident() in self._transacts:
             raise StoreError(f"request {self.name!r}: its transactional function can't put to it: that takes the place of its finish")
         try:
@@ -489,7 +491,7 @@ class DurableRequest:
     ) -> "DurableStage[Any]":
         if any(stage.request._view is not self._view for stage in of):
             raise TypeError("no stage of this request")
-        said = self._said_of(call, args, kwargs or {})
+        said = self._definition_of(call, args, kwargs or {})
         said = {"name": name or said.get("fn", form.name.lower()), **said}
         payload = json_of(said).encode()
         sources = tuple(stage.number for stage in of)
@@ -498,37 +500,37 @@ class DurableRequest:
             view.make_room(1)
             number, (first, second) = len(view.forms), (*sources, 0, 0)[:2]
             low = form << 24 | second << 12 | (0 if call is None else number)
-            return [(ATTACH << 56 | view.who << 48 | first << 36 | len(sources) << 32 | low, payload)]
+            return [(ATTACH << 56 | view.caller_number << 48 | first << 36 | len(sources) << 32 | low, payload)]
 
-        return self._attached(form, sources, said, words)
+        return self._attach_or_find(form, sources, said, words)
 
     def _compose(self, source: "DurableStage[Any]", call: Callable[..., Any], name: str = "") -> "DurableStage[Any]":
-        """A stage that composes, with the promise for what comes; or a further try of one, by `Again`."""
+        """A stage that composes, with the promise for what comes; or a further try of one, by `FurtherTry`."""
         if source.request._view is not self._view:
             raise TypeError("no stage of this request")
-        form = Form.EXCEPTIONALLY_COMPOSE if isinstance(call, Again) else Form.COMPOSE
-        said = self._said_of(call, (), {})
+        form = Form.EXCEPTIONALLY_COMPOSE if isinstance(call, FurtherTry) else Form.COMPOSE
+        said = self._definition_of(call, (), {})
         said = {"name": name or said["fn"], **said}
 
         def words(view: RowView) -> Any:
             view.make_room(2)
-            number, head = len(view.forms), ATTACH << 56 | view.who << 48
+            number, head = len(view.forms), ATTACH << 56 | view.caller_number << 48
             promise = json.dumps({"name": f"what {said['name']} gives"}).encode()
             return [
                 (head | Form.SOURCE << 24, promise),
                 (head | source.number << 36 | 1 << 32 | form << 24 | number + 1, json_of({**said, "to": number}).encode()),
             ]
 
-        return self._attached(form, (source.number,), said, words)
+        return self._attach_or_find(form, (source.number,), said, words)
 
-    def _said_of(self, call: Optional[Callable[..., Any]], args: Tuple[Any, ...], kwargs: Dict[str, Any]) -> Dict[str, Any]:
+    def _definition_of(self, call: Optional[Callable[..., Any]], args: Tuple[Any, ...], kwargs: Dict[str, Any]) -> Dict[str, Any]:
         """What is said of a stage that is attached: its function, and which function of a stage attaches it."""
-        said = said_of(self._service.functions, call, args, kwargs)
-        said.update(captured(self._service.contexts) if call is not None else {})
-        composing = self._composes()
+        said = definition_of(self._service.functions, call, args, kwargs)
+        said.update(capture_all(self._service.contexts) if call is not None else {})
+        composing = self._composing_here()
         return said if composing is None else {**said, "by": composing.first}
 
-    def _composes(self) -> "Optional[Composing]":
+    def _composing_here(self) -> "Optional[Composing]":
         """The stage whose function runs on this thread and attaches stages to this request, or None."""
         return self._composed_by.get(threading.get_ident())
 
@@ -541,16 +543,16 @@ class DurableRequest:
         finally:
             del self._composed_by[threading.get_ident()]
 
-    def _attached(self, form: Form, sources: Tuple[int, ...], said: Dict[str, Any], words: Callable[[RowView], Any]) -> "DurableStage[Any]":
+    def _attach_or_find(self, form: Form, sources: Tuple[int, ...], said: Dict[str, Any], words: Callable[[RowView], Any]) -> "DurableStage[Any]":
         """Puts words that attach stages, and gives the last of these, which is of this form, or gives the one that an
         earlier try of the function has attached. A request that is closed in the store is opened again with that."""
-        composing = self._composes()
+        composing = self._composing_here()
         found: List[int] = []
 
         def decide(view: RowView) -> Any:
             if composing is not None:
-                composing.goes_on(view)
-                found[:] = composing.attached(view, (int(form), sources), said)[:1]
+                composing.check_goes_on(view)
+                found[:] = composing.stages_of_earlier_tries(view, (int(form), sources), said)[:1]
             return None if found else words(view)
 
         try:
@@ -577,22 +579,22 @@ class DurableRequest:
                 raise ValueError(f"there is no stage {given}")
             return given
 
-        for stage in list(view.unlinked):
-            promise = int(view.said(stage).get("to", stage))
+        for stage in list(view.unlinked_stages):
+            promise = int(view.definition(stage).get("to", stage))
             if promise not in view.links and not view.is_settled(promise):
                 self._settle(CANCEL, promise, None)
-            view.unlinked.discard(stage)
+            view.unlinked_stages.discard(stage)
         for promise, place in list(view.links.items()):
-            given = view.read(place, given_in) if not view.is_settled(promise) else promise
+            given = view.read_payload(place, given_in) if not view.is_settled(promise) else promise
             if given == promise:
                 view.links.pop(promise, None)
             elif view.is_settled(given):
-                kind, payload = self._alike(given)
-                self._settle(kind, promise, payload, failure=view.told[given].kind)
+                kind, payload = self._settling_as(given)
+                self._settle(kind, promise, payload, failure=view.outcomes[given].kind)
 
-    def _alike(self, stage: int) -> Tuple[int, Optional[bytes]]:
+    def _settling_as(self, stage: int) -> Tuple[int, Optional[bytes]]:
         """The call that settles a promise as a stage is, and its payload."""
-        told = self._view.told[stage]
+        told = self._view.outcomes[stage]
         if told.kind == VALUE:
             return COMPLETE, self._view.payload(told.number) if told.some else None
         if told.kind == CANCELLED and not told.wrapped:
@@ -600,10 +602,10 @@ class DurableRequest:
         if told.kind == THROWN:
             return FAIL, self._view.payload(told.code)
         if told.kind in FAILURES:
-            return FAIL_AS, self._view.payload_if_any(self._view.failed_of((stage,), told.kind))
+            return FAIL_AS, self._view.payload_if_any(self._view.place_of_failure((stage,), told.kind))
         return FAIL, self._service._error(CancelledError())
 
-    def _tree(self, form: Form, of: "Sequence[DurableStage[Any]]", name: str) -> "DurableStage[Any]":
+    def _attach_tree(self, form: Form, of: "Sequence[DurableStage[Any]]", name: str) -> "DurableStage[Any]":
         """An attached stage has at most two sources; a tree of them tells what one stage of all would."""
         if len(self._view.forms) + max(len(of) - 1, 1) > MOST_STAGES:
             raise RequestFull("a request has at most 4,096 stages")
@@ -620,16 +622,20 @@ class DurableRequest:
             if view.is_settled(stage) or waits and view.holder(stage) is not None:
                 return None
             low = (
-                FAILURES.index(failure) << 32 if kind == FAIL_AS else 0 if payload is None else (GIVES << 32 if kind == COMPLETE else 0) | view.place
+                FAILURES.index(failure) << 32
+                if kind == FAIL_AS
+                else 0
+                if payload is None
+                else (GIVES << 32 if kind == COMPLETE else 0) | view.next_place
             )
-            return [(kind << 56 | view.who << 48 | stage << 36 | low, payload)]
+            return [(kind << 56 | view.caller_number << 48 | stage << 36 | low, payload)]
 
         try:
             done = self._act(decide)
         finally:
             self._service._serve(self)
         if done is None:
-            return kind == CANCEL and self._view.told[stage].kind == CANCELLED and not self._view.told[stage].wrapped
+            return kind == CANCEL and self._view.outcomes[stage].kind == CANCELLED and not self._view.outcomes[stage].wrapped
         return bool(done[0].reply[ANSWER])
 
     def _complete_all(self, given: "List[Tuple[int, Optional[bytes]]]") -> None:
@@ -640,22 +646,22 @@ class DurableRequest:
         def decide(view: RowView) -> Any:
             left = [(stage, payload) for stage, payload in given[:32] if not view.is_settled(stage)]
             return [
-                (COMPLETE << 56 | view.who << 48 | stage << 36 | (0 if payload is None else GIVES << 32 | view.place + k), payload)
+                (COMPLETE << 56 | view.caller_number << 48 | stage << 36 | (0 if payload is None else GIVES << 32 | view.next_place + k), payload)
                 for k, (stage, payload) in enumerate(left)
             ]
 
         self._act(decide)
 
-    def _later(self, stage: "DurableStage[T]", seconds: float, payload: bytes) -> "DurableStage[T]":
+    def _set_timer(self, stage: "DurableStage[T]", seconds: float, payload: bytes) -> "DurableStage[T]":
         if not stage.done():
             store = self._service.store
-            self._view.sure(lambda: store.set_timer(Timer(self.name, stage.number, store.now() + seconds, payload, self.number)))
+            self._view.retrying_for_a_minute(lambda: store.set_timer(Timer(self.name, stage.number, store.now() + seconds, payload, self.number)))
         return stage
 
     def _fire(self, timer: Timer) -> None:
         kind, payload = timer.payload[:1], timer.payload[1:]
         if not 0 <= timer.stage < len(self._view.forms):
-            raise StoreError(f"place {self._view.place}: a timer is set for stage {timer.stage}, which isn't there")
+            raise StoreError(f"place {self._view.next_place}: a timer is set for stage {timer.stage}, which isn't there")
         self._settle(FAIL_AS if kind == b"E" else COMPLETE, timer.stage, None if kind == b"N" else payload)
 
     @contextlib.contextmanager
@@ -678,8 +684,8 @@ class DurableRequest:
         if not self._lock.acquire(blocking=False):
             return None
         try:
-            rests, self._rested = self.seen == self._rested, self.seen
-            if not rests or self.seen == self.glanced or self._view.last != session:
+            rests, self._rested = self.words_seen == self._rested, self.words_seen
+            if not rests or self.words_seen == self.glanced or self._view.last_session != session:
                 return None
             made = glance_of(self._view, now, self._glance_seen)
             self._glance_seen = read_glance(made)
@@ -687,25 +693,25 @@ class DurableRequest:
         finally:
             self._lock.release()
 
-    def _act_within(self, transaction: Transaction, finish: "Finish") -> bool:
+    def _act_within(self, transaction: Transaction, finish: "FunctionResult") -> bool:
         """Puts a finish within a transaction, and says whether that stands. `Unknown` where it may. What it settled
         isn't shown yet."""
         with self._lock:
-            wanted = None if self._view.is_settled(finish.stage) else finish.word(self._view)
+            wanted = None if self._view.is_settled(finish.stage) else finish.word_to_put(self._view)
             if wanted is None:
                 return False
-            put: Put = self._view.put_of([wanted])
+            put: Put = self._view.plan_put([wanted])
             try:
                 stands = transaction.append(put)
                 if stands:
                     transaction.commit()
             except BaseException:
-                self._view.doubt(put)
+                self._view.leave_in_doubt(put)
                 raise
             if not stands:
-                self._view.give_up()
+                self._view.give_up_put()
                 return False
-            self._view.landed(put, put.entries)
+            self._view.take_in_put(put, put.entries)
             return True
 
     def _read(self) -> None:
@@ -723,7 +729,7 @@ class DurableRequest:
 
     def _end_if_done(self) -> None:
         with self._lock:  # (another thread may be reading a word)
-            seen = self.seen if self._is_over() else None
+            seen = self.words_seen if self._is_over() else None
         if seen is not None and self._service.store.end(self.name, seen, self.number):
             self._service._tell_end(self)
 
@@ -733,7 +739,7 @@ class DurableRequest:
                 stage.cancel()
 
     def _fail_all(self, error: BaseException) -> None:
-        self._each(list(self._stages), lambda stage: stage._show(None, error, False))
+        self._show_each(list(self._stages), lambda stage: stage._show(None, error, False))
 
     # What the row's numbers stand for.
 
@@ -745,8 +751,8 @@ class DurableRequest:
         self._show_these([number])
         return stage
 
-    def _show(self, news: List[Done]) -> None:
-        self._service._heard(news)
+    def _show(self, news: List[DoneWord]) -> None:
+        self._service._note_signs_of_life(news)
         self._show_these([*self._unshown, *(number for done in news for number in done.settled)])
 
     def _show_settled(self) -> None:
@@ -755,9 +761,9 @@ class DurableRequest:
 
     def _show_these(self, numbers: Iterable[int]) -> None:
         """Shows those of these stages that are settled."""
-        self._each(numbers, self._show_one)
+        self._show_each(numbers, self._show_one)
 
-    def _each(self, numbers: Iterable[int], show: "Callable[[DurableStage[Any]], None]") -> None:
+    def _show_each(self, numbers: Iterable[int], show: "Callable[[DurableStage[Any]], None]") -> None:
         """Shows each of these stages, whatever the callbacks of another raise."""
         raised: Optional[BaseException] = None
         for number in numbers:
@@ -770,7 +776,7 @@ class DurableRequest:
                 if stage is not None and not stage.done():
                     self._unshown.add(number)
         if raised is not None:
-            self._service._raise(raised)
+            self._service._report_raised(raised)
 
     def _show_one(self, stage: "DurableStage[Any]") -> None:
         if stage.done() or not self._view.is_settled(stage.number):
@@ -787,16 +793,16 @@ class DurableRequest:
         self._unshown.discard(stage.number)
         stage._show(value, error, is_cancelled)
 
-    def _outcome(self, told: Told, of: Sequence[int]) -> Tuple[Any, Optional[BaseException]]:
+    def _outcome(self, told: OutcomeNumbers, of: Sequence[int]) -> Tuple[Any, Optional[BaseException]]:
         """The value or the exception of an outcome that one of these stages has."""
         if told.kind == VALUE:
             return self._value(told.some, told.number), None
         if told.kind == THROWN:
-            return None, self._view.read(told.code, self._service.codec.read_error)
+            return None, self._view.read_payload(told.code, self._service.codec.read_error)
         if told.kind == CANCELLED:
             return None, CancelledError()
-        error = self._view.read_if_any(self._view.failed_of(of, told.kind), self._service.codec.read_error)
+        error = self._view.read_payload_if_any(self._view.place_of_failure(of, told.kind), self._service.codec.read_error)
         return None, error if error is not None else TimeoutError() if told.kind == TIMED_OUT else BadAnswer()
 
     def _value(self, some: int, place: int) -> Any:
-        return self._view.read(place, self._service.codec.read) if some else None
+        return self._view.read_payload(place, self._service.codec.read) if some else None

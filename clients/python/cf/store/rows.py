@@ -1,8 +1,8 @@
 """Rows of words in engines: put where nothing stands yet, read, wait.
 
-An entry is a word and a token. The token names who put it, 39 bits of a session and 23 that count, so an append that is
-made again after a lost reply is known by what stands at its place. A payload is bytes; it is put with its word, in one
-transaction, and named by the word's place, counted from 1: no word names what isn't there.
+An entry is a word and a token. The token has 39 bits of the session that put it and a counter of 23 bits, so a repeated
+append after a lost reply is recognised by the entry at its place. A payload is bytes. It is put with its word, in one
+transaction, and named by the word's place, counted from 1. So no word names a missing payload.
 """
 import abc
 import contextlib
@@ -23,21 +23,21 @@ HEAD = 400  # characters of a plan, in which the flow's name stands
 
 
 class Unknown(ConnectionError):
-    """The store didn't answer, or can't write now. What was asked may have been done or not, and may be asked again."""
+    """The store didn't answer, or can't write now. The call may have taken effect or not, and may be repeated."""
 
 
 class StoreError(RuntimeError):
-    """A store refuses what was asked, or isn't as it has to be."""
+    """A store refuses a call, or isn't set up as it has to be."""
 
 
 class Broken(StoreError):
-    """A request can't go on: a word or a payload of its row is missing or can't be read, it was begun with another plan,
-    or it was dropped. Other requests go on.
+    """A request can't go on: a word or a payload of its row is missing or unreadable, or the request was begun with
+    another plan or dropped. Other requests go on.
 
     Attributes:
         request: The request's name.
-        place: The word that is at fault, counted from 1, or 0 for its plan.
-        why: What is wrong."""
+        place: The place of the faulty word, counted from 1, or 0 for the plan.
+        why: The reason."""
 
     def __init__(self, request: str, place: int, why: str) -> None:
         super().__init__(f"request {request!r}, place {place}: {why}")
@@ -47,8 +47,7 @@ class Broken(StoreError):
 
 
 def in_a_row(name: str, at: int, rows: Iterable[Tuple[Any, ...]]) -> List[Entry]:
-    """The entries of rows of a place, a word and a token, which stand behind so many words without a gap; `Broken`
-    else."""
+    """The entries behind `at` words, of rows of a place, a word and a token. `Broken` where there is a gap."""
     told: List[Entry] = []
     for place, word, token in rows:
         if place != at + len(told):
@@ -64,15 +63,17 @@ def in_a_row(name: str, at: int, rows: Iterable[Tuple[Any, ...]]) -> List[Entry]
 
 
 class Gone(Broken):
-    """A request that isn't in the store, or not any more."""
+    """The request isn't in the store, or was dropped."""
 
     def __init__(self, request: str) -> None:
         super().__init__(request, 0, "the store has no such request")
 
 
-def sure(call: Callable[[], T], name: str, place: int, patience: float, note: Callable[[], None] = lambda: None, host: Host = HOST) -> T:
-    """What a call is answered that may be made again, whatever became of it before. `note` is told of each time
-    without an answer."""
+def retrying_for_a_minute(
+    call: Callable[[], T], name: str, place: int, patience: float, note: Callable[[], None] = lambda: None, host: Host = HOST
+) -> T:
+    """Makes a call again until the store answers, for `patience` seconds, and returns the answer. The call may be made
+    twice. `note` is called each time no answer comes."""
     until, pause = host.monotonic() + patience, 0.01
     while True:
         try:
@@ -86,15 +87,15 @@ def sure(call: Callable[[], T], name: str, place: int, patience: float, note: Ca
 
 
 class Put(NamedTuple):
-    """Entries that are to stand behind the first `at` words of a request.
+    """Entries to append behind the first `at` words of a request.
 
     Attributes:
         request: The request's name.
-        at: After how many words they are to stand.
+        at: How many words stand before them.
         entries: Each a word and its token.
-        payloads: Of the words that have one, by their places.
-        number: The request's own number, or 0 for whichever has the name.
-        opens: Whether the request is opened again with that, in one step, where it is closed."""
+        payloads: The payloads of these words, by their places.
+        number: The request's own number, or 0 for any request of the name.
+        opens: Whether the put also opens a closed request again, in one step."""
 
     request: str
     at: int
@@ -104,8 +105,8 @@ class Put(NamedTuple):
     opens: bool = False
 
 
-class Wanted(NamedTuple):
-    """Which row is read: that of the request of a name and number, behind `at` words."""
+class RowQuery(NamedTuple):
+    """A row to read, behind `at` words, of the request of a name and number."""
 
     name: str
     number: int
@@ -122,13 +123,13 @@ class Opened(NamedTuple):
     number: int
 
 
-class Row(NamedTuple):
-    """What was read of a row.
+class ReadRow(NamedTuple):
+    """The part of a row that was read.
 
     Attributes:
         opened: The request, or None where the row was read behind words.
-        entries: Those that stand there.
-        payloads: Those that came along, by their places: some, or none."""
+        entries: The entries.
+        payloads: Some payloads, by their places, or none."""
 
     opened: Optional[Opened]
     entries: List[Entry]
@@ -136,7 +137,7 @@ class Row(NamedTuple):
 
 
 class Pulse(NamedTuple):
-    """What `beats`, `session_names`, `words_put` and `now` give."""
+    """The answers of `beats`, `session_names`, `words_put` and `now`."""
 
     beats: Dict[int, int]
     names: Dict[int, str]
@@ -144,7 +145,7 @@ class Pulse(NamedTuple):
     now: float
 
 
-class Listed(NamedTuple):
+class ListedRequest(NamedTuple):
     """A request in a list: when it was closed, or None, and how many words it has."""
 
     name: str
@@ -154,8 +155,8 @@ class Listed(NamedTuple):
 
 
 class Timer(NamedTuple):
-    """What is to become of a stage at a moment, unless it is settled by then. `number` is the request's own, or 0 for
-    whichever has the name."""
+    """The time limit of a stage. `payload` has the outcome that the stage gets unless it is settled by then. `number` is
+    the request's own, or 0 for any request of the name."""
 
     request: str
     stage: int
@@ -165,8 +166,8 @@ class Timer(NamedTuple):
 
 
 class Glance(NamedTuple):
-    """What a list tells of a request, so that it need not read the row: `said` is what glances.py writes of it. It was
-    seen with so many words; where the row has more by now, it is of before."""
+    """A summary of a request for lists, which then needn't read the row: `said` is a text of glances.py, made when the
+    row had so many words."""
 
     request: str
     number: int
@@ -174,7 +175,7 @@ class Glance(NamedTuple):
     said: str
 
 
-class Open(NamedTuple):
+class OpenRequest(NamedTuple):
     """An open request in a list: its flow, how many words it has, and the last glance at it, if there is one."""
 
     name: str
@@ -186,15 +187,15 @@ class Open(NamedTuple):
 
 
 class Changes(NamedTuple):
-    """What is other in the list of open requests.
+    """What has changed in the list of open requests.
 
     Attributes:
-        opened: Requests that weren't in it, and others that are told anew, each as it is now.
-        longer: How many words some of the others have by now.
-        gone: The names of those that aren't open any more.
-        many: How many are open in all, where these are only the first by name, and all come with the next call."""
+        opened: New requests, and others again, each as it is now.
+        longer: The new numbers of words of other requests.
+        gone: The names of requests that aren't open any more.
+        many: How many are open in all, where these are only the first by name and the next call has the rest."""
 
-    opened: Sequence[Open]
+    opened: Sequence[OpenRequest]
     longer: Mapping[str, int]
     gone: Sequence[str]
     many: Optional[int] = None
@@ -213,99 +214,96 @@ def flow_of(head: str) -> str:
 class Transaction(abc.ABC):
     """A transaction of an engine, with a connection of its own. It ends without effect unless `commit` was called."""
 
-    connection: Any  # what the function is called with
+    connection: Any  # the first argument of the function
 
     def is_away(self) -> bool:
-        """Whether the connection is gone, or the engine can't write now, once what the function raised may be due to
-        that. All is undone."""
+        """Whether the connection is gone or the engine can't write, asked after the function has raised. All is undone
+        then."""
         return False
 
     @abc.abstractmethod
     def append(self, put: Put) -> bool:
-        """Puts within the transaction, and says whether its place was free."""
+        """Puts within the transaction, and returns whether the place was free."""
 
     @abc.abstractmethod
     def commit(self) -> None:
-        """Lets all of it stand. `Unknown` where it may or may not."""
+        """Commits. `Unknown` where it may stand or not."""
 
 
 class Store(abc.ABC):
-    """Rows in an engine: what `connect` gives, and what another engine has to be. Any thread may use it. Each call but
-    `close` may raise `Unknown`.
+    """Rows in an engine, as `connect` opens one. Another engine implements this class. Any thread may use it. Each call
+    but `close` may raise `Unknown`.
 
-    Where a call takes the number of a request beside its name, it is for that request alone. Once that was dropped,
-    `Gone`, which is a `Broken`, is raised, also where another request has its name. The number 0 is for whichever
-    has the name."""
+    A call with the number of a request beside its name is for that request alone. If that was dropped, it raises `Gone`,
+    which is a `Broken`, also where another request has the name. The number 0 is for any request of the name."""
 
-    is_transactional = False  # whether `transaction` is there
+    is_transactional = False  # whether it has `transaction`
     locks_out = False  # whether nobody else can put while a transaction is open
 
     @abc.abstractmethod
     def open(self, name: str, plan: str) -> Opened:
-        """Opens a request, or gives it as another opened it: then the plan may be another."""
+        """Opens a request, or returns the one of this name, whose plan may differ."""
 
     @abc.abstractmethod
     def find(self, name: str) -> Optional[Opened]:
-        """A request as it was opened, or None."""
+        """The request of this name, or None."""
 
     @abc.abstractmethod
     def append_groups(self, puts: Sequence[Put]) -> List[Optional[List[Entry]]]:
-        """Puts a group for each of some requests, each all or none, in one commit if none is in another's way. For
-        each None where it stands now, else the entries that stand from its first place on. `Broken` where a request
-        isn't there; the others' may stand then."""
+        """Appends a group to each of some requests, each all or none, in one commit if they don't conflict. Returns for
+        each None where it stands now, else the entries from its first place on. `Broken` where a request isn't there;
+        the other groups may stand then."""
 
     @abc.abstractmethod
     def read(self, name: str, at: int = 0, number: int = 0) -> List[Entry]:
-        """The entries behind `at` words. A stale answer is a shorter one."""
+        """The entries behind `at` words. A stale answer is shorter."""
 
     @abc.abstractmethod
     def payloads(self, name: str, places: Sequence[int], number: int = 0) -> Dict[int, bytes]:
-        """The payloads of these places; those that aren't there are left out."""
+        """The payloads of these places, without missing ones."""
 
     @abc.abstractmethod
     def ends(self) -> Dict[str, int]:
         """How many words each open request has."""
 
     def news(self, mark: Any) -> Tuple[Dict[str, int], Any]:
-        """How many words those open requests have that may have changed since a mark, and the next mark; since None,
-        all of them, and none is missing then. A request that was opened again is only told since None. One that is
-        closed, and to which words were put since the mark, may be told, too, with -1. A store that can't tell them
-        apart gives all that are open."""
+        """The numbers of words of open requests that may have changed since a mark, and the next mark. With None it lists
+        all of them. A request that was opened again may appear only with None. A closed one to which words were put
+        since the mark may appear with -1. A store that can't distinguish them lists all open ones."""
         return self.ends(), None
 
     @abc.abstractmethod
-    def changed(self, seconds: float) -> None:
-        """Waits until something may have been put since this thread's last call, or so many seconds."""
+    def wait_for_change(self, seconds: float) -> None:
+        """Waits until something may have been put since this thread's last call, at most so many seconds."""
 
     @abc.abstractmethod
-    def listing(self) -> List[Listed]:
+    def listing(self) -> List[ListedRequest]:
         """All requests, by name."""
 
     @abc.abstractmethod
     def end(self, name: str, at: int, number: int = 0) -> bool:
-        """Marks a request as closed, where it has just so many words: nothing is left to do in it. Its timers are
-        forgotten. It says whether this call has closed it."""
+        """Closes a request with exactly so many words, and drops its timers. Returns whether this call closed it."""
 
     @abc.abstractmethod
     def reopen(self, name: str, number: int = 0) -> None:
-        """Takes that back, also where another is ending it meanwhile, who has seen fewer words than stand."""
+        """Opens a closed request again. A concurrent `end` that has seen fewer words fails."""
 
     @abc.abstractmethod
     def drop(self, name: str, at: Optional[int] = None) -> bool:
-        """Forgets a request with all its words, at once, and says whether it did. With `at` only where it is closed
-        and has so many."""
+        """Deletes a request with all its words, in one step, and returns whether it did. With `at` only a closed one of
+        so many words."""
 
     @abc.abstractmethod
     def beat(self, session: int) -> None:
-        """Says that a session is there."""
+        """Counts a sign of life of a session."""
 
     @abc.abstractmethod
     def beats(self) -> Dict[int, int]:
-        """How often each session has said so."""
+        """The number of beats of each session."""
 
     @abc.abstractmethod
     def drop_beat(self, session: int) -> None:
-        """Forgets a session that has ended or is long gone. If it isn't gone, its next beat counts from 1."""
+        """Deletes the beats of a session that has ended or is long gone. A later beat counts from 1."""
 
     @abc.abstractmethod
     def now(self) -> float:
@@ -313,45 +311,45 @@ class Store(abc.ABC):
 
     @abc.abstractmethod
     def set_timer(self, timer: Timer) -> None:
-        """Keeps a timer of a stage, in the place of one that it had."""
+        """Sets the timer of a stage, and replaces an earlier one."""
 
     @abc.abstractmethod
-    def due(self, now: float) -> List[Timer]:
-        """The timers of moments up to this one."""
+    def timers_due(self, now: float) -> List[Timer]:
+        """The timers that are due at this moment."""
 
     @abc.abstractmethod
     def drop_timer(self, request: str, stage: int, number: int = 0) -> None:
-        """Forgets a stage's timer."""
+        """Deletes a stage's timer."""
 
-    # What lists and pages ask for. An engine may do without: then lists read rows, and nobody has a name.
+    # For lists and pages. An engine may do without: then lists read rows, and sessions have no names.
 
-    def overview(self) -> List[Open]:
+    def overview(self) -> List[OpenRequest]:
         """All open requests, each with the last glance at it. No row is read."""
         found = [(it, self.find(it.name)) for it in self.listing() if it.closed is None]
-        return [Open(it.name, at.number, it.opened, it.words, flow_of(at.plan[:HEAD]), None) for it, at in found if at is not None]
+        return [OpenRequest(it.name, at.number, it.opened, it.words, flow_of(at.plan[:HEAD]), None) for it, at in found if at is not None]
 
     def changes(self, mark: Any) -> Tuple[Changes, Any]:
-        """What is other in the list of open requests since a mark, and the next mark; since None, all of them are new,
-        of which the first may be told alone at first. It may tell some a moment later. A store that can't tell them
-        apart tells all anew."""
+        """The changes of the list of open requests since a mark, and the next mark. With None all are new, and the first
+        call may have only the first ones. Some changes may come a moment later. A store that can't distinguish them
+        lists all anew."""
         opened = self.overview()
         names = {it.name for it in opened}
         return Changes(opened, {}, [name for name in mark or () if name not in names]), names
 
-    def read_rows(self, wanted: Sequence[Wanted]) -> Dict[str, Row]:
-        """Several rows at once, by their names, of which each is wanted once. It leaves out requests that aren't there
-        and rows that aren't in order, and may leave out long rows: `find` and `read` say what is wrong."""
+    def read_rows(self, wanted: Sequence[RowQuery]) -> Dict[str, ReadRow]:
+        """Reads several rows at once, by their names, each once. It leaves out missing requests and rows with gaps, and
+        may leave out long rows: `find` and `read` raise the reason."""
         told = {}
         for it in wanted:
             with contextlib.suppress(Broken):
                 opened = None if it.at else self.find(it.name)
                 if it.at or opened is not None and opened.number == it.number:
-                    told[it.name] = Row(opened, self.read(it.name, it.at, it.number), {})
+                    told[it.name] = ReadRow(opened, self.read(it.name, it.at, it.number), {})
         return told
 
     def payloads_of(self, wanted: Mapping[Tuple[str, int], Sequence[int]]) -> Dict[str, Dict[int, bytes]]:
-        """What `payloads` gives for several requests, by their names and numbers; by their names. Requests that aren't
-        there may be left out."""
+        """The `payloads` of several requests, given by names and numbers; by their names. Missing requests may be left
+        out."""
         told = {}
         for (name, number), places in wanted.items():
             with contextlib.suppress(Gone):
@@ -359,54 +357,51 @@ class Store(abc.ABC):
         return told
 
     def pulse(self) -> Pulse:
-        """Who is there, how many words were put, and the engine's clock, at once."""
+        """Beats, names of sessions, the count of words and the engine's clock, at once."""
         return Pulse(self.beats(), self.session_names(), self.words_put(), self.now())
 
     def keep_glances(self, glances: Sequence[Glance]) -> None:
-        """Keeps these, each in the place of the one before. Those of requests that aren't open are left out."""
+        """Stores these glances in the place of earlier ones, except those of requests that aren't open."""
 
-    def closed(self, behind: str, most: int, part: str = "") -> List[Listed]:
-        """Up to so many closed requests whose names come behind this one and have this part, in small letters or
-        large ones, by name."""
+    def closed(self, behind: str, most: int, part: str = "") -> List[ListedRequest]:
+        """At most `most` closed requests, by name, with names behind this one that contain `part` in any case."""
         found = [it for it in self.listing() if it.closed is not None and it.name > behind and part.lower() in it.name.lower()]
         return found[:most]
 
     def name_session(self, session: int, said: str, request: str = "", number: int = 0) -> None:
-        """Says what a session is called: in a request, as long as that is kept; or without one, as long as its beats
-        are."""
+        """Names a session: in a request, as long as the request is kept; or without one, as long as its beats are."""
 
     def session_names(self, request: str = "", number: int = 0) -> Dict[int, str]:
-        """What sessions are called, in a request or by their beats."""
+        """The names of sessions, in a request or without one."""
         return {}
 
     def words_put(self) -> Optional[int]:
-        """About how many words were put until now, or None where that isn't known. What is dropped may be left out."""
+        """About how many words were put until now, or None where that isn't known. Dropped ones may not count."""
         return None
 
     def append(self, put: Put) -> Optional[List[Entry]]:
-        """Puts a group, all or none: None where it stands now, else the entries that stand from its first place on."""
+        """Appends a group, all or none. Returns None where it stands now, else the entries from its first place on."""
         return self.append_groups([put])[0]
 
-    def wait(self, name: str, at: int, seconds: float) -> bool:
-        """Waits until a request has more than so many words, and says whether it has."""
+    def wait_for_words(self, name: str, at: int, seconds: float) -> bool:
+        """Waits until a request has more than `at` words, and returns whether it has."""
         until = time.monotonic() + seconds
         while not self.read(name, at):
             left = until - time.monotonic()
             if left <= 0:
                 return False
-            self.changed(left)
+            self.wait_for_change(left)
         return True
 
-    def may_put(self) -> None:
-        """`StoreError` in a thread whose own open transaction a put would wait for."""
+    def check_may_put(self) -> None:
+        """Raises `StoreError` in a thread whose own open transaction would block a put."""
 
     def transaction(self) -> ContextManager[Transaction]:
-        """A transaction of the engine, in which a function's effect and the word of its finish stand or fall
-        together."""
+        """Begins a transaction of the engine, in which a function's effect and its finish are committed together."""
         raise StoreError(f"{type(self).__name__} has no transactions that a function can take part in")
 
     def close(self) -> None:
-        """Lets the engine go."""
+        """Closes the connections to the engine."""
 
 
 class Memory(Store):
@@ -481,15 +476,17 @@ class Memory(Store):
             news = ends if mark is None else {name: ends.get(name, -1) for name in self._opened if self._last.get(name, 0) > mark}
             return news, self._puts
 
-    def changed(self, seconds: float) -> None:
+    def wait_for_change(self, seconds: float) -> None:
         with self._change:
             seen = getattr(self._seen, "puts", -1)
             self._change.wait_for(lambda: self._puts != seen, seconds)
             self._seen.puts = self._puts
 
-    def listing(self) -> List[Listed]:
+    def listing(self) -> List[ListedRequest]:
         with self._change:
-            return [Listed(name, it.opened, self._closed.get(name), len(self._rows.get(name, []))) for name, it in sorted(self._opened.items())]
+            return [
+                ListedRequest(name, it.opened, self._closed.get(name), len(self._rows.get(name, []))) for name, it in sorted(self._opened.items())
+            ]
 
     def end(self, name: str, at: int, number: int = 0) -> bool:
         with self._change:
@@ -539,7 +536,7 @@ class Memory(Store):
             self._is_there(timer.request, timer.number)
             self._timers[timer.request, timer.stage] = timer
 
-    def due(self, now: float) -> List[Timer]:
+    def timers_due(self, now: float) -> List[Timer]:
         with self._change:
             return [timer for timer in self._timers.values() if timer.due <= now]
 
@@ -548,10 +545,10 @@ class Memory(Store):
             self._is_there(request, number)
             self._timers.pop((request, stage), None)
 
-    def overview(self) -> List[Open]:
+    def overview(self) -> List[OpenRequest]:
         with self._change:
             return [
-                Open(name, it.number, it.opened, len(self._rows.get(name, [])), flow_of(it.plan[:HEAD]), self._glances.get(name))
+                OpenRequest(name, it.number, it.opened, len(self._rows.get(name, [])), flow_of(it.plan[:HEAD]), self._glances.get(name))
                 for name, it in self._opened.items()
                 if name not in self._closed
             ]
@@ -585,8 +582,8 @@ class Memory(Store):
 
 
 class Grouped(Store):
-    """A store whose puts one thread makes: what other threads put at the same time is one commit. For a process with
-    many requests."""
+    """A store whose puts go through one thread, which commits simultaneous puts together. For a process with many
+    requests."""
 
     def __init__(self, store: Store, most: int = 64) -> None:
         self._store, self._most = store, most
@@ -601,7 +598,7 @@ class Grouped(Store):
         self._thread.start()
 
     def append_groups(self, puts: Sequence[Put]) -> List[Optional[List[Entry]]]:
-        self._store.may_put()
+        self._store.check_may_put()
         slots = [(put, _Slot()) for put in puts]
         with self._change:
             if self._is_closed:
@@ -622,7 +619,7 @@ class Grouped(Store):
                     self._put([it])
 
     def _put(self, now: List[Tuple[Put, "_Slot"]]) -> bool:
-        """Puts all in one commit, and tells each; or says that they have to go one by one."""
+        """Puts all in one commit, and answers each. False where they have to go one by one."""
         try:
             told = self._store.append_groups([put for put, _ in now])
         except BaseException as error:
@@ -661,10 +658,10 @@ class Grouped(Store):
     def news(self, mark: Any) -> Tuple[Dict[str, int], Any]:
         return self._store.news(mark)
 
-    def changed(self, seconds: float) -> None:
-        self._store.changed(seconds)
+    def wait_for_change(self, seconds: float) -> None:
+        self._store.wait_for_change(seconds)
 
-    def listing(self) -> List[Listed]:
+    def listing(self) -> List[ListedRequest]:
         return self._store.listing()
 
     def end(self, name: str, at: int, number: int = 0) -> bool:
@@ -691,19 +688,19 @@ class Grouped(Store):
     def set_timer(self, timer: Timer) -> None:
         self._store.set_timer(timer)
 
-    def due(self, now: float) -> List[Timer]:
-        return self._store.due(now)
+    def timers_due(self, now: float) -> List[Timer]:
+        return self._store.timers_due(now)
 
     def drop_timer(self, request: str, stage: int, number: int = 0) -> None:
         self._store.drop_timer(request, stage, number)
 
-    def overview(self) -> List[Open]:
+    def overview(self) -> List[OpenRequest]:
         return self._store.overview()
 
     def changes(self, mark: Any) -> Tuple[Changes, Any]:
         return self._store.changes(mark)
 
-    def read_rows(self, wanted: Sequence[Wanted]) -> Dict[str, Row]:
+    def read_rows(self, wanted: Sequence[RowQuery]) -> Dict[str, ReadRow]:
         return self._store.read_rows(wanted)
 
     def payloads_of(self, wanted: Mapping[Tuple[str, int], Sequence[int]]) -> Dict[str, Dict[int, bytes]]:
@@ -715,7 +712,7 @@ class Grouped(Store):
     def keep_glances(self, glances: Sequence[Glance]) -> None:
         self._store.keep_glances(glances)
 
-    def closed(self, behind: str, most: int, part: str = "") -> List[Listed]:
+    def closed(self, behind: str, most: int, part: str = "") -> List[ListedRequest]:
         return self._store.closed(behind, most, part)
 
     def name_session(self, session: int, said: str, request: str = "", number: int = 0) -> None:
@@ -727,15 +724,15 @@ class Grouped(Store):
     def words_put(self) -> Optional[int]:
         return self._store.words_put()
 
-    def may_put(self) -> None:
-        self._store.may_put()
+    def check_may_put(self) -> None:
+        self._store.check_may_put()
 
     def transaction(self) -> ContextManager[Transaction]:
         return self._store.transaction()
 
 
 class _Slot:
-    """What one put is answered."""
+    """The answer of one put."""
 
     def __init__(self) -> None:
         self._done = threading.Event()
@@ -756,7 +753,7 @@ class _Slot:
 
 
 def _one_each(waiting: List[Tuple[Put, _Slot]], most: int) -> Tuple[List[Tuple[Put, _Slot]], List[Tuple[Put, _Slot]]]:
-    """Those that go now, one of a request since two are for one place, and the others."""
+    """The puts that go now, at most one of each request, and the others."""
     now: Dict[str, Tuple[Put, _Slot]] = {}
     later = []
     for it in waiting:

@@ -31,18 +31,18 @@ from ..service.words import (
     THROWS,
     TWO,
     VALUE,
-    Told,
+    OutcomeNumbers,
 )
 from ..values import Form
 from .codec import Abandoned, Json, RemoteError
-from .contexts import Carrier, within
-from .replica import NO_VALUE, Ended
-from .view import SESSION_BITS, Done, RowView, Watcher
-from .functions import F, Functions, Known
+from .contexts import Carrier, restored_context
+from .replica import NO_VALUE, FinishAnswer
+from .view import SESSION_BITS, DoneWord, RowView, Watcher
+from .functions import F, Functions, RegisteredFunction
 from .host import HOST, Host
 from .plans import are_alike, text_of
 from .request import Composing, DurableRequest, DurableStage
-from .rows import COUNT_BITS, Broken, Glance, Gone, Grouped, Opened, Store, StoreError, Timer, Transaction, Unknown, sure
+from .rows import COUNT_BITS, Broken, Glance, Gone, Grouped, Opened, Store, StoreError, Timer, Transaction, Unknown, retrying_for_a_minute
 
 if TYPE_CHECKING:
     from typing_extensions import ParamSpec
@@ -71,18 +71,18 @@ class Running(NamedTuple):
         return f"{self.function} (request {self.request!r}, stage {self.stage}) for {self.seconds:.0f} s"
 
 
-class Claimed(NamedTuple):
+class ClaimedStage(NamedTuple):
     """A stage that this session has, with its function and what that is called with."""
 
     stage: int
-    known: Known
+    known: RegisteredFunction
     args: Tuple[Any, ...]
     kwargs: Dict[str, Any]
     error: Optional[BaseException]  # what a further try passes on instead
     carried: Dict[str, Any]  # of the context of the place where it was attached
 
 
-class Finish(NamedTuple):
+class FunctionResult(NamedTuple):
     """What a stage's function came to: `raised` is what it has raised itself, for the log."""
 
     stage: int
@@ -90,19 +90,19 @@ class Finish(NamedTuple):
     payload: Optional[bytes]
     raised: Optional[BaseException] = None
 
-    def ended(self, view: RowView) -> Ended:
+    def answer(self, view: RowView) -> FinishAnswer:
         """It at the end of what is seen: what it gives or throws is named by its own place."""
         if self.kind == LINKS:
-            return Ended(self.stage, LINKS, int(view.said(self.stage)["to"]))
-        return Ended(self.stage, NO_VALUE if self.payload is None else self.kind, view.place)
+            return FinishAnswer(self.stage, LINKS, int(view.definition(self.stage)["to"]))
+        return FinishAnswer(self.stage, NO_VALUE if self.payload is None else self.kind, view.next_place)
 
-    def word(self, view: RowView) -> Optional[Tuple[int, Optional[bytes]]]:
+    def word_to_put(self, view: RowView) -> Optional[Tuple[int, Optional[bytes]]]:
         """Its word at the end of what is seen, or None where the session has no open claim of the stage."""
-        word = view.finish(self.ended(view))
+        word = view.word_to_finish(self.answer(view))
         return None if word is None else (word, self.payload)
 
 
-LOST = Finish(-1, GIVES, None)  # that of a transaction whose place was taken
+LOST = FunctionResult(-1, GIVES, None)  # that of a transaction whose place was taken
 
 
 class DurableService(concurrent.futures.Executor):
@@ -221,7 +221,7 @@ class DurableService(concurrent.futures.Executor):
             RuntimeError: The service is shut down, or this process is a child of `fork`.
             Unknown: The store didn't answer for a minute.
             Broken: The row can't be gone on with."""
-        request = self._opened(name or self._named("request"), text_of(None, self.functions, self.contexts), False)
+        request = self._open_request(name or self._new_name("request"), text_of(None, self.functions, self.contexts), False)
         request._describe = describe or request._describe
         return request
 
@@ -245,7 +245,7 @@ class DurableService(concurrent.futures.Executor):
         if len(given) > len(flow._promises):
             raise ValueError(f"{flow.name} has {len(flow._promises)} promises")
         payloads = [None if it is None else self.codec.write(it) for it in given]
-        request = self._opened(name or self._named(flow.name), text_of(flow, self.functions, self.contexts), True)
+        request = self._open_request(name or self._new_name(flow.name), text_of(flow, self.functions, self.contexts), True)
         request._describe = describe or request._describe
         request._complete_all(list(zip(flow._promises, payloads)))
         self._serve(request)
@@ -259,10 +259,10 @@ class DurableService(concurrent.futures.Executor):
         Raises:
             KeyError: There is none of this name.
             Unknown, Broken: As in `request`."""
-        found = self._sure(lambda: self.store.find(name), name)
+        found = self._retrying_for_a_minute(lambda: self.store.find(name), name)
         if found is None:
             raise KeyError(name)
-        return self._kept(self._made(found))
+        return self._keep_one(self._new_request(found))
 
     def submit(self, fn: "Callable[P, T]", /, *args: "P.args", **kwargs: "P.kwargs") -> "DurableStage[T]":
         """Calls a registered function, in a request of one stage, which is closed once that is settled.
@@ -282,7 +282,7 @@ class DurableService(concurrent.futures.Executor):
 
         Returns:
             The requests."""
-        resumed = [self._taken(name) for name in self._sure(self.store.ends, "")]
+        resumed = [self._find_or_open(name) for name in self._retrying_for_a_minute(self.store.ends, "")]
         for request in resumed:
             if request is not None:
                 self._serve(request)
@@ -323,30 +323,30 @@ class DurableService(concurrent.futures.Executor):
 
     # Requests that are worked on.
 
-    def _opened(self, name: str, plan: str, same: bool) -> DurableRequest:
+    def _open_request(self, name: str, plan: str, same: bool) -> DurableRequest:
         if self._process != os.getpid():
             raise RuntimeError("a child of fork can't use its parent's service")
         if self._stops.is_set():
             raise RuntimeError("cannot schedule new futures after shutdown")
-        found = self._sure(lambda: self.store.open(name, plan), name)
+        found = self._retrying_for_a_minute(lambda: self.store.open(name, plan), name)
         if same and not are_alike(found.plan, plan):
             raise Broken(name, 0, "it was begun with another plan")
-        kept = self._kept(self._made(found))
+        kept = self._keep_one(self._new_request(found))
         if kept.number != found.number:  # it was dropped meanwhile, and another of its name begun
-            return self._opened(name, plan, same)
+            return self._open_request(name, plan, same)
         return kept
 
-    def _named(self, first: str) -> str:
+    def _new_name(self, first: str) -> str:
         """A name that no other request has."""
         return f"{first} {self._host.number(SESSION_BITS):x}"
 
-    def _sure(self, call: Callable[[], T], name: str) -> T:
-        return sure(call, name, 0, PATIENCE, host=self._host)
+    def _retrying_for_a_minute(self, call: Callable[[], T], name: str) -> T:
+        return retrying_for_a_minute(call, name, 0, PATIENCE, host=self._host)
 
-    def _made(self, found: Opened) -> DurableRequest:
+    def _new_request(self, found: Opened) -> DurableRequest:
         return DurableRequest(self, RowView(self.store, found, self.session, PATIENCE, self._note, self._host, is_timed=self._ends is not None))
 
-    def _kept(self, request: DurableRequest) -> DurableRequest:
+    def _keep_one(self, request: DurableRequest) -> DurableRequest:
         """The one object of a request that this service has: this one, or the one that was there before."""
         with self._lock:
             known = self._requests.get(request.name) or self._left.get(request.name)
@@ -356,7 +356,7 @@ class DurableService(concurrent.futures.Executor):
         if known is not None and is_newer:
             known._fail_all(Gone(request.name))  # it was dropped, and another of its name begun
         kept._catch_up()
-        if self._needs(kept):  # (the store tells only of what comes later)
+        if self._has_work(kept):  # (the store tells only of what comes later)
             self._serve(kept)
         return kept
 
@@ -371,7 +371,7 @@ class DurableService(concurrent.futures.Executor):
         self._requests[request.name] = request
         self._left.pop(request.name, None)
 
-    def _known_again(self, name: str) -> Optional[DurableRequest]:
+    def _find_known(self, name: str) -> Optional[DurableRequest]:
         """A request that is known here: also one that was closed, and that others have opened again."""
         known = self._requests.get(name)
         if known is None:
@@ -380,9 +380,9 @@ class DurableService(concurrent.futures.Executor):
                 self._keep(known)
         return known
 
-    def _taken(self, name: str) -> Optional[DurableRequest]:
+    def _find_or_open(self, name: str) -> Optional[DurableRequest]:
         """A request of the store, or None where it is broken or gone."""
-        known = self._known_again(name)
+        known = self._find_known(name)
         if known is not None or name in self.broken:
             return known
         try:
@@ -395,7 +395,7 @@ class DurableService(concurrent.futures.Executor):
 
     def _break(self, name: str, error: BaseException, request: Optional[DurableRequest] = None) -> None:
         """Leaves a request alone. Others go on."""
-        self._host.breaks(error)
+        self._host.report_broken(error)
         if not isinstance(error, Gone):  # (another of its name may be begun)
             self.broken[name] = error
         with self._lock:
@@ -413,7 +413,7 @@ class DurableService(concurrent.futures.Executor):
         while not self._stops.is_set():
             try:
                 self._round()
-                self.store.changed(min(0.2, self._lease / 5))
+                self.store.wait_for_change(min(0.2, self._lease / 5))
             except Unknown as error:
                 LOGGER.warning("the store doesn't answer: %s", error)
                 self._stops.wait(0.2)
@@ -433,7 +433,7 @@ class DurableService(concurrent.futures.Executor):
             self._keep_glances()
         if now >= self._next_look:
             self._next_look = now + 0.02
-            for timer in self.store.due(self.store.now()):
+            for timer in self.store.timers_due(self.store.now()):
                 is_mine = timer.request in self._requests or self._takes_all and timer.request not in self.broken
                 if is_mine and timer[:3] not in self._firing:
                     self._firing.add(timer[:3])
@@ -452,8 +452,8 @@ class DurableService(concurrent.futures.Executor):
         for name, end in ends.items():
             if end < 0:
                 continue
-            taken = self._taken(name) if self._takes_all else self._known_again(name)
-            if taken is not None and (end > taken.seen or (looks or not end) and (end < taken.seen or self._needs(taken))):
+            taken = self._find_or_open(name) if self._takes_all else self._find_known(name)
+            if taken is not None and (end > taken.words_seen or (looks or not end) and (end < taken.words_seen or self._has_work(taken))):
                 self._serve(taken)  # (a row gets no shorter: where it has, it is another's of the name)
             self._beat()  # (rows that are read for the first time may be many and long)
         self._mark = mark
@@ -470,7 +470,7 @@ class DurableService(concurrent.futures.Executor):
             self.store.name_session(self.session, f"{socket.gethostname()} {os.getpid()}")
             self._is_named = True
         self._watcher.look()
-        self._watcher.forget()
+        self._watcher.forget_long_gone()
         return True
 
     def _keep_glances(self) -> None:
@@ -503,11 +503,11 @@ class DurableService(concurrent.futures.Executor):
             said = ", ".join(map(str, long[:MOST_TOLD])) + (", .." if long[MOST_TOLD:] else "")
             LOGGER.warning("%d of %d threads run a function for longer than %s s: %s", len(long), self._workers, LONG, said)
 
-    def _needs(self, request: DurableRequest) -> bool:
+    def _has_work(self, request: DurableRequest) -> bool:
         """Whether something is to do in a request without a new word."""
         view = request._view
         gone = [self._is_gone(session) for session in view.open_claims().values()]
-        is_due = view.ready or view.links or view.unlinked or view.found or request._unshown
+        is_due = view.ready or view.links or view.unlinked_stages or view.found_claims or request._unshown
         return bool(is_due) or any(gone) or request._is_over()
 
     def _is_gone(self, session: int) -> bool:
@@ -528,7 +528,7 @@ class DurableService(concurrent.futures.Executor):
     def _fire(self, timer: Timer) -> None:
         request, is_its = None, False
         try:
-            request = self._taken(timer.request)
+            request = self._find_or_open(timer.request)
             is_its = request is not None and timer.number in (0, request.number)
             if request is not None and is_its:
                 request._catch_up()  # (a timer is set behind the word of its stage)
@@ -553,26 +553,26 @@ class DurableService(concurrent.futures.Executor):
         """Hands it to a thread, and says whether one takes it: none does while none can be started, and after the
         end. It is asked again later, then; if a thread comes after all, that is done twice, which does no harm."""
         try:
-            self._pool.submit(self._guarded, name, call, *given)
+            self._pool.submit(self._run_guarded, name, call, *given)
             return True
         except Exception as error:
             if not self._stops.is_set():
                 LOGGER.warning("request %r: %s", name, error)
             return False
 
-    def _heard(self, news: Sequence[Done]) -> None:
+    def _note_signs_of_life(self, news: Sequence[DoneWord]) -> None:
         """Words that came behind others that were seen here are signs of life of who put them."""
         if news and news[0].place > 1:
-            self._watcher.heard({done.token >> COUNT_BITS for done in news} - {self.session})
+            self._watcher.note_signs_of_life({done.token >> COUNT_BITS for done in news} - {self.session})
 
-    def _raise(self, error: BaseException) -> None:
+    def _report_raised(self, error: BaseException) -> None:
         """Tells what a callback raised: who called, or the log where that is a thread of the pool, which has more to
         do."""
         if not getattr(self._works, "is_here", False):
             raise error
-        self._host.raised("a callback has raised", error)
+        self._host.report_raised("a callback has raised", error)
 
-    def _guarded(self, name: str, call: Callable[..., None], *given: Any) -> None:
+    def _run_guarded(self, name: str, call: Callable[..., None], *given: Any) -> None:
         self._works.is_here = True
         self._busy.add(threading.get_ident())
         try:
@@ -582,9 +582,9 @@ class DurableService(concurrent.futures.Executor):
         except Broken as error:
             self._break(name, error, next((it for it in given if isinstance(it, DurableRequest)), None))
         except (Unknown, StoreError) as error:
-            self._host.warns(f"request {name!r}: {error}", name)
+            self._host.warn(f"request {name!r}: {error}", name)
         except BaseException as error:
-            self._host.raised(f"request {name!r}", error)
+            self._host.report_raised(f"request {name!r}", error)
         finally:
             self._busy.discard(threading.get_ident())
 
@@ -595,9 +595,9 @@ class DurableService(concurrent.futures.Executor):
         request._catch_up()
         self._abandon(request)
         request._relay()
-        claimed = self._found(request) or self._next(request, None)
+        claimed = self._next_found_claim(request) or self._finish_and_claim(request, None)
         while claimed is not None:
-            claimed = self._run(request, claimed) or self._found(request) or self._next(request, None)
+            claimed = self._run(request, claimed) or self._next_found_claim(request) or self._finish_and_claim(request, None)
         request._relay()
         request._end_if_done()
 
@@ -605,31 +605,31 @@ class DurableService(concurrent.futures.Executor):
         """Fails the stages whose session is gone. If it isn't, the row says who was first."""
         for stage, session in request._view.open_claims().items():
             if self._is_gone(session):
-                said = f"the worker that ran {request._view.said(stage)['name']} is gone, and it may have run"
+                said = f"the worker that ran {request._view.definition(stage)['name']} is gone, and it may have run"
                 payload = self._error(Abandoned(said))
 
                 def decide(view: RowView, stage: int = stage, session: int = session, payload: bytes = payload) -> Any:
-                    word = view.abandoned(session, stage)
+                    word = view.word_to_abandon(session, stage)
                     return None if word is None else [(word, payload)]
 
                 request._act(decide)
 
-    def _next(self, request: DurableRequest, finish: Optional[Finish]) -> Optional[Claimed]:
+    def _finish_and_claim(self, request: DurableRequest, finish: Optional[FunctionResult]) -> Optional[ClaimedStage]:
         """Puts a finish, and with it the claim of the next stage, if there is one; what was claimed. While the store
         is away a finish is put again and again: its function has run. A value that it refuses fails its stage, if
         the store takes that."""
         chosen: List[int] = []
         told = finish
         if finish is not None and finish.raised is not None:
-            self._host.fails(
-                f"request {request.name!r}, stage {finish.stage}: {request._view.calls(finish.stage).get('fn')} has raised", finish.raised
+            self._host.report_failure(
+                f"request {request.name!r}, stage {finish.stage}: {request._view.called_definition(finish.stage).get('fn')} has raised", finish.raised
             )
 
         def decide(view: RowView) -> Any:
-            made = None if told is None else told.word(view)
-            chosen[:] = self._choice(request, view, told if made is not None else None)
+            made = None if told is None else told.word_to_put(view)
+            chosen[:] = self._choose_stages(request, view, told if made is not None else None)
             words: List[Tuple[int, Optional[bytes]]] = [] if made is None else [made]
-            return words + [(CLAIM << 56 | view.who << 48 | stage << 36, None) for stage in chosen[:1]]
+            return words + [(CLAIM << 56 | view.caller_number << 48 | stage << 36, None) for stage in chosen[:1]]
 
         refused = 0  # times in a row that the value was, while the store took something else
         while True:
@@ -644,19 +644,19 @@ class DurableService(concurrent.futures.Executor):
                         LOGGER.error("request %r, stage %d: what its function came to is lost: %s", request.name, finish.stage, error)
                     raise
                 if isinstance(error, Unknown):
-                    self._host.warns(str(error), request.name)
+                    self._host.warn(str(error), request.name)
                     continue
                 refused = refused + 1 if told is finish and self._takes_beats() else 0
                 told = finish
                 if refused > 1:  # it is too large, say
-                    told = Finish(finish.stage, THROWS, self._error(RemoteError(type(error).__name__, str(error)[:LONGEST_WHY])))
+                    told = FunctionResult(finish.stage, THROWS, self._error(RemoteError(type(error).__name__, str(error)[:LONGEST_WHY])))
                 elif not refused:  # nothing is taken now, so that it wasn't the value
-                    self._host.warns(f"request {request.name!r}, stage {finish.stage}: nothing can be put: {error}", request.name)
+                    self._host.warn(f"request {request.name!r}, stage {finish.stage}: nothing can be put: {error}", request.name)
                     self._host.sleep(0.5)
         if len(chosen) > 1:
             self._serve(request)
         if done and chosen and not done[-1].reply[ANSWER]:
-            return self._claimed(request, chosen[0], done[-1])
+            return self._prepare_claimed(request, chosen[0], done[-1])
         return None
 
     def _takes_beats(self) -> bool:
@@ -667,72 +667,70 @@ class DurableService(concurrent.futures.Executor):
         except Exception:
             return False
 
-    def _found(self, request: DurableRequest) -> Optional[Claimed]:
+    def _next_found_claim(self, request: DurableRequest) -> Optional[ClaimedStage]:
         """A claim of this session's that was granted without its being told, or one that was put with the end of
         such."""
-        found = request._view.found
+        found = request._view.found_claims
         while found and not self._stops.is_set():
             try:
                 stage, done = found.popitem()
             except KeyError:  # another thread has taken it
                 return None
             if request._is_held(stage) and not request._view.is_settled(stage):
-                return self._claimed(request, stage, done)
-            claimed = self._next(request, Finish(stage, GIVES, None))  # late: it does nothing
+                return self._prepare_claimed(request, stage, done)
+            claimed = self._finish_and_claim(request, FunctionResult(stage, GIVES, None))  # late: it does nothing
             if claimed is not None:
                 return claimed
         return None
 
-    def _choice(self, request: DurableRequest, view: RowView, finish: Optional[Finish]) -> List[int]:
+    def _choose_stages(self, request: DurableRequest, view: RowView, finish: Optional[FunctionResult]) -> List[int]:
         """Up to two stages that this session could claim: those that are ready, or that the finish makes ready."""
         if self._stops.is_set() or not self._workers:
             return []
-        claims = view.next_claims(None if finish is None else finish.ended(view))
-        return list(itertools.islice((stage for stage in claims if self._known(request, stage) is not None), 2))
+        claims = view.next_claims(None if finish is None else finish.answer(view))
+        return list(itertools.islice((stage for stage in claims if self._function_of(request, stage) is not None), 2))
 
-    def _known(self, request: DurableRequest, stage: int) -> Optional[Known]:
+    def _function_of(self, request: DurableRequest, stage: int) -> Optional[RegisteredFunction]:
         """The function of a stage, or None where it isn't registered here: others may have it."""
-        said = request._view.calls(stage)
-        known = self.functions.named(str(said.get("fn")), int(said.get("version", 0)))
+        said = request._view.called_definition(stage)
+        known = self.functions.find(str(said.get("fn")), int(said.get("version", 0)))
         composes = request._view.forms[stage][0] in COMPOSE_FORMS
-        if known is not None and composes and "to" not in request._view.said(stage):
-            raise Broken(request.name, request._view.attached.get(stage, 0), f"stage {stage} composes, and no promise is named for what comes")
+        if known is not None and composes and "to" not in request._view.definition(stage):
+            raise Broken(request.name, request._view.attach_places.get(stage, 0), f"stage {stage} composes, and no promise is named for what comes")
         if known is None and request.name not in self._unknown:
             self._unknown[request.name] = (str(said.get("fn")), stage)
-            self._host.warns(
-                f"request {request.name!r}, stage {stage}: function {said.get('fn')}, version {said.get('version')} isn't known here", ""
-            )
+            self._host.warn(f"request {request.name!r}, stage {stage}: function {said.get('fn')}, version {said.get('version')} isn't known here", "")
         return known
 
-    def _claimed(self, request: DurableRequest, stage: int, done: Done) -> Claimed:
+    def _prepare_claimed(self, request: DurableRequest, stage: int, done: DoneWord) -> ClaimedStage:
         try:
-            return self._with_args(request, stage, done)
+            return self._with_arguments(request, stage, done)
         except BaseException:  # it is tried again later
-            request._view.found[stage] = done
+            request._view.found_claims[stage] = done
             raise
 
-    def _with_args(self, request: DurableRequest, stage: int, done: Done) -> Claimed:
-        view, known = request._view, self._known(request, stage)
+    def _with_arguments(self, request: DurableRequest, stage: int, done: DoneWord) -> ClaimedStage:
+        view, known = request._view, self._function_of(request, stage)
         assert known is not None
-        said, args = view.said(stage), self._args(request, stage, done.reply)
-        again = view.tried_again(stage)
+        said, args = view.definition(stage), self._args(request, stage, done.reply)
+        again = view.first_try_of(stage)
         if again is not None:
             # Wrapped, it is a source's: what hangs on an abandoned stage fails, too. A try whose process is gone is done
             # once more. The sources of what is tried again may be open: it was settled by hand.
-            told, error = Told(*done.reply[OUTCOME]), args[0]
+            told, error = OutcomeNumbers(*done.reply[OUTCOME]), args[0]
             if isinstance(error, Abandoned) and not told.wrapped and view.is_settled(again):
-                told = view.told[again]
+                told = view.outcomes[again]
                 error = request._outcome(told, (again,))[1] or error
             if not isinstance(error, Abandoned) or told.wrapped:
-                return Claimed(stage, known, (), {}, error, {})
-            said, args = view.said(again), self._args_again(request, again)
-        return Claimed(stage, known, tuple(said.get("args", ())) or args, said.get("kwargs", {}), None, view.carried(stage))
+                return ClaimedStage(stage, known, (), {}, error, {})
+            said, args = view.definition(again), self._args_again(request, again)
+        return ClaimedStage(stage, known, tuple(said.get("args", ())) or args, said.get("kwargs", {}), None, view.carried_context(stage))
 
     def _args(self, request: DurableRequest, stage: int, reply: Sequence[int]) -> Tuple[Any, ...]:
         """What a claim says that the function is called with."""
         kind = reply[ARGS]
         if kind == GOT:
-            value, error = request._outcome(Told(*reply[OUTCOME]), request._view.forms[stage][1])
+            value, error = request._outcome(OutcomeNumbers(*reply[OUTCOME]), request._view.forms[stage][1])
             return (error,) if request._view.forms[stage][0] in ONLY_FAULT else (value, error)
         first = request._value(reply[FIRST_SOME], reply[FIRST]) if kind in (ONE, TWO) else None
         second = request._value(reply[SECOND_SOME], reply[SECOND]) if kind == TWO else None
@@ -741,11 +739,11 @@ class DurableService(concurrent.futures.Executor):
     def _args_again(self, request: DurableRequest, stage: int) -> Tuple[Any, ...]:
         """What a stage's function was called with before. One that was settled by hand, and whose function wasn't to be
         called, has what its sources hold by now."""
-        granted = request._view.granted.get(stage)
+        granted = request._view.granted_replies.get(stage)
         if granted is not None:
             return self._args(request, stage, granted)
         form, of = request._view.forms[stage]
-        told = [request._view.told[source] for source in of]
+        told = [request._view.outcomes[source] for source in of]
         if form in (Form.HANDLE, Form.WHEN_COMPLETE):
             return request._outcome(told[0], of)
         if form == Form.EXCEPTIONALLY:
@@ -754,59 +752,59 @@ class DurableService(concurrent.futures.Executor):
             told = [next((it for it in told if it.kind == VALUE), told[0])]
         return tuple(request._value(it.some, it.number) if it.kind == VALUE else None for it in told)
 
-    def _run(self, request: DurableRequest, claimed: Claimed) -> Optional[Claimed]:
+    def _run(self, request: DurableRequest, claimed: ClaimedStage) -> Optional[ClaimedStage]:
         """Calls a function and puts its finish; what was claimed with it."""
         self._runs[request.name, claimed.stage] = (claimed.known.name, self._host.monotonic())
         try:
-            return self._ran(request, claimed)
+            return self._run_claimed(request, claimed)
         finally:
             self._runs.pop((request.name, claimed.stage), None)
 
-    def _ran(self, request: DurableRequest, claimed: Claimed) -> Optional[Claimed]:
+    def _run_claimed(self, request: DurableRequest, claimed: ClaimedStage) -> Optional[ClaimedStage]:
         if claimed.error is None and request._view.forms[claimed.stage][0] in COMPOSE_FORMS:
-            return self._next(request, self._composed(request, claimed))
+            return self._finish_and_claim(request, self._call_composing(request, claimed))
         if claimed.error is None and claimed.known.is_transactional:
             return self._in_transaction(request, claimed)
-        return self._next(request, self._called(claimed))
+        return self._finish_and_claim(request, self._call_for_result(claimed))
 
-    def _composed(self, request: DurableRequest, claimed: Claimed) -> Finish:
+    def _call_composing(self, request: DurableRequest, claimed: ClaimedStage) -> FunctionResult:
         """What a function came to that attaches stages. What an earlier try of it has attached isn't attached once
         more."""
-        again = request._view.tried_again(claimed.stage)
+        again = request._view.first_try_of(claimed.stage)
         try:
             with request._composing(Composing(claimed.stage, again)):
                 given = self._call(claimed, request)
             if not isinstance(given, DurableStage) or given.request._view is not request._view:
                 raise TypeError(f"{claimed.known.name} has to give a stage of the request")
-            return Finish(claimed.stage, LINKS, self.codec.write({"stage": given.number}))
+            return FunctionResult(claimed.stage, LINKS, self.codec.write({"stage": given.number}))
         except self._host.leaves:
             raise
         except BaseException as error:
-            return Finish(claimed.stage, THROWS, self._error(error), error)
+            return FunctionResult(claimed.stage, THROWS, self._error(error), error)
 
-    def _called(self, claimed: Claimed, *first: Any) -> Finish:
+    def _call_for_result(self, claimed: ClaimedStage, *first: Any) -> FunctionResult:
         try:
             if claimed.error is not None:
                 raise claimed.error
             value = self._call(claimed, *first)
-            return Finish(claimed.stage, GIVES, None if value is None else self.codec.write(value))
+            return FunctionResult(claimed.stage, GIVES, None if value is None else self.codec.write(value))
         except self._host.leaves:
             raise
         except BaseException as error:
-            return Finish(claimed.stage, THROWS, self._error(error), None if error is claimed.error else error)
+            return FunctionResult(claimed.stage, THROWS, self._error(error), None if error is claimed.error else error)
 
-    def _call(self, claimed: Claimed, *first: Any) -> Any:
+    def _call(self, claimed: ClaimedStage, *first: Any) -> Any:
         """Calls a function, in a context of its own where contexts go along."""
         call: Callable[..., Any] = self._host.call
         if self.contexts:
-            call = functools.partial(within(self.contexts, claimed.carried).run, call)
+            call = functools.partial(restored_context(self.contexts, claimed.carried).run, call)
         return call(claimed.known, *first, *claimed.args, **claimed.kwargs)
 
     def _tell_end(self, request: DurableRequest) -> None:
         """Has the hook told of a request that this process has closed. It raises nothing."""
         try:
             if self._ends is not None:
-                self._ends.tell(request._history, within(self.contexts, request._view.plan.carried))
+                self._ends.tell(request._history, restored_context(self.contexts, request._view.plan.carried_context))
         except Exception:
             LOGGER.warning("the end of request %r isn't told", request.name, exc_info=True)
 
@@ -817,7 +815,7 @@ class DurableService(concurrent.futures.Executor):
         except BaseException as fault:
             return Json().write_error(RemoteError(type(error).__name__, f"(it can't be written: {type(fault).__name__})"))
 
-    def _in_transaction(self, request: DurableRequest, claimed: Claimed) -> Optional[Claimed]:
+    def _in_transaction(self, request: DurableRequest, claimed: ClaimedStage) -> Optional[ClaimedStage]:
         """The function's effect and the word of its finish stand or fall together. Where the finish's place was
         taken meanwhile, or the connection is lost, all of it is done again, unless it stands. What comes next is put
         once the transaction has ended."""
@@ -826,11 +824,11 @@ class DurableService(concurrent.futures.Executor):
             try:
                 with request._transacting(), self.store.transaction() as transaction:
                     is_open = True
-                    finish = self._tried(request, claimed, transaction)
+                    finish = self._try_in_transaction(request, claimed, transaction)
             except Unknown as error:
                 if self._stops.is_set():
                     raise
-                self._host.warns(f"request {request.name!r}, stage {claimed.stage}: {error}", request.name)
+                self._host.warn(f"request {request.name!r}, stage {claimed.stage}: {error}", request.name)
                 self._host.sleep(0.05)
                 finish = LOST
             except Broken:
@@ -838,16 +836,16 @@ class DurableService(concurrent.futures.Executor):
             except Exception as error:  # what the function did to the connection lets no word be put, say
                 if not is_open and self._stops.is_set():
                     raise
-                finish = Finish(claimed.stage, THROWS, self._error(error), error) if is_open else LOST
+                finish = FunctionResult(claimed.stage, THROWS, self._error(error), error) if is_open else LOST
                 if not is_open:  # it was the store, and no function was called
-                    self._host.warns(f"request {request.name!r}, stage {claimed.stage}: {error}", request.name)
+                    self._host.warn(f"request {request.name!r}, stage {claimed.stage}: {error}", request.name)
                     self._host.rest(self._stops, 0.5)
             finally:
                 request._show_settled()
             if finish is not LOST:
-                return self._next(request, finish)
+                return self._finish_and_claim(request, finish)
 
-    def _tried(self, request: DurableRequest, claimed: Claimed, transaction: Transaction) -> Optional[Finish]:
+    def _try_in_transaction(self, request: DurableRequest, claimed: ClaimedStage, transaction: Transaction) -> Optional[FunctionResult]:
         """Calls a function in a transaction and puts its finish there; what has to be put behind that, `LOST` where
         it has to be done again. What others have put is read first: where the stage isn't this session's any more,
         no effect is for nothing."""
@@ -855,8 +853,8 @@ class DurableService(concurrent.futures.Executor):
         if not request._is_held(claimed.stage):
             return None  # it stands
         if request._view.is_settled(claimed.stage):
-            return Finish(claimed.stage, GIVES, None)  # late: it does nothing
-        finish = self._called(claimed, transaction.connection)
+            return FunctionResult(claimed.stage, GIVES, None)  # late: it does nothing
+        finish = self._call_for_result(claimed, transaction.connection)
         if finish.kind == THROWS:
             if transaction.is_away():
                 raise Unknown("the connection was lost")

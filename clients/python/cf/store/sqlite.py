@@ -123,7 +123,7 @@ class SQLite(TableStore):
         with self._telling:
             return self._db.execute(statement, values).fetchall()
 
-    def may_put(self) -> None:
+    def check_may_put(self) -> None:
         if self._path in _within.paths:
             raise StoreError(f"{self._path}: a transactional function can't put: its own transaction has the file")
 
@@ -265,7 +265,7 @@ class SQLite(TableStore):
             raise self._gone(name)
         return told
 
-    def changed(self, seconds: float) -> None:
+    def wait_for_change(self, seconds: float) -> None:
         until = time.monotonic() + seconds
         while True:
             version = self._ask("pragma data_version")[0][0]
@@ -311,7 +311,7 @@ class SQLite(TableStore):
         ):
             raise self._gone(timer.request)
 
-    def due(self, now: float) -> List[Timer]:
+    def timers_due(self, now: float) -> List[Timer]:
         rows = self._ask("select name, stage, due, payload, id from cf_timer join cf_request on id = request where due <= ? order by due", now)
         return [Timer(str(name), int(stage), float(at), _bytes(payload), int(number)) for name, stage, at, payload, number in rows]
 
@@ -334,7 +334,7 @@ class SQLite(TableStore):
 
     @contextlib.contextmanager
     def transaction(self) -> Generator[Transaction, None, None]:
-        self.may_put()
+        self.check_may_put()
         self._line.take()
         try:
             db = self._connected()
@@ -499,7 +499,7 @@ class _InLine:
         self._store = store
 
     def __enter__(self) -> None:
-        self._store.may_put()
+        self._store.check_may_put()
         self._store._line.take()
 
     def __exit__(self, _kind: object, error: Optional[BaseException], _trace: object) -> None:

@@ -6,19 +6,19 @@ from .rows import Memory, Store, StoreError
 
 
 def connect(address: str, may_create: bool = True) -> Store:
-    """The store of an address, which is made where it isn't there yet:
+    """Opens the store of an address, and makes it where there is none:
 
         memory://                                   in this process, for tests
         sqlite:///relative.db, sqlite:////at/a.db   a file
         postgresql://user@host:5432/database        a database, by psycopg2
         etcd://host:2379,host:2379                  a cluster, by its JSON gateway
 
-    `?unsafe=1` lets an engine answer before it has written, for tests that want losses. With `may_create=False` a
-    file has to have a store already, so that a mistyped path makes none.
+    `?unsafe=1` lets an engine answer before it has written, for tests that want losses. With `may_create=False` the
+    file has to hold a store already.
 
     Raises:
         ValueError: The address is none of these.
-        StoreError: The engine isn't one that keeps words, psycopg2 isn't there, or the file is no store.
+        StoreError: The engine can't keep words, psycopg2 isn't installed, or the file is no store.
         Unknown: The engine doesn't answer."""
     parts = urlsplit(address)
     options = parse_qs(parts.query)

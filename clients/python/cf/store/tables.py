@@ -4,7 +4,7 @@ import heapq
 import time
 from typing import Any, Dict, Iterable, List, Mapping, NamedTuple, Optional, Sequence, Set, Tuple
 
-from .rows import FIRST, HEAD, Changes, Glance, Gone, Listed, Open, Opened, Put, Store, flow_of
+from .rows import FIRST, HEAD, Changes, Glance, Gone, ListedRequest, OpenRequest, Opened, Put, Store, flow_of
 
 ANEW = 100  # requests that are told anew with each look at all that are open
 BETWEEN_ALL = 0.5  # seconds between two such looks: what is closed is told by them alone
@@ -33,7 +33,7 @@ class _Other(NamedTuple):
     longer: Mapping[int, int]
     words: Any
     numbers: Optional[Set[int]]
-    opened: List[Open]
+    opened: List[OpenRequest]
     turn: int
 
 
@@ -88,14 +88,14 @@ class TableStore(Store):
             for name, many in self._ask("select name, (select max(at) + 1 from cf_word where request = id) from cf_request where closed is null")
         }
 
-    def listing(self) -> List[Listed]:
+    def listing(self) -> List[ListedRequest]:
         rows = self._ask("select name, opened, closed, (select max(at) + 1 from cf_word where request = id) from cf_request order by name")
-        return [Listed(str(name), float(opened), closed, int(many or 0)) for name, opened, closed, many in rows]
+        return [ListedRequest(str(name), float(opened), closed, int(many or 0)) for name, opened, closed, many in rows]
 
     def beats(self) -> Dict[int, int]:
         return {int(session): int(count) for session, count in self._ask("select session, count from cf_beat")}
 
-    def overview(self) -> List[Open]:
+    def overview(self) -> List[OpenRequest]:
         return _opens(self._ask(OVERVIEW))
 
     def changes(self, mark: Optional[_Mark]) -> Tuple[Changes, _Mark]:
@@ -136,7 +136,7 @@ class TableStore(Store):
         """What is other since a mark, or None where that isn't known. Without `is_all` it costs by what is other alone,
         and not by how many are open: then what is closed isn't told, and what is opened again may not be."""
 
-    def _opened(self, numbers: Sequence[int]) -> List[Open]:
+    def _opened(self, numbers: Sequence[int]) -> List[OpenRequest]:
         """Those of these requests that are open."""
         told = []
         for k in range(0, len(numbers), MOST_VALUES):
@@ -144,7 +144,7 @@ class TableStore(Store):
             told += self._ask(f"{OVERVIEW} and r.id in ({','.join([self.VALUE] * len(some))})", *some)
         return _opens(told)
 
-    def closed(self, behind: str, most: int, part: str = "") -> List[Listed]:
+    def closed(self, behind: str, most: int, part: str = "") -> List[ListedRequest]:
         rows = self._ask(
             "select name, opened, closed, (select max(at) + 1 from cf_word where request = id) "
             f"from cf_request where closed is not null and name > {self.VALUE} and {self.HAS_PART} "
@@ -152,19 +152,19 @@ class TableStore(Store):
             behind,
             part,
         )
-        return [Listed(str(name), float(opened), float(closed), int(many or 0)) for name, opened, closed, many in rows]
+        return [ListedRequest(str(name), float(opened), float(closed), int(many or 0)) for name, opened, closed, many in rows]
 
     def session_names(self, request: str = "", number: int = 0) -> Dict[int, str]:
         number = (number or self._id(request)) if request else 0
         return {int(session): str(said) for session, said in self._ask(f"select session, name from cf_name where request = {self.VALUE}", number)}
 
 
-def _opens(rows: Iterable[Tuple[Any, ...]]) -> List[Open]:
+def _opens(rows: Iterable[Tuple[Any, ...]]) -> List[OpenRequest]:
     """What rows of `OVERVIEW` tell."""
     told = []
     for number, name, opened, many, head, words, said in rows:
         glance = None if words is None else Glance(str(name), int(number), int(words), str(said))
-        told.append(Open(str(name), int(number), float(opened), int(many or 0), flow_of(str(head)), glance))
+        told.append(OpenRequest(str(name), int(number), float(opened), int(many or 0), flow_of(str(head)), glance))
     return told
 
 

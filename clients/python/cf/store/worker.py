@@ -47,14 +47,14 @@ class Worker(DurableService):
         What it waits for is logged, every few seconds.
 
         Args:
-            ends: What `told_to_end` gave, if it was called before the worker was made.
+            ends: What `end_signal` gave, if it was called before the worker was made.
             grace: For how many seconds it waits for functions that run; by default until they have ended. It waits no
                 longer once another signal comes.
 
         Returns:
             Whether all have ended. If not, their threads run on: the process has to be ended by `os._exit`, and others
             abandon their stages."""
-        ends = ends or told_to_end()
+        ends = ends or end_signal()
         ends.wait()
         ends.clear()
         ending = threading.Thread(target=self.shutdown, name="cf-ending", daemon=True)
@@ -74,7 +74,7 @@ class Worker(DurableService):
         return ", ".join(map(str, self.running())) or "the store"
 
 
-def told_to_end() -> threading.Event:
+def end_signal() -> threading.Event:
     """An event that is set when the process gets SIGTERM or SIGINT."""
     ends = threading.Event()
     for number in (signal.SIGTERM, signal.SIGINT):

@@ -26,8 +26,8 @@ docs/TESTING.md leads through it. The files:
 from .arrivals import Arrival
 from .marks import pure, touches
 from .orders import every_order, orders
-from .report import Failure, Pair, Report, Told
+from .report import Failure, Pair, Report, ToldMove
 from .runner import NotDeterministic
 from .world import World
 
-__all__ = ["Arrival", "Failure", "NotDeterministic", "Pair", "Report", "Told", "World", "every_order", "orders", "pure", "touches"]
+__all__ = ["Arrival", "Failure", "NotDeterministic", "Pair", "Report", "ToldMove", "World", "every_order", "orders", "pure", "touches"]

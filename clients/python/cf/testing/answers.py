@@ -17,7 +17,7 @@ class Bounds(NamedTuple):
         """Whether these may go wrong once more."""
         return all(getattr(self, it) > 0 for it in costs)
 
-    def less(self, costs: Sequence[str]) -> "Bounds":
+    def minus(self, costs: Sequence[str]) -> "Bounds":
         """What is left behind these."""
         return self._replace(**{it: getattr(self, it) - 1 for it in costs})
 

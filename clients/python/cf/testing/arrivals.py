@@ -37,7 +37,7 @@ class Arrival(_Future[T]):
         self.ways: Sequence[Way] = ways
         super().__init__()
 
-    def come(self, way: int) -> None:
+    def arrive(self, way: int) -> None:
         """It comes."""
         value, error, self._is_never = self.ways[way]
         if self._is_never:

@@ -4,7 +4,7 @@ import threading
 from typing import Callable, List, Optional
 
 
-class Gone(BaseException):
+class RunEnded(BaseException):
     """Ends a function that waits while its run ends."""
 
 
@@ -41,7 +41,7 @@ class Carrier:
         self._back.release()
         self._turn.acquire()
         if self._ends:
-            raise Gone
+            raise RunEnded
 
     def end(self) -> None:
         """Ends the function that waits, and with one that goes on all the same, the thread's use."""

@@ -22,7 +22,7 @@ class Chance:
         self._levels: Dict[Move, float] = {}
         self._changes: Set[int] = set()
 
-    def go(self, times: int, until: float, failures: int) -> None:
+    def draw(self, times: int, until: float, failures: int) -> None:
         """So many orders, until the moment comes or so many have failed."""
         report = self._report
         for _ in range(times):
@@ -30,14 +30,14 @@ class Chance:
                 return
             self._levels = {}
             self._changes = {self._random.randrange(self._longest) for _ in range(DEPTH - 1)}
-            ran = self._runner.go(self._chooses)
+            ran = self._runner.run_once(self._choose)
             self._longest = max(self._longest, len(ran.row))
             report.orders += 1
             report.by_chance += 1
             if ran.how == FAILED:
                 report.failed.append(failure_of(ran))
 
-    def _chooses(self, place: int, keys: List[Move]) -> Optional[Move]:
+    def _choose(self, place: int, keys: List[Move]) -> Optional[Move]:
         if not keys:
             return None
         for key in keys:

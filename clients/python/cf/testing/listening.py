@@ -7,20 +7,20 @@ from typing import Any, Callable, List, Optional, Sequence
 from ..service.relays import is_relay
 from ..service.request import Request
 from ..service.stage import Stage
-from ..service.watch import Callback, Task, WatchedStage, is_settled
+from ..service.watch import Callback, ReadyStage, WatchedStage, is_settled
 from ..service.words import name_of
 from .arrivals import Arrival
 from .carriers import CarrierThread
 from .footprints import CHANGES, READS, Place, Thing
-from .state import Flight, NeedsThreads, State, Tail, Timer, Wait
+from .state import Flight, NeedsThreads, State, Tail, PendingLimit, Wait
 
 
 class Listening(State):
     """The `Watch` of a run's service."""
 
     @property
-    def busy(self) -> bool:
-        """As `Watch.busy`."""
+    def is_busy(self) -> bool:
+        """As `Watch.is_busy`."""
         return bool(self.ready_tasks or any(flight.task is not None for flight in self.flights.values()))
 
     def now(self, request: Request) -> float:
@@ -29,13 +29,13 @@ class Listening(State):
             return self.loop.time()
         return self._nows.get(self._indices[id(request)], 0.0)
 
-    def opened(self, request: Request) -> None:
-        """As `Watch.opened`."""
+    def on_opened(self, request: Request) -> None:
+        """As `Watch.on_opened`."""
         self._indices[id(request)] = len(self.requests)
         self.requests.append(request)
 
-    def attached(self, stage: "Stage[Any]", of: "Sequence[Stage[Any]]") -> None:
-        """As `Watch.attached`."""
+    def on_attached(self, stage: "Stage[Any]", of: "Sequence[Stage[Any]]") -> None:
+        """As `Watch.on_attached`."""
         place = self._place(stage)
         self._behind.add(place, [self._place(source) for source in of])
         for source in of:
@@ -44,17 +44,17 @@ class Listening(State):
         self.touch(place, CHANGES)
         self._happened()
 
-    def changed(self, stage: "Stage[Any]", did: bool) -> None:
-        """As `Watch.changed`."""
+    def on_changed(self, stage: "Stage[Any]", did: bool) -> None:
+        """As `Watch.on_changed`."""
         self.touch(self._place(stage), CHANGES if did else READS)
         self._happened()
 
-    def claimed(self, stage: "Stage[Any]") -> None:
-        """As `Watch.claimed`."""
+    def on_claimed(self, stage: "Stage[Any]") -> None:
+        """As `Watch.on_claimed`."""
         self.touch(self._place(stage), CHANGES)
 
-    def finished(self, stage: "Stage[Any]", to: "Optional[Stage[Any]]") -> None:
-        """As `Watch.finished`."""
+    def on_finished(self, stage: "Stage[Any]", to: "Optional[Stage[Any]]") -> None:
+        """As `Watch.on_finished`."""
         place = self._place(stage)
         self.touch(place, CHANGES)
         if to is not None:
@@ -63,13 +63,13 @@ class Listening(State):
             self._news.append(place)
         self._happened()
 
-    def settled(self, stage: "Stage[Any]") -> None:
-        """As `Watch.settled`."""
+    def on_settled(self, stage: "Stage[Any]") -> None:
+        """As `Watch.on_settled`."""
         self._news.append(self._place(stage))
         self._settled.append(stage)
 
-    def calls_back(self, stage: "Stage[Any]", calls: "List[Callback]", at_once: bool) -> None:
-        """As `Watch.calls_back`. Within a function its own thread calls them, before it goes on."""
+    def on_callbacks(self, stage: "Stage[Any]", calls: "List[Callback]", at_once: bool) -> None:
+        """As `Watch.on_callbacks`. Within a function its own thread calls them, before it goes on."""
         if not (at_once or self._in_user):
             place = self._place(stage)
             self._calls += [(("tell", *place, k), call) for k, call in enumerate(calls)]
@@ -90,11 +90,11 @@ class Listening(State):
         for relay in self._relays.get(of, ()):
             self.touch(relay, READS)
 
-    def ready(self, task: Task) -> None:
-        """As `Watch.ready`."""
+    def on_ready(self, task: ReadyStage) -> None:
+        """As `Watch.on_ready`."""
         self._news.append(self._put(task))
 
-    def _put(self, task: Task) -> Place:
+    def _put(self, task: ReadyStage) -> Place:
         """There is a function more to claim, and a turn more to do so. Whoever has a turn claims any of its request."""
         place = self._place(task.stage)
         if self.has_too_few_turns(place[0]):
@@ -112,13 +112,13 @@ class Listening(State):
         self.turns[request] += many
         self.touch(("turns", request), CHANGES)
 
-    def read(self, stage: "Stage[Any]") -> None:
-        """As `Watch.read`."""
+    def on_read(self, stage: "Stage[Any]") -> None:
+        """As `Watch.on_read`."""
         if self._in_user and self._footprint is not None:
             self.touch(self._place(stage), READS)
 
-    def linked(self, relay: "Stage[Any]", future: "concurrent.futures.Future[Any]") -> None:
-        """As `Watch.linked`."""
+    def on_linked(self, relay: "Stage[Any]", future: "concurrent.futures.Future[Any]") -> None:
+        """As `Watch.on_linked`."""
         if isinstance(future, WatchedStage) and future.request is relay.request:  # (which needs no callback)
             self._behind.add(self._place(relay), [self._place(future)])
             return
@@ -129,8 +129,8 @@ class Listening(State):
         )
         self._relays.setdefault(thing, []).append(self._place(relay))
 
-    def looked(self, request: Request) -> None:
-        """As `Watch.looked`."""
+    def on_history_read(self, request: Request) -> None:
+        """As `Watch.on_history_read`."""
         if self._in_user and self._footprint is not None:
             index = self._indices[id(request)]
             self.touch(("attach", index), READS)
@@ -138,15 +138,15 @@ class Listening(State):
                 if place[0] == index:
                     self.touch(place, READS)
 
-    def limit(self, stage: "Stage[Any]", seconds: float, act: Callable[[], object]) -> None:
-        """As `Watch.limit`."""
+    def on_limit(self, stage: "Stage[Any]", seconds: float, act: Callable[[], object]) -> None:
+        """As `Watch.on_limit`."""
         self._add_timer(self._place(stage), seconds, act, lambda: is_settled(stage), f"the limit of {stage.name} passes")
 
     def _add_timer(self, place: Place, seconds: float, act: Callable[[], object], is_lost: Callable[[], bool], text: str) -> None:
         request = place[0]
         self.touch(("clock", request), CHANGES)
         number = self._timers_made[request] = self._timers_made.get(request, 0) + 1
-        self.timers.append(Timer(self._nows.get(request, 0.0) + seconds, number, place, act, is_lost, text))
+        self.timers.append(PendingLimit(self._nows.get(request, 0.0) + seconds, number, place, act, is_lost, text))
 
     def _happened(self) -> None:
         """An event was told whole: what it led to is touched, and its callbacks wait."""

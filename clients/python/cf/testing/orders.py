@@ -70,15 +70,15 @@ def orders(
     settings = Settings(workers, free_clock, fine, reduce, fine)
     began = time.perf_counter()
     try:
-        report = _searched(Runner(test, settings), most, began + seconds, row, chance, seed, failures, reduce, smaller, ends)
+        report = _search(Runner(test, settings), most, began + seconds, row, chance, seed, failures, reduce, smaller, ends)
     except NeedsThreads:
         runner = Runner(test, settings._replace(has_threads=True))
-        report = _searched(runner, most, began + seconds, row, chance, seed, failures, reduce, smaller, ends)
+        report = _search(runner, most, began + seconds, row, chance, seed, failures, reduce, smaller, ends)
     report.seconds = time.perf_counter() - began
     return report
 
 
-def _searched(
+def _search(
     runner: Runner,
     most: int,
     until: float,
@@ -92,35 +92,35 @@ def _searched(
 ) -> Report:
     report = Report()
     if row is not None:
-        ran = runner.again(moves_of(row))
+        ran = runner.follow(moves_of(row))
         report.orders = 1
         if ran.how == FAILED:
             report.failed.append(failure_of(ran))
             report.failed[0].pairs = pairs_of(runner, report.failed[0])
         return report
     if chance:
-        Chance(runner, report, seed).go(chance, until, failures)
+        Chance(runner, report, seed).draw(chance, until, failures)
     else:
-        _all(runner, report, most, until, failures, Tree(runner, report, ends, reduce), seed)
-    report.failed = [failure_of(runner.again(failure.moves)) for failure in report.failed]
+        _search_all(runner, report, most, until, failures, Tree(runner, report, ends, reduce), seed)
+    report.failed = [failure_of(runner.follow(failure.moves)) for failure in report.failed]
     if smaller:
-        report.failed = [Smaller(runner, failure).go() for failure in report.failed[:MOST_TOLD]]
+        report.failed = [Smaller(runner, failure).shrink() for failure in report.failed[:MOST_TOLD]]
         for failure in report.failed:
             failure.pairs = pairs_of(runner, failure)
     report.moves = runner.moves
     return report
 
 
-def _all(runner: Runner, report: Report, most: int, until: float, failures: int, tree: Tree, seed: int) -> None:
+def _search_all(runner: Runner, report: Report, most: int, until: float, failures: int, tree: Tree, seed: int) -> None:
     """Some orders in turn, and if these aren't all, some by chance: what needs the last of many to come first is
     met late by the search in turn, and soon by chance."""
     at_first = min(AT_FIRST, most)
-    tree.go(at_first, until, failures)
+    tree.search(at_first, until, failures)
     if report.whole or len(report.failed) >= failures or most <= at_first:
         return
     part = time.perf_counter() + (until - time.perf_counter()) / PART
-    Chance(runner, report, seed).go(most // PART, part, failures)
-    tree.go(most - report.by_chance - at_first, until, failures)
+    Chance(runner, report, seed).draw(most // PART, part, failures)
+    tree.search(most - report.by_chance - at_first, until, failures)
 
 
 def every_order(test: Optional[Callable[..., Any]] = None, **options: Any) -> Any:

@@ -13,7 +13,7 @@ from ..store.request import DurableStage
 from ..store.rows import Gone as Dropped
 from ..store.rows import Timer
 from ..store.service import DurableService
-from ..store.view import Done
+from ..store.view import DoneWord
 from .answers import OF_CALLS
 from .footprints import CHANGES, CHECKED, READS, USER, Thing
 from .marks import names_of
@@ -84,7 +84,7 @@ class Process(DurableService):
         """Whether it works on a request."""
         return self.takes_all or name in self._requests or name in self._left
 
-    def _heard(self, news: Sequence[Done]) -> None:
+    def _note_signs_of_life(self, news: Sequence[DoneWord]) -> None:
         """Words are no signs of life here: by one move a process reads a claim and takes for gone who has put it."""
 
     def _noted(self, what: str, name: str, place: int, word: int, reply: Any) -> None:
@@ -149,18 +149,18 @@ class ProcessHost(Host):
         finally:
             flight.touches = before
 
-    def warns(self, text: str, request: str) -> None:
+    def warn(self, text: str, request: str) -> None:
         if request:
             self.process.stuck.add(request)
 
-    def fails(self, text: str, error: BaseException) -> None:
+    def report_failure(self, text: str, error: BaseException) -> None:
         """Functions may raise."""
 
-    def breaks(self, error: BaseException) -> None:
+    def report_broken(self, error: BaseException) -> None:
         if not isinstance(error, Dropped):
             self.world.run.fail(f"{self.process.name} can't go on: {error}")
 
-    def raised(self, text: str, error: BaseException) -> None:
+    def report_raised(self, text: str, error: BaseException) -> None:
         self.world.run.fail(f"{self.process.name}, {text}: {describe_all(error)}")
 
 

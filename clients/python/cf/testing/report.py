@@ -16,7 +16,7 @@ def moves_of(row: str) -> List[Move]:
     return [tuple(int(part) if part.lstrip("-").isdigit() else part for part in move.split(".")) for move in row.split()]
 
 
-class Told(NamedTuple):
+class ToldMove(NamedTuple):
     """A move in words, and what it settled."""
 
     text: str
@@ -40,10 +40,10 @@ class Failure:
         pairs: The pairs of moves that decide.
         histories: The history of each request, in the order in which the test opened them."""
 
-    def __init__(self, why: str, moves: List[Move], told: List[Told], histories: List[History]) -> None:
+    def __init__(self, why: str, moves: List[Move], told: List[ToldMove], histories: List[History]) -> None:
         self.why: str = why
         self.moves: List[Move] = moves
-        self.told: List[Told] = told
+        self.told: List[ToldMove] = told
         self.histories: List[History] = histories
         self.pairs: List[Pair] = []
 

@@ -6,7 +6,7 @@ from typing import TYPE_CHECKING, Any, Callable, ContextManager, Dict, List, Opt
 from ..service.history import describe_all
 from ..service.words import ATTACH, CANCEL, CANCELLED, CLAIM, COMPLETE, FAIL, FAIL_AS, FINISH, LINKS, THROWN, THROWS, TIMED_OUT, VALUE
 from ..store.codec import Json
-from ..store.rows import Entry, Glance, Listed, Memory, Opened, Put, Store, Timer, Transaction
+from ..store.rows import Entry, Glance, ListedRequest, Memory, Opened, Put, Store, Timer, Transaction
 from ..store.view import RowView
 from .answers import OF_PUTS, OF_READS, OF_WRITES
 from .footprints import CHANGES, READS, Thing
@@ -52,7 +52,7 @@ class Rows:
     def name_of(self, request: str, stage: int) -> str:
         """What a stage is called."""
         view = self.view(request)
-        return f"stage {stage}" if view is None or stage >= len(view.forms) else str(view.said(stage)["name"])
+        return f"stage {stage}" if view is None or stage >= len(view.forms) else str(view.definition(stage)["name"])
 
     def open(self, name: str, plan: str) -> Opened:
         """As `Store.open`."""
@@ -73,7 +73,7 @@ class Rows:
         if stands is None:
             view = self.views[put.request]
             for done in view.catch_up():
-                self.told += [f"{view.said(stage)['name']} {ended(view, stage)}" for stage in done.settled]
+                self.told += [f"{view.definition(stage)['name']} {ended(view, stage)}" for stage in done.settled]
         else:
             self.told.append("another's word stands there")
         return stands
@@ -152,10 +152,10 @@ class ProcessStore(Store):
                 self._world.touch(("row", name), READS)
         return ends
 
-    def changed(self, seconds: float) -> None:
+    def wait_for_change(self, seconds: float) -> None:
         """The search says when a process looks."""
 
-    def listing(self) -> List[Listed]:
+    def listing(self) -> List[ListedRequest]:
         self._world.touch(ROWS, READS)
         return [it._replace(opened=0.0) for it in self.rows.memory.listing()]
 
@@ -187,7 +187,7 @@ class ProcessStore(Store):
             self._process, OF_WRITES, f"sets the limit of {self.rows.name_of(timer.request, timer.stage)}", lambda: self.rows.set_timer(timer)
         )
 
-    def due(self, now: float) -> List[Timer]:
+    def timers_due(self, now: float) -> List[Timer]:
         return list(self._process.due_now)
 
     def drop_timer(self, request: str, stage: int, number: int = 0) -> None:
@@ -235,21 +235,21 @@ def _said(given: bytes) -> Dict[str, Any]:
 
 def outcome(view: RowView, stage: int) -> Any:
     """The value or the exception that a stage ended with, or None where it isn't settled."""
-    told, codec = view.told[stage], Json()
+    told, codec = view.outcomes[stage], Json()
     if not view.is_settled(stage):
         return None
     if told.kind == VALUE:
-        return view.read(told.number, codec.read) if told.some else None
+        return view.read_payload(told.number, codec.read) if told.some else None
     if told.kind == THROWN:
-        return view.read(told.code, codec.read_error)
+        return view.read_payload(told.code, codec.read_error)
     if told.kind == CANCELLED:
         return codec.read_error(b'{"error":"CancelledError","text":"","args":[]}')
-    found = view.read_if_any(view.failed_of((stage,), told.kind), codec.read_error)
+    found = view.read_payload_if_any(view.place_of_failure((stage,), told.kind), codec.read_error)
     return found if found is not None else TimeoutError() if told.kind == TIMED_OUT else RuntimeError("a bad answer")
 
 
 def ended(view: RowView, stage: int) -> str:
     """What a settled stage came to, in words."""
-    if view.told[stage].kind == CANCELLED and not view.told[stage].wrapped:
+    if view.outcomes[stage].kind == CANCELLED and not view.outcomes[stage].wrapped:
         return "is cancelled"
     return f"ends: {describe_all(outcome(view, stage))}"

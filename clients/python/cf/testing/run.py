@@ -30,7 +30,7 @@ from .carriers import CARRIERS, Carrier
 from .footprints import CHANGES, CHECKED, READS, USER, WORKERS, Footprint, Move, Thing
 from .listening import Listening
 from .marks import names_of
-from .state import LEAVES, Failed, Flight, Settings, Timer
+from .state import LEAVES, Failed, Flight, Settings, PendingLimit
 
 MAIN: Thing = ("main", 0)
 OF_STAGE = (
@@ -61,7 +61,7 @@ class Run(Listening):
         self.world = World(self)
         self.returned: Any = None
         self._is_stopped = False
-        self._passed: List[Timer] = []
+        self._passed: List[PendingLimit] = []
 
     # What may come next.
 
@@ -109,7 +109,7 @@ class Run(Listening):
             self.timers = [timer for timer in self.timers if not timer.is_lost()]
         if self._is_stopped:
             return []
-        first: Dict[int, Timer] = {}
+        first: Dict[int, PendingLimit] = {}
         busy = [tail.clock for tail in self.tails]
         for timer in sorted(self.timers, key=lambda timer: timer[:2]):
             first.setdefault(timer.place[0], timer)
@@ -163,7 +163,7 @@ class Run(Listening):
         for each in flight.wait.things if flight.wait is not None else ():
             self.touch(each, READS)
         flight.wait = None
-        self._on(flight, lambda carrier: carrier.resume())
+        self._let_run(flight, lambda carrier: carrier.resume())
         if flight.word == "end" and flight.task is None:
             del self.flights[thing]
 
@@ -204,7 +204,7 @@ class Run(Listening):
 
     def _do_come(self, number: int, way: int) -> None:
         self.touch_outside(number, True)
-        self.outside[number].come(way)
+        self.outside[number].arrive(way)
 
     def _do_by(self, number: int, place: int) -> None:
         name, calls = self.callers[number]
@@ -263,13 +263,13 @@ class Run(Listening):
             flight.word = "end"
             return
         flight.carrier = CARRIERS.take()
-        self._on(flight, lambda carrier: carrier.begin(lambda: self._act(flight)))
+        self._let_run(flight, lambda carrier: carrier.begin(lambda: self._act(flight)))
 
     def _act(self, flight: Flight) -> None:
         self._carried.flight = flight
         flight.act()
 
-    def _on(self, flight: Flight, goes: Callable[[Carrier], None]) -> None:
+    def _let_run(self, flight: Flight, goes: Callable[[Carrier], None]) -> None:
         """Lets a thread go on until its function waits or has ended."""
         carrier = flight.carrier
         assert carrier is not None

@@ -3,7 +3,7 @@ import re
 from typing import Any, Callable, List, NamedTuple, Optional, Sequence, Set
 
 from .footprints import Footprint, Move, Thing
-from .report import Failure, Told, actor_of, row_of
+from .report import Failure, ToldMove, actor_of, row_of
 from .run import Run
 from .state import Failed, Settings
 
@@ -18,14 +18,14 @@ class NotDeterministic(AssertionError):
     run."""
 
 
-class Ran(NamedTuple):
+class RunResult(NamedTuple):
     """How a run ended: by itself, cut short by who chose, or failed."""
 
     how: str
     run: Run
     row: List[Move]
     why: str
-    told: List[Told]
+    told: List[ToldMove]
 
 
 class Runner:
@@ -36,11 +36,11 @@ class Runner:
         self.watched: Set[Thing] = set()  # what checks have looked at
         self.moves = 0
 
-    def go(self, chooses: Chooses, did: Optional[Did] = None, tells: bool = False) -> Ran:
+    def run_once(self, chooses: Chooses, did: Optional[Did] = None, tells: bool = False) -> RunResult:
         """One run."""
         run = Run(self.settings, self.watched)
         row: List[Move] = []
-        told: List[Told] = []
+        told: List[ToldMove] = []
         how, why = END, ""
         try:
             run.start(self.test)
@@ -55,22 +55,22 @@ class Runner:
                     break
                 row.append(key)
                 if tells:
-                    told.append(Told(run.text(key), []))
+                    told.append(ToldMove(run.text(key), []))
                 footprint = run.do(key)
                 if tells:
-                    told[-1] = Told(told[-1].text, run.told())
+                    told[-1] = ToldMove(told[-1].text, run.told())
                 self.moves += 1
                 if did is not None:
                     did(key, footprint)
         except Failed:
             how, why = FAILED, run.why
             if tells and told:
-                told[-1] = Told(told[-1].text, run.told())
+                told[-1] = ToldMove(told[-1].text, run.told())
         finally:
             run.close()
-        return Ran(how, run, row, why, told)
+        return RunResult(how, run, row, why, told)
 
-    def again(self, row: Sequence[Move], did: Optional[Did] = None) -> Ran:
+    def follow(self, row: Sequence[Move], did: Optional[Did] = None) -> RunResult:
         """Follows a row as far as it can be followed, and goes on with whoever went on last, else with the first."""
         left = list(row)
         last: List[Move] = []
@@ -85,9 +85,9 @@ class Runner:
             last[:] = (own or keys)[:1]
             return last[0] if last else None
 
-        return self.go(chooses, did, tells=True)
+        return self.run_once(chooses, did, tells=True)
 
-    def in_order(self, row: Sequence[Move], did: Optional[Did] = None) -> Ran:
+    def run_in_order(self, row: Sequence[Move], did: Optional[Did] = None) -> RunResult:
         """Makes the moves of a row, each as soon as those that stand before it have come or can't come yet."""
         left = list(row)
 
@@ -97,12 +97,12 @@ class Runner:
                     return left.pop(place)
             return keys[0] if keys else None
 
-        return self.go(chooses, did)
+        return self.run_once(chooses, did)
 
-    def same(self, ran: Ran) -> None:
+    def check_repeats(self, ran: RunResult) -> None:
         """Does a run again. What the row doesn't decide shows."""
         row = ran.row
-        again = self.go(lambda place, keys: row[place] if place < len(row) and row[place] in keys else None)
+        again = self.run_once(lambda place, keys: row[place] if place < len(row) and row[place] in keys else None)
         if (again.row, again.how, again.why) != (row, ran.how, ran.why) or _words(again.run) != _words(ran.run):
             raise NotDeterministic(
                 f"done again, the order\n    {row_of(row)}\nwas\n    {row_of(again.row)}\nand came "
@@ -110,9 +110,9 @@ class Runner:
             )
 
 
-def failure_of(ran: Ran) -> Failure:
+def failure_of(ran: RunResult) -> Failure:
     """A run that failed and was told, as a value."""
-    told = [Told(_short(text), [_short(it) for it in settled]) for text, settled in ran.told]
+    told = [ToldMove(_short(text), [_short(it) for it in settled]) for text, settled in ran.told]
     return Failure(_short(ran.why), ran.row, told, ran.run.histories())
 
 

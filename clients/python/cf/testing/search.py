@@ -17,7 +17,7 @@ from typing import Any, Callable, Dict, Hashable, List, Optional, Set
 
 from .footprints import ALL, CHANGES, CHECKED, Footprint, Move, independent
 from .report import Report, row_of
-from .runner import CUT, FAILED, NotDeterministic, Ran, Runner, failure_of
+from .runner import CUT, FAILED, NotDeterministic, RunResult, Runner, failure_of
 
 
 class _Node:
@@ -44,26 +44,26 @@ class Tree:
         self._place = self._runs = 0
         self._watched = 0
 
-    def go(self, runs: int, until: float, failures: int) -> None:
+    def search(self, runs: int, until: float, failures: int) -> None:
         """So many runs more, until all is seen, the moment comes, or so many orders have failed."""
         report = self.report
         while runs > 0 and not report.whole and len(report.failed) < failures and time.perf_counter() < until:
             runs -= 1
             self._place = 0
             self._sleep = {}
-            ran = self.runner.go(self._chooses, self._did)
+            ran = self.runner.run_once(self._choose, self._note_move)
             if len(self.runner.watched) > self._watched and self._reduces and ran.run.checks:
                 self._begin_anew()
                 continue
             self._count(ran)
-            self._turn()
+            self._go_back()
 
     def _begin_anew(self) -> None:
         """Checks have looked at something new, so what moves touched before isn't known whole."""
         self._watched = len(self.runner.watched)
         self._stack = []
 
-    def _count(self, ran: Ran) -> None:
+    def _count(self, ran: RunResult) -> None:
         report = self.report
         if ran.how == CUT:
             report.cut += 1
@@ -73,15 +73,15 @@ class Tree:
         report.orders += 1
         self._runs += 1
         if self._runs & (self._runs - 1) == 0:  # the first, second, fourth, eighth ..
-            self.runner.same(ran)
+            self.runner.check_repeats(ran)
         if ran.how == FAILED:
-            self._failed()
+            self._note_failure()
             report.failed.append(failure_of(ran))
         elif self._ends is not None:
             end = self._ends(ran.run.world)
             report.ends[end] = report.ends.get(end, 0) + ran.run.weight
 
-    def _failed(self) -> None:
+    def _note_failure(self) -> None:
         """Where the last move has failed the order, the others are tried in its place and before it. Behind the last
         move of all there are none."""
         if self._races and self._stack and self._stack[-1].footprint is None:
@@ -90,7 +90,7 @@ class Tree:
 
     # One run.
 
-    def _chooses(self, depth: int, keys: List[Move]) -> Optional[Move]:
+    def _choose(self, depth: int, keys: List[Move]) -> Optional[Move]:
         stack = self._stack
         if self._races and depth and depth == len(stack):
             last = stack[-1]
@@ -107,7 +107,7 @@ class Tree:
             stack.append(_Node(keys, dict(self._sleep), chosen))
         return chosen
 
-    def _did(self, key: Move, footprint: Footprint) -> None:
+    def _note_move(self, key: Move, footprint: Footprint) -> None:
         node = self._stack[self._place]
         self._place += 1
         if self._place < len(self._stack):
@@ -153,7 +153,7 @@ class Tree:
             inside |= 1 << each
         return firsts
 
-    def _turn(self) -> None:
+    def _go_back(self) -> None:
         """Goes back to the last place at which another move is to be tried."""
         stack = self._stack
         while stack:

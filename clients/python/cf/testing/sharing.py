@@ -26,7 +26,7 @@ from ..store.rows import Put, Timer, Unknown
 from ..store.service import PATIENCE
 from ..store.view import RowView
 from .answers import OF_CALLS, OF_READS, Answer, Bounds
-from .carriers import CARRIERS, Gone
+from .carriers import CARRIERS, RunEnded
 from .footprints import CHANGES, READS, USER, Move, Thing
 from .processes import Job, Process, WorldStage
 from .rows import Rows, ended, outcome
@@ -87,14 +87,14 @@ class WorldStore:
         it isn't settled."""
         view = self.rows.view(request)
         self.touch(("row", request), READS)
-        number = None if view is None else self._numbered(view, stage)
+        number = None if view is None else self._stage_number(view, stage)
         return None if view is None or number is None else outcome(view, number)
 
     def is_settled(self, request: str, stage: str) -> bool:
         """Whether the first stage of this name is settled, by all words that stand."""
         view = self.rows.view(request)
         self.touch(("row", request), READS)
-        number = None if view is None else self._numbered(view, stage)
+        number = None if view is None else self._stage_number(view, stage)
         return view is not None and number is not None and view.is_settled(number)
 
     @property
@@ -111,7 +111,7 @@ class WorldStore:
             for number in range(0 if view is None else len(view.forms)):
                 if view is not None:
                     how = ended(view, number) if view.is_settled(number) else "is open"
-                    told.append(f"{name}: {view.said(number)['name']} {how}")
+                    told.append(f"{name}: {view.definition(number)['name']} {how}")
         return told
 
     def histories(self) -> List[History]:
@@ -122,8 +122,8 @@ class WorldStore:
         return [self.rows.views[name].history(Json()) for name in self.rows.names if name in self.rows.views]
 
     @staticmethod
-    def _numbered(view: RowView, stage: str) -> Optional[int]:
-        return next((k for k in range(len(view.forms)) if view.said(k)["name"] == stage), None)
+    def _stage_number(view: RowView, stage: str) -> Optional[int]:
+        return next((k for k in range(len(view.forms)) if view.definition(k)["name"] == stage), None)
 
     def is_of_dead(self, future: object) -> bool:
         """Whether a future is a stage as a process has it that was killed."""
@@ -149,7 +149,7 @@ class WorldStore:
         """Asks the store for something, which is a move of its own, and is answered as the search says."""
         flight = self.flight_of(process)
         if process.is_dead:
-            raise Gone
+            raise RunEnded
         if flight is None or flight.is_fresh and answers is OF_READS:
             if flight is not None:
                 flight.is_fresh = False
@@ -158,7 +158,7 @@ class WorldStore:
         chosen: Answer = self.run.wait_for(text, (), _always, None, answers, lambda: self._possible(answers))
         if chosen.costs:
             self.touch(FAULTS, CHANGES)
-            self.bounds = self.bounds.less(chosen.costs)
+            self.bounds = self.bounds.minus(chosen.costs)
         try:
             if chosen.is_told:
                 return act()
@@ -185,17 +185,17 @@ class WorldStore:
         living = [it for it in self.processes if not it.is_dead]
         free = [it for it in living if self._is_free(it)]
         for process in living:
-            keys += self._of(process)
-        keys += self._noticed(free)
+            keys += self._moves_of(process)
+        keys += self._notice_moves(free)
         keys += [("land", number) for number, (put, _) in enumerate(self._flying) if self._may_land(number, put)]
-        slow: List[Move] = [move for other in living if self._flights(other) for move in self._gone(other, free)]
+        slow: List[Move] = [move for other in living if self._flights(other) for move in self._takeover_moves(other, free)]
         slow = slow if self.bounds.slow > 0 else []
         kills: List[Move] = [("kill", it.key) for it in living if self.bounds.killed > 0 and self._flights(it)]
         if (slow or kills) and (self.run.settings.is_reduced or not (keys or others)):
             keys.append(("spare",))
         return keys + slow + kills
 
-    def _of(self, process: Process) -> List[Move]:
+    def _moves_of(self, process: Process) -> List[Move]:
         keys: List[Move] = [("job", process.key, job.number) for job in process.callers]
         if self._is_free(process):
             job = self._next_job(process)
@@ -205,7 +205,7 @@ class WorldStore:
                 keys.append(("look", process.key))
         return keys
 
-    def _noticed(self, free: List[Process]) -> List[Move]:
+    def _notice_moves(self, free: List[Process]) -> List[Move]:
         """Limits that have passed, and processes that are gone. The first process notices that is free: which one it is
         makes no difference to what stands."""
         keys: List[Move] = []
@@ -213,15 +213,15 @@ class WorldStore:
             by = next((it for it in free if self._is_due(it, timer)), None)
             if by is not None:
                 keys.append(("due", by.key, self.rows.names.index(timer.request), timer.stage, number))
-        return keys + [key for other in self.processes if other.is_dead for key in self._gone(other, free)]
+        return keys + [key for other in self.processes if other.is_dead for key in self._takeover_moves(other, free)]
 
-    def _gone(self, other: Process, free: List[Process]) -> List[Move]:
+    def _takeover_moves(self, other: Process, free: List[Process]) -> List[Move]:
         by = next((it for it in free if it is not other and self._has_claim(it, other)), None)
         return [] if by is None else [("gone", by.key, other.number)]
 
     def _may_land(self, number: int, put: Put) -> bool:
         view = self.rows.view(put.request)
-        return number not in self._landed and view is not None and view.opened.number == put.number and view.seen == put.at
+        return number not in self._landed and view is not None and view.opened.number == put.number and view.words_seen == put.at
 
     def _flights(self, process: Process) -> List[Flight]:
         return [flight for flight in self.run.flights.values() if flight.process is process]
@@ -248,22 +248,22 @@ class WorldStore:
             isinstance(stage, WorldStage) and not stage.is_shown() and view.is_settled(number) for number, stage in list(request._stages.items())
         )
         closes = is_open and bool(view.plan.rows) and view.is_done()
-        return shows or closes or is_open and self._relays(view) or bool(request._view.found)
+        return shows or closes or is_open and self._relays(view) or bool(request._view.found_claims)
 
     def _knows(self, process: Process, view: RowView, stage: int) -> bool:
-        said = view.calls(stage)
-        return process.functions.named(str(said.get("fn")), int(said.get("version", 0))) is not None
+        said = view.called_definition(stage)
+        return process.functions.find(str(said.get("fn")), int(said.get("version", 0))) is not None
 
     @staticmethod
     def _relays(view: RowView) -> bool:
         """Whether promises of stages that composed are to be settled."""
         for promise, place in view.links.items():
             if not view.is_settled(promise):
-                given = view.read(place, lambda it: int(json.loads(it)["stage"]))
+                given = view.read_payload(place, lambda it: int(json.loads(it)["stage"]))
                 if view.is_settled(given):
                     return True
-        for stage in view.unlinked:
-            promise = int(view.said(stage).get("to", stage))
+        for stage in view.unlinked_stages:
+            promise = int(view.definition(stage).get("to", stage))
             if promise not in view.links and not view.is_settled(promise):
                 return True
         return False
@@ -343,7 +343,7 @@ class WorldStore:
         self.touch(other.thing, READS)
         if not other.is_dead:
             self.touch(KILLS, CHANGES)
-            self.bounds = self.bounds.less(("slow",))
+            self.bounds = self.bounds.minus(("slow",))
         for _ in range(LOOKS):
             process.host.clock += process.lease / 4
             for each in self.processes:
@@ -355,7 +355,7 @@ class WorldStore:
 
     def _do_kill(self, process: Process) -> None:
         self.touch(KILLS, CHANGES)
-        self.bounds = self.bounds.less(("killed",))
+        self.bounds = self.bounds.minus(("killed",))
         process.is_dead = True
         for thing, flight in list(self.run.flights.items()):
             if flight.process is process:
@@ -389,7 +389,7 @@ class WorldStore:
         if word == "due":
             timer = self.rows.timers[self.rows.names[key[2]], key[3]][1]
             view = self.rows.view(timer.request)
-            name = f"stage {key[3]}" if view is None else view.said(key[3])["name"]
+            name = f"stage {key[3]}" if view is None else view.definition(key[3])["name"]
             return f"{process.name} finds that the limit of {name} has passed"
         if word == "gone":
             return f"{process.name} takes {self.processes[key[2]].name} for gone"

@@ -16,7 +16,7 @@ class Smaller:
         self._given = list(failure.moves)
         self._left = MOST
 
-    def go(self) -> Failure:
+    def shrink(self) -> Failure:
         """The smallest that was found."""
         while self._left and self._is_shorter() | self._has_fewer_switches():
             pass
@@ -47,7 +47,7 @@ class Smaller:
 
     def _is_better(self, row: List[Move]) -> bool:
         self._left -= 1
-        ran = self._runner.again(row)
+        ran = self._runner.follow(row)
         if ran.how != FAILED or ran.why != self.best.why:
             return False
         made = failure_of(ran)
@@ -61,7 +61,7 @@ def pairs_of(runner: Runner, failure: Failure) -> List[Pair]:
     """The pairs of moves that decide: the same row with the second before the first doesn't fail."""
     row: List[Move] = failure.moves
     footprints: List[Footprint] = []
-    runner.in_order(row, lambda key, footprint: footprints.append(footprint))
+    runner.run_in_order(row, lambda key, footprint: footprints.append(footprint))
     footprints += [{ALL: CHANGES}] * (len(row) - len(footprints))
     before: List[int] = []
     pairs: List[Pair] = []
@@ -72,7 +72,7 @@ def pairs_of(runner: Runner, failure: Failure) -> List[Pair]:
             others = [k for k in range(first + 1, second) if not before[k] >> first & 1]
             late = [k for k in range(first + 1, second) if k not in others]
             places = [*range(first), *others, second, first, *late, *range(second + 1, len(row))]
-            ran = runner.in_order([row[k] for k in places])
+            ran = runner.run_in_order([row[k] for k in places])
             did = ran.row
             is_second = row[second] in did and row[first] not in did[: did.index(row[second])]
             if ran.how == END and is_second:

@@ -5,9 +5,9 @@ from typing import TYPE_CHECKING, Any, Callable, Dict, List, NamedTuple, NoRetur
 from ..service.history import describe_all
 from ..service.request import Request
 from ..service.stage import Stage
-from ..service.watch import Callback, Task
+from ..service.watch import Callback, ReadyStage
 from .arrivals import Arrival
-from .carriers import Carrier, Gone
+from .carriers import Carrier, RunEnded
 from .footprints import CHANGES, CHECKED, USER, Behind, Footprint, Move, Place, Thing, touch
 
 if TYPE_CHECKING:
@@ -23,7 +23,7 @@ class NeedsThreads(BaseException):
     """A function waits: the run is begun again with functions on threads of their own."""
 
 
-LEAVES: Tuple[Type[BaseException], ...] = (Failed, NeedsThreads, Gone)
+LEAVES: Tuple[Type[BaseException], ...] = (Failed, NeedsThreads, RunEnded)
 
 
 class Settings(NamedTuple):
@@ -50,7 +50,7 @@ class Wait(NamedTuple):
 class Flight:
     """A function that goes on: that of a stage, a caller's call, or the test itself."""
 
-    def __init__(self, name: str, act: Callable[[], object], task: Optional[Task] = None) -> None:
+    def __init__(self, name: str, act: Callable[[], object], task: Optional[ReadyStage] = None) -> None:
         self.name, self.act, self.task = name, act, task
         self.word = "call"  # of its next move
         self.wait: Optional[Wait] = None
@@ -73,7 +73,7 @@ class Tail:
         self.clock: Optional[int] = None  # the request whose clock calls them
 
 
-class Timer(NamedTuple):
+class PendingLimit(NamedTuple):
     """What is due."""
 
     due: float
@@ -91,14 +91,14 @@ class State:
         """`watched` is what checks have looked at in all runs, and grows."""
         self.settings, self._watched = settings, watched
         self.requests: List[Request] = []
-        self.ready_tasks: Dict[Place, Task] = {}
+        self.ready_tasks: Dict[Place, ReadyStage] = {}
         self.turns: Dict[int, int] = {}  # of each request: how many functions may be claimed now
         self.flights: Dict[Thing, Flight] = {}
         self.tails: List[Tail] = []
         self.outside: List[Arrival[Any]] = []
         self.callers: List[Tuple[str, List[Callable[[], object]]]] = []
         self.called: List[int] = []  # how many calls of each caller were made
-        self.timers: List[Timer] = []
+        self.timers: List[PendingLimit] = []
         self.checks: List[Tuple[Callable[[], object], str]] = []
         self.ends: List[Tuple[Callable[[], object], str]] = []
         self.loop: "Optional[WorldLoop]" = None

@@ -48,13 +48,13 @@ class CoreArguments(CoreCase):
                 lambda: made._gather(16, [core_stage], "x"),
                 lambda: made._name_of(0),
                 lambda: made._rename(0, "x"),
-                lambda: made._code(OSError()),
-                lambda: made._keep(1),
+                lambda: made._add_error(OSError()),
+                lambda: made._add_value(1),
                 lambda: made._attach(3, core_stage, None, str, None, None, "x"),
             )
             self.assertIsNone(made._open())
             self.assertEqual((made._at, made._times), (0, b""))
-            self.refused(lambda: made._takes(0, -1, -1), made._facts, made._ready_ones, kinds=(IndexError, Refused))
+            self.refused(lambda: made._set_failure_source(0, -1, -1), made._facts, made._ready_stages, kinds=(IndexError, Refused))
 
     def test_an_opening_that_fails(self):
         opened = Request.__new__(Request)
@@ -133,7 +133,7 @@ class CoreArguments(CoreCase):
                 lambda: core._end(core_stage, bad, 1, None) if bad != 7 else 1 / 0,
                 lambda: core._end(core_stage, 3, bad, None),
                 lambda: core._stage(bad),
-                lambda: _core.be(bad) if bad != 7 else 1 / 0,
+                lambda: _core.set_caller(bad) if bad != 7 else 1 / 0,
                 lambda: core._change(COMPLETE, bad if bad not in (-1, 7) else 99, core_stage, 1),
                 lambda: core._attach(bad if bad != 7 else 19, core_stage, None, str, None, None, "x"),
                 lambda: core._begin(bad) if bad != 7 else 1 / 0,
@@ -169,11 +169,11 @@ class CoreArguments(CoreCase):
             lambda: core._attach_all(16, bytes(2 * 4097), "x"),
             lambda: core._attach_all(3, bytes(4), "x"),
             lambda: core._work(None),
-            lambda: core._takes(1, 0, -1),
-            lambda: core._takes(0, 1, -1),
-            lambda: core._takes(0, 0, 0),
-            lambda: core._takes(0, 0),
-            lambda: core._takes(0, None, -1),
+            lambda: core._set_failure_source(1, 0, -1),
+            lambda: core._set_failure_source(0, 1, -1),
+            lambda: core._set_failure_source(0, 0, 0),
+            lambda: core._set_failure_source(0, 0),
+            lambda: core._set_failure_source(0, None, -1),
             lambda: Request(),
             lambda: Request(1, 2, 3, 4, 5, 6),
             kinds=self.ODD,

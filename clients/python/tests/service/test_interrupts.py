@@ -191,7 +191,7 @@ class InterruptsOfCores(CoreCase):
 
         class Own(Request):
             @staticmethod
-            def _made(kind):
+            def _default_error(kind):
                 raise KeyboardInterrupt
 
         before_interrupt = Own(self.service._works, "r", 4).promise()

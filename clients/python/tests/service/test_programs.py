@@ -32,7 +32,7 @@ STEPS = 40  # of a program
 LEAVES = (KeyboardInterrupt, SystemExit, Wild)
 
 
-class Threads(waits.By):
+class Threads(waits.Primitives):
     """Threads that a program runs when it likes, or when somebody waits for them."""
 
     def __init__(self):
@@ -75,7 +75,7 @@ class Condition(threading.Condition):
 class Works:
     """Those of a service: turns, and a clock. What takes a turn may be interrupted before and behind that."""
 
-    describe, is_parents = staticmethod(describe_all), True
+    describe, belongs_to_parent = staticmethod(describe_all), True
 
     def __init__(self, chance, hook):
         self.chance, self.closed, self.turns, self.alarms, self.moment = chance, False, [], {}, 0
@@ -128,7 +128,7 @@ class Program:
         self.called, self.called_back, self.added, self.why = collections.Counter(), collections.Counter(), 0, []
         self.loop = Loop()
         self.loop.set_exception_handler(lambda *_: None)
-        with unittest.mock.patch.object(waits, "by", self.works_threads):
+        with unittest.mock.patch.object(waits, "primitives", self.works_threads):
             self.works, self.on_loop = Works(self.chance, self.hook), LoopService(self.loop, on_end=self.hook)
         self.requests, self.stages, self.open_ones, self.tasks, self.opened, self.names = [], [], [], [], 0, []
 
@@ -344,7 +344,7 @@ class Program:
 
     def run(self):
         """What is wrong."""
-        with unittest.mock.patch.object(waits, "by", self.works_threads):
+        with unittest.mock.patch.object(waits, "primitives", self.works_threads):
             self.opens()
             self.works.interrupts = True
             for _ in range(STEPS):

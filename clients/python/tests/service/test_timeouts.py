@@ -53,13 +53,13 @@ class Limits(Case):
 
     def test_a_worker_that_asks_between_the_steps_of_a_limit(self):
         """It finds nothing to run, and leaves what the limit has settled to the clock's thread, which shows it."""
-        kind, real = type(self.request), type(self.request)._take_told
+        kind, real = type(self.request), type(self.request)._announce_settled
 
         def take_told(request):
             request._begin(CLIENT)
             real(request)
 
-        with unittest.mock.patch.object(kind, "_take_told", take_told):
+        with unittest.mock.patch.object(kind, "_announce_settled", take_told):
             late = self.request.promise().or_timeout(0.01)
             self.assertIsInstance(late.exception(5), TimeoutError)
 
@@ -261,7 +261,7 @@ class Causes(Case):
     def test_a_timeout_that_comes_too_late_changes_no_exception(self):
         """Of a stage whose limit is over, before that was told."""
         late = self.request.promise("late").or_timeout(1000)
-        with unittest.mock.patch.object(type(self.request), "_take_told", lambda _: None):
+        with unittest.mock.patch.object(type(self.request), "_announce_settled", lambda _: None):
             self.request._ring(time.monotonic_ns() + 10**15)
         self.assertFalse(self.request._change(FAIL_AS, CLIENT, late, TimeoutError("another")))
         self.assertIn("took longer than 1000", str(late.exception(20)))
@@ -305,10 +305,10 @@ class Causes(Case):
 
     def test_a_slow_function_behind_a_limit_holds_up_no_other_limit(self):
         """Time passes as the test says."""
-        passing, opens = waits.By(), threading.Event()
+        passing, opens = waits.Primitives(), threading.Event()
         passing.now = lambda: passing.moment
         passing.moment = 0
-        with unittest.mock.patch.object(waits, "by", passing), Service(2) as service:
+        with unittest.mock.patch.object(waits, "primitives", passing), Service(2) as service:
             timed, clock = service.request(), service._works.clock
             slow = timed.promise().complete_on_timeout(1, 1000).then(lambda _: opens.wait(5))
             later = [it.promise().complete_on_timeout(2, 1001) for it in (timed, service.request())]

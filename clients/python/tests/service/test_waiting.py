@@ -13,7 +13,7 @@ import unittest
 from case import Case, CoreCase, Oops, until
 from cf.service import Service
 from cf.service._core import IS_MODULE
-from cf.service.waits import Waited
+from cf.service.waits import AwaitedFuture
 from cf.service.watch import Watch
 from cf.service.words import VALUE
 from cf.testing import orders
@@ -56,7 +56,7 @@ class Waiting(Case):
 
     def test_who_waits_by_a_condition(self):
         """As the module's stages do."""
-        waited = Waited()
+        waited = AwaitedFuture()
         waited._condition, waited._waiters, waited._shown, waited._told, waited._ended = threading.Condition(), [], False, 0, VALUE
         waited._wait(0.01)
         self.assertFalse(waited._shown)
@@ -72,7 +72,7 @@ class Waiting(Case):
             def now(self, request):
                 return 0
 
-            def read(self, stage):
+            def on_read(self, stage):
                 self.stages.append(stage)
 
         watch = Reads()

@@ -70,7 +70,7 @@ class BadRows(Case):
         rows = {"no promise": [promise, promise, composes, completes], "no stage": [promise, promise, to_0, completes, *links], "no timer": [promise]}
         for name, words in rows.items():
             view = RowView(store, store.open(name, EMPTY), new_session())
-            view.act(lambda view, words=words: [(word | view.who << 48, said) for word, said in words])
+            view.act(lambda view, words=words: [(word | view.caller_number << 48, said) for word, said in words])
         db = sqlite3.connect(f"{self.folder.name}/db", isolation_level=None)
         db.execute("insert into cf_timer values (3, 77, 0, 'by hand')")
         db.close()
@@ -94,7 +94,7 @@ class BadRows(Case):
             service = self.service(takes_all=True)
             self.until(lambda: service.broken)
             self.assertEqual(service.request("good").supply(f.slow, 0.2).result(20), os.getpid())
-        self.assertEqual(len(store.due(1.0)), 1)
+        self.assertEqual(len(store.timers_due(1.0)), 1)
         store.close()
 
 

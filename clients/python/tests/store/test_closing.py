@@ -31,7 +31,9 @@ class Closing(Case):
         for name, claims in (("last", False), ("claimed", True)):
             view = RowView(store, store.open(name, text_of(flow, f.functions)), new_session())
             words = [(CLAIM << 56 | 1 << 36, None)] if claims else []
-            view.act(lambda view: [(word | view.who << 48, None) for word in [it for it, _ in words] + [COMPLETE << 56, CANCEL << 56 | 1 << 36]])
+            view.act(
+                lambda view: [(word | view.caller_number << 48, None) for word in [it for it, _ in words] + [COMPLETE << 56, CANCEL << 56 | 1 << 36]]
+            )
             self.assertTrue(view.is_settled(one.number) and view.is_settled(two.number))
         self.until(lambda: not store.ends())
         store.close()
@@ -57,7 +59,7 @@ class Closing(Case):
         other = RowView(store, store.find("r"), new_session())
         other.catch_up()
         other.make_room(1)
-        other.act(lambda view: [(ATTACH << 56 | view.who << 48, b'{"name": "late"}')])
+        other.act(lambda view: [(ATTACH << 56 | view.caller_number << 48, b'{"name": "late"}')])
         self.until(lambda: len(reopened._view.forms) == 2)
         closers[0].join()
         self.assertIn("r", store.ends())
@@ -164,7 +166,7 @@ class Closing(Case):
                 other = RowView(store, store.find(self.name), new_session())
                 news, store.news = store.news, lambda mark: ({}, mark)  # (it doesn't look for a moment)
                 other.catch_up()
-                other.act(lambda view: [(COMPLETE << 56 | view.who << 48, None), (CANCEL << 56 | view.who << 48 | 1 << 36, None)])
+                other.act(lambda view: [(COMPLETE << 56 | view.caller_number << 48, None), (CANCEL << 56 | view.caller_number << 48 | 1 << 36, None)])
                 store.end(self.name, 2)
                 store.news = news
                 self.until(lambda waits=waits: waits.done())
@@ -186,7 +188,7 @@ class NamesUsedAgain(Case):
             with self.assertRaises(Broken) as told:
                 old.promise()
             self.assertIn("no such request", str(told.exception))
-            self.assertEqual(new.seen, 0)
+            self.assertEqual(new.words_seen, 0)
             self.assertEqual(worker.open(name).supply(f.inc, 1).result(20), 2)
             self.assertEqual(new[0].result(20), 2)
             self.assertNotIn(name, {**closing_service.broken, **worker.broken})
@@ -205,7 +207,7 @@ class NamesUsedAgain(Case):
         stage = closing_service.request("r").promise()
         closing_service._fire(timer)
         view = RowView(closing_service.store, found, closing_service.session)
-        kept = closing_service._kept(DurableRequest(closing_service, view))
+        kept = closing_service._keep_one(DurableRequest(closing_service, view))
         self.assertIs(kept, stage.request)
         self.assertFalse(stage.done())
         self.assertTrue(stage.complete(3))
@@ -276,9 +278,9 @@ class NamesUsedAgain(Case):
             with self.assertRaises(Broken):
                 call()
         self.assertIn("r", store.ends())
-        self.assertIs(asks._kept(old), new)
-        asks._guarded("r", asks._work, old)
-        self.assertIs(asks._known_again("r"), new)
+        self.assertIs(asks._keep_one(old), new)
+        asks._run_guarded("r", asks._work, old)
+        self.assertIs(asks._find_known("r"), new)
         self.assertIs(asks.open("r"), new)
 
 

@@ -76,7 +76,7 @@ class Codecs(Case):
                 with self.assertRaises(TypeError) as told:
                     call()
                 self.assertIn("JSON has nothing for it", str(told.exception))
-        self.assertEqual((coded.seen, len(coding_service.store.ends())), (1, 1))
+        self.assertEqual((coded.words_seen, len(coding_service.store.ends())), (1, 1))
         self.assertIn("JSON has nothing for it", str(coded.supply(function, 1).exception(20)))
         self.assertEqual(
             coded.supply(function, 1).exception(20).args,

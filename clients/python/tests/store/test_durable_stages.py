@@ -99,16 +99,18 @@ class DurableStages(Case):
             self.assertIsInstance(number.compose(f.both).exception(20), TypeError)
             self.assertIsInstance(durable.supply(f.fails).compose(f.loading).exception(20), PermissionError)
             late = number.compose(f.waiting)
-            self.until(lambda durable=durable: any(it["name"] == "late" for it in map(durable._view.said, range(len(durable._view.forms)))))
+            self.until(lambda durable=durable: any(it["name"] == "late" for it in map(durable._view.definition, range(len(durable._view.forms)))))
             self.assertFalse(late.done())
             durable["late"].complete(None)
             self.assertIsNone(late.result(20))
             again = number.compose(f.waiting)
-            self.until(lambda durable=durable: [it["name"] for it in map(durable._view.said, range(len(durable._view.forms)))].count("late") == 2)
-            names = [it["name"] for it in map(durable._view.said, range(len(durable._view.forms)))]
+            self.until(
+                lambda durable=durable: [it["name"] for it in map(durable._view.definition, range(len(durable._view.forms)))].count("late") == 2
+            )
+            names = [it["name"] for it in map(durable._view.definition, range(len(durable._view.forms)))]
             self.assertTrue(durable[len(names) - 1 - names[::-1].index("late")].cancel())
             self.assertIsInstance(again.exception(20) if not again.cancelled() else CancelledError(), CancelledError)
-            self.until(lambda durable=durable: not durable._view.links and not durable._view.unlinked)
+            self.until(lambda durable=durable: not durable._view.links and not durable._view.unlinked_stages)
 
     def test_a_promise_that_nothing_comes_of(self):
         """Where a stage that composes fails, its promise is cancelled: a flow's request is closed all the same."""
@@ -235,7 +237,7 @@ class DurableStages(Case):
         self.assertEqual(request[last.number].result(20), 41)
         goes.set()
         self.until(lambda: not request._view.claims())
-        said = [request._view.said(k) for k in range(len(request._view.forms))]
+        said = [request._view.definition(k) for k in range(len(request._view.forms))]
         self.assertEqual(sorted(self.calls), [20, 20])
         self.assertEqual([it["name"] for it in said if it.get("by") == behind.number], ["counted", "note", "counted", "add"])
         self.assertIsInstance(request[behind.number].exception(20), Abandoned)
@@ -361,9 +363,9 @@ class DurableStages(Case):
         promise, view, seen = durable.promise(), durable._view, []
 
         def look():
-            seen.extend((view.is_settled(k), view.told[k].kind == VALUE) for k in range(len(view.forms)))
+            seen.extend((view.is_settled(k), view.outcomes[k].kind == VALUE) for k in range(len(view.forms)))
 
-        for name in ("forms", "kinds", "told", "places"):
+        for name in ("forms", "kinds", "outcomes", "places"):
             setattr(view, name, Watched(getattr(view, name), look))
         promise.complete(1), durable.promise()
         self.assertEqual({(False, False), (True, True)}, set(seen) - {(False, True)})
@@ -488,7 +490,7 @@ class DurableStages(Case):
         durable.promise(), durable.promise()
         with self.assertRaises(RequestFull):
             durable.promise()
-        self.assertEqual(durable.seen, 2)
+        self.assertEqual(durable.words_seen, 2)
 
 
 if __name__ == "__main__":

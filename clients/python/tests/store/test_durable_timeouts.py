@@ -56,7 +56,7 @@ class DurableTimeouts(Case):
                 number = stored.promise("number")
                 composed = number.compose(f.waiting)
                 number.complete(1)
-                self.until(lambda: any(it["name"] == "late" for it in map(stored._view.said, range(len(stored._view.forms)))))
+                self.until(lambda: any(it["name"] == "late" for it in map(stored._view.definition, range(len(stored._view.forms)))))
                 self.assertTrue(stored._settle(FAIL_AS, stored["late"].number, given, failure=failure))
                 for stored_stage in (stored["late"], composed, composed.then(f.inc)):
                     self.assertEqual((type(stored_stage.exception(20)), str(stored_stage.exception())), (kind, text))
@@ -86,7 +86,10 @@ class DurableTimeouts(Case):
         late_store = Memory()
         view = RowView(late_store, late_store.open("r", EMPTY), new_session())
         given, stored_limit = Json().write_error(TimeoutError("p took longer than 1 s")), b'{"name":"p"}'
-        view.act(lambda view: [(ATTACH << 56 | view.who << 48, stored_limit)] * 2 + [(FAIL << 56 | view.who << 48 | view.place + 2, given)])
+        view.act(
+            lambda view: [(ATTACH << 56 | view.caller_number << 48, stored_limit)] * 2
+            + [(FAIL << 56 | view.caller_number << 48 | view.next_place + 2, given)]
+        )
         late_store.set_timer(Timer("r", 1, 0.0, b"E" + given))
         service = DurableService(late_store, 1, functions=f.functions)
         self.services.append(service)

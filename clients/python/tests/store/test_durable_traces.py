@@ -19,7 +19,7 @@ import shared_functions as f
 from cf.service import Flow, Service, SpanFile
 from cf.store import Abandoned, Broken, DurableService, Functions, Memory, Trace, Variables, Worker, connect
 from cf.store.host import Host
-from cf.store.plans import SharedPlan, said_in
+from cf.store.plans import SharedPlan, checked_definition
 
 OTHER = contextvars.ContextVar("other")
 
@@ -252,7 +252,7 @@ class Contexts(Case):
             within(object(), request.supply, f.tenant)
         with self.assertRaises(TypeError):
             within(object(), service.start, flow, name="s")
-        self.assertEqual((request.seen, service.store.find("s")), (0, None))
+        self.assertEqual((request.words_seen, service.store.find("s")), (0, None))
 
     def test_without_carriers_nothing_goes_along(self):
         service = DurableService(Memory(), 1, functions=f.functions)
@@ -264,7 +264,7 @@ class Contexts(Case):
 
     def test_what_stands_there_is_a_context(self):
         with self.assertRaises(ValueError):
-            said_in({"name": "a", "context": 7}, 0)
+            checked_definition({"name": "a", "context": 7}, 0)
         with self.assertRaises(Broken):
             SharedPlan('{"cf":3,"flow":"","stages":[],"context":7}', "r")
         store = Memory()

@@ -18,7 +18,7 @@ import unittest.mock
 
 from case import Case
 from cf.store import Put, Unknown, connect, etcd
-from cf.store.rows import Glance, Wanted
+from cf.store.rows import Glance, RowQuery
 
 HOST = "127.0.0.1"
 
@@ -424,9 +424,9 @@ class OneMember(EtcdCase):
         self.direct.append(Put("long", 0, words, {}))
         self.direct.append(Put("long", len(words), words, {}))
         self.direct.append(Put("short", 0, words[:2], {}))
-        rows = self.direct.read_rows([Wanted(it.name, it.number, 0) for it in opened])
+        rows = self.direct.read_rows([RowQuery(it.name, it.number, 0) for it in opened])
         self.assertEqual({name: row.entries for name, row in rows.items()}, {"short": words[:2]})
-        rows = self.direct.read_rows([Wanted("long", opened[0].number, len(words))])
+        rows = self.direct.read_rows([RowQuery("long", opened[0].number, len(words))])
         self.assertEqual({name: row.entries for name, row in rows.items()}, {"long": words})
 
 

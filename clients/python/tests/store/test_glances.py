@@ -15,7 +15,7 @@ from cf.store import Abandoned, Broken, connect, DurableService, Grouped, Memory
 from cf.store import service as shared_service
 from cf.store.glances import glance_of, read
 from cf.store.plans import text_of
-from cf.store.rows import FIRST, flow_of, Glance, Gone, Wanted
+from cf.store.rows import FIRST, flow_of, Glance, Gone, RowQuery
 from cf.store.tables import TableStore
 
 
@@ -192,7 +192,7 @@ class Lists(Case):
             names, numbers = [it.name for it in its], [it.number for it in its]
             for it in its[:2]:
                 store.append(Put(it.name, 0, [(1, 11), (2, 12), (3, 13)], {1: b"one", 3: it.name.encode()}))
-            wanted = [Wanted(names[0], numbers[0], 0), Wanted(names[1], numbers[1], 2), Wanted(names[2], numbers[2], 0)]
+            wanted = [RowQuery(names[0], numbers[0], 0), RowQuery(names[1], numbers[1], 2), RowQuery(names[2], numbers[2], 0)]
             rows = store.read_rows(wanted)
             self.assertEqual(
                 {name: row[:2] for name, row in rows.items()},

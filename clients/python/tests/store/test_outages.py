@@ -288,7 +288,7 @@ class Outages(Case):
             other.catch_up()
 
             def meanwhile():
-                Memory.append_groups(failing_store, [other.put_of([(COMPLETE << 56 | other.who << 48, None)])])
+                Memory.append_groups(failing_store, [other.plan_put([(COMPLETE << 56 | other.caller_number << 48, None)])])
                 if at_fault:
                     failing_store._rows["r"].append((99 << 56, 1))
                 return True
@@ -321,12 +321,12 @@ class Outages(Case):
             works = DurableService(failing_store, 1, functions=f.functions, lease=0.5)
             self.services.append(works)
             outlasting_stage = works.open("r")
-            outlasting_stage._view.said(0)
+            outlasting_stage._view.definition(0)
             failing_store.left = 2
             self.assertEqual(outlasting_stage[0].result(20), 1)
             behind = asks.open("r")[0].then(f.inc)
             outlasting_stage._catch_up()
-            outlasting_stage._view.said(1)
+            outlasting_stage._view.definition(1)
             failing_store.left = 1
             works._serve(outlasting_stage)
             self.assertEqual(behind.result(20), 2)

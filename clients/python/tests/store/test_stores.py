@@ -104,7 +104,7 @@ class Stores(Case):
                 self.assertTrue(watcher.is_gone(gone))
                 store.beat(there)
                 watcher.look()
-                watcher.forget()
+                watcher.forget_long_gone()
                 self.assertNotIn(gone, store.beats())
                 self.assertIn(there, store.beats())
                 store.beat(gone)
@@ -125,12 +125,12 @@ class Stores(Case):
                 timers = [Timer(self.name, k, now + k - 1, b"%d" % k) for k in range(3)]
                 for timer in timers:
                     store.set_timer(timer)
-                mine = [it for it in store.due(now) if it.request == self.name]
+                mine = [it for it in store.timers_due(now) if it.request == self.name]
                 self.assertEqual([(it.stage, it.payload) for it in mine], [(0, b"0"), (1, b"1")])
                 store.drop_timer(self.name, 0)
-                self.assertEqual([it.stage for it in store.due(now) if it.request == self.name], [1])
+                self.assertEqual([it.stage for it in store.timers_due(now) if it.request == self.name], [1])
                 store.end(self.name, 0)
-                self.assertEqual([it for it in store.due(now + 9) if it.request == self.name], [])
+                self.assertEqual([it for it in store.timers_due(now + 9) if it.request == self.name], [])
                 store.drop(self.name)
                 store.close()
 
@@ -208,9 +208,9 @@ class Stores(Case):
                 self.assertEqual(store.read(name, 1, number), [])
                 self.assertIn(name, store.ends())
                 store.set_timer(Timer(name, 3, 1.0, b"N", number))
-                self.assertEqual([it for it in store.due(2.0) if it.request == name], [Timer(name, 3, 1.0, b"N", number)])
+                self.assertEqual([it for it in store.timers_due(2.0) if it.request == name], [Timer(name, 3, 1.0, b"N", number)])
                 store.drop_timer(name, 3, number)
-                self.assertEqual([it for it in store.due(2.0) if it.request == name], [])
+                self.assertEqual([it for it in store.timers_due(2.0) if it.request == name], [])
                 store.end(name, 1, number)
                 self.assertNotIn(name, store.ends())
                 store.drop(name)
@@ -283,10 +283,10 @@ class Stores(Case):
         for store in self.stores():
             with self.subTest(type(store).__name__):
                 store.open(self.name, "plan")
-                self.assertFalse(store.wait(self.name, 0, 0.05))
+                self.assertFalse(store.wait_for_words(self.name, 0, 0.05))
                 threading.Timer(0.1, lambda store=store: store.append(Put(self.name, 0, [(1, 1)], {}))).start()
                 begun = time.monotonic()
-                self.assertTrue(store.wait(self.name, 0, 10))
+                self.assertTrue(store.wait_for_words(self.name, 0, 10))
                 self.assertLess(time.monotonic() - begun, 5)
                 store.drop(self.name)
                 store.close()

@@ -66,7 +66,7 @@ class Views(Case):
 
     def claim(self, view):
         view.catch_up()
-        done, _ = view.act(lambda view: [(CLAIM << 56 | view.who << 48, None)] if 0 in view.ready else None)
+        done, _ = view.act(lambda view: [(CLAIM << 56 | view.caller_number << 48, None)] if 0 in view.ready else None)
         return done is not None and not done[0].reply[0]
 
     def test_what_is_said_of_many_stages_is_read_in_one_call(self):
@@ -79,8 +79,8 @@ class Views(Case):
         view.catch_up()
         store.payloads = lambda *given: asked.append(given) or real(*given)
         for _ in range(2):
-            view.look_up(range(3))
-            self.assertEqual(([view.said(k)["name"] for k in range(3)], len(asked)), (names, 1))
+            view.read_definitions(range(3))
+            self.assertEqual(([view.definition(k)["name"] for k in range(3)], len(asked)), (names, 1))
 
     def test_a_lost_reply(self):
         """What was put is known by its token, and isn't put twice."""
@@ -104,7 +104,7 @@ class Views(Case):
         store = Memory()
         views = [self.view(store) for _ in range(3)]
         for view in views * 2:
-            view.act(lambda view: [(COMPLETE << 56 | view.who << 48, None)])
+            view.act(lambda view: [(COMPLETE << 56 | view.caller_number << 48, None)])
         self.assertEqual([word >> 48 & 0xFF for word, _ in store.read("r")], [0, 1, 2, 0, 1, 2])
 
     def test_80_sessions(self):
@@ -115,10 +115,10 @@ class Views(Case):
 
         def work(view):
             for stage in range(80):
-                done, _ = view.act(lambda view: None if stage not in view.ready else [(CLAIM << 56 | view.who << 48 | stage << 36, None)])
+                done, _ = view.act(lambda view: None if stage not in view.ready else [(CLAIM << 56 | view.caller_number << 48 | stage << 36, None)])
                 if done and not done[0].reply[0]:
                     granted.append(stage)
-                    view.act(lambda view: [(FINISH << 56 | view.who << 48 | stage << 36, None)])
+                    view.act(lambda view: [(FINISH << 56 | view.caller_number << 48 | stage << 36, None)])
 
         granted = []
         threads = [threading.Thread(target=work, args=[view]) for view in views]
@@ -142,25 +142,25 @@ class Views(Case):
         for session in range(64):
             other = view(session)
             other.catch_up()
-            other.act(lambda view: [(CANCEL << 56 | view.who << 48, None)])
+            other.act(lambda view: [(CANCEL << 56 | view.caller_number << 48, None)])
         one, two = view(100), view(164)
         for each in (one, two):
             each.catch_up()
-            done, _ = each.act(lambda view: [(CLAIM << 56 | view.who << 48 | 1 << 36, None)])
-            self.assertEqual((done[0].reply[0], each.who), (0 if each is one else 2, 36))
+            done, _ = each.act(lambda view: [(CLAIM << 56 | view.caller_number << 48 | 1 << 36, None)])
+            self.assertEqual((done[0].reply[0], each.caller_number), (0 if each is one else 2, 36))
         one.catch_up()
         for each in (one, two):
-            self.assertEqual((each.claims(), each.open_claims(), each.held(100), each.held(164)), ({1: 100}, {1: 100}, [1], []))
+            self.assertEqual((each.claims(), each.open_claims(), each.stages_held_by(100), each.stages_held_by(164)), ({1: 100}, {1: 100}, [1], []))
             self.assertEqual([each.holder(stage) for stage in (0, 1)], [None, 100])
-            self.assertEqual([each.abandoned(100, 0), each.abandoned(164, 1)], [None, None])
-        fails = two.abandoned(100, 1)
-        self.assertEqual(fails, FAIL << 56 | 36 << 48 | 1 << 36 | two.place)
+            self.assertEqual([each.word_to_abandon(100, 0), each.word_to_abandon(164, 1)], [None, None])
+        fails = two.word_to_abandon(100, 1)
+        self.assertEqual(fails, FAIL << 56 | 36 << 48 | 1 << 36 | two.next_place)
         done, _ = two.act(lambda view: [(fails, b"{}")])
         self.assertEqual(done[0].reply[0], 1)
         one.catch_up()
         for each in (one, two):
-            self.assertEqual((each.claims(), each.open_claims(), each.held(100), each.abandoned(100, 1)), ({1: 100}, {}, [], None))
-        one.act(lambda view: [(FINISH << 56 | view.who << 48 | 1 << 36, None)])
+            self.assertEqual((each.claims(), each.open_claims(), each.stages_held_by(100), each.word_to_abandon(100, 1)), ({1: 100}, {}, [], None))
+        one.act(lambda view: [(FINISH << 56 | view.caller_number << 48 | 1 << 36, None)])
         self.assertEqual((one.claims(), one.holder(1)), ({}, None))
 
     def test_a_stale_read(self):
@@ -172,12 +172,14 @@ class Views(Case):
 
         store = Stale()
         first, second = self.view(store), self.view(store)
-        first.act(lambda view: [(ATTACH << 56 | view.who << 48, b'{"name":"one"}'), (ATTACH << 56 | view.who << 48, b'{"name":"two"}')])
+        first.act(
+            lambda view: [(ATTACH << 56 | view.caller_number << 48, b'{"name":"one"}'), (ATTACH << 56 | view.caller_number << 48, b'{"name":"two"}')]
+        )
         self.assertTrue(self.claim(first))
         second.catch_up()
-        self.assertEqual(second.seen, 1)
+        self.assertEqual(second.words_seen, 1)
         self.assertFalse(self.claim(second))
-        self.assertEqual((second.seen, second.lost, len(Memory.read(store, "r"))), (3, 1, 3))
+        self.assertEqual((second.words_seen, second.lost, len(Memory.read(store, "r"))), (3, 1, 3))
 
     def test_a_finish_that_comes_late(self):
         """Anybody may fail the stage of a session that he thinks gone. If it isn't, its finish is late, and nobody
@@ -187,10 +189,10 @@ class Views(Case):
         self.assertTrue(self.claim(first))
         second.catch_up()
         self.assertEqual(second.open_claims(), {0: first.session})
-        done, _ = second.act(lambda view: [(FAIL << 56 | view.who << 48 | view.place, b"{}")])
+        done, _ = second.act(lambda view: [(FAIL << 56 | view.caller_number << 48 | view.next_place, b"{}")])
         self.assertEqual(done[0].reply[0], 1)
         self.assertFalse(self.claim(second))
-        done, _ = first.act(lambda view: [(FINISH << 56 | view.who << 48, None)])
+        done, _ = first.act(lambda view: [(FINISH << 56 | view.caller_number << 48, None)])
         self.assertEqual(done[0].reply[0], 1)
         self.assertEqual(first.open_claims(), {})
 
@@ -207,11 +209,11 @@ class Views(Case):
                     self.claim(view)
                 self.assertIn("'r', place 1: the store doesn't answer", str(told.exception))
                 store.append = append
-                other.act(lambda view: [(COMPLETE << 56 | view.who << 48, None)])
+                other.act(lambda view: [(COMPLETE << 56 | view.caller_number << 48, None)])
                 view.catch_up()
-                self.assertEqual(list(view.found), [0] if lands else [])
-                done, _ = view.act(lambda view: [(FINISH << 56 | view.who << 48, None)])
-                self.assertEqual((done[0].reply[0], view.who, other.who), (1, 0, 1) if lands else (2, 1, 0))
+                self.assertEqual(list(view.found_claims), [0] if lands else [])
+                done, _ = view.act(lambda view: [(FINISH << 56 | view.caller_number << 48, None)])
+                self.assertEqual((done[0].reply[0], view.caller_number, other.caller_number), (1, 0, 1) if lands else (2, 1, 0))
 
     def test_a_refusal_behind_a_lost_reply(self):
         """What is refused then may stand. Where it does, that is told; else it isn't known."""
@@ -235,7 +237,7 @@ class Views(Case):
                     self.assertIn("it takes nothing now", str(told.exception))
                 self.assertEqual(len(store.read("r")), int(lands))
                 with self.assertRaises(StoreError) as told:  # (without a lost reply it is a refusal)
-                    view.act(lambda view: [(COMPLETE << 56 | view.who << 48, None)])
+                    view.act(lambda view: [(COMPLETE << 56 | view.caller_number << 48, None)])
                 self.assertNotIsInstance(told.exception, Unknown)
 
     def silent(self):
@@ -247,7 +249,7 @@ class Views(Case):
         for of in (session, new_session(), session):
             view = self.view(store, of)
             view.catch_up()
-            view.act(lambda view: [(COMPLETE << 56 | view.who << 48, None)])
+            view.act(lambda view: [(COMPLETE << 56 | view.caller_number << 48, None)])
         self.assertEqual([word >> 48 & 0xFF for word, _ in store.read("r")], [0, 1, 0])
 
     def test_tokens_of_lost_puts(self):
@@ -259,20 +261,20 @@ class Views(Case):
             self.claim(view)
         del store.append
         store.lands = None
-        (lost,) = view._doubt
-        other.act(lambda view: [(COMPLETE << 56 | view.who << 48, None)])
+        (lost,) = view._in_doubt
+        other.act(lambda view: [(COMPLETE << 56 | view.caller_number << 48, None)])
         view.catch_up()
-        self.assertEqual(view._doubt, {})
+        self.assertEqual(view._in_doubt, {})
         store.append(Put("r", 1, [(CLAIM << 56, lost)], {}))
         view.catch_up()
-        self.assertEqual(view.found, {})
+        self.assertEqual(view.found_claims, {})
 
     def test_tokens_of_views(self):
         """Two views of one session give different tokens, by chance."""
         store, session = Memory(), new_session()
         for view in (self.view(store, session), self.view(store, session)):
             view.catch_up()
-            view.act(lambda view: [(COMPLETE << 56 | view.who << 48, None)] * 3)
+            view.act(lambda view: [(COMPLETE << 56 | view.caller_number << 48, None)] * 3)
         tokens = {token for _, token in store.read("r")}
         self.assertEqual((len(tokens), {token >> 23 for token in tokens}), (6, {session}))
 
@@ -281,12 +283,12 @@ class Views(Case):
         store, session = Memory(), new_session()
         plan = {"cf": 3, "flow": "", "stages": [{"form": "source", "name": "p"}, {"form": "source", "name": "q"}]}
         first, second = (RowView(store, store.open("r", json.dumps(plan)), session, host=OneNumber()) for _ in range(2))
-        first.act(lambda view: [(COMPLETE << 56 | view.who << 48, None)])
-        done, others = second.act(lambda view: [(COMPLETE << 56 | view.who << 48 | 1 << 36, None)])
+        first.act(lambda view: [(COMPLETE << 56 | view.caller_number << 48, None)])
+        done, others = second.act(lambda view: [(COMPLETE << 56 | view.caller_number << 48 | 1 << 36, None)])
         first.catch_up()
         self.assertEqual(([it.place for it in others], [it.place for it in done]), ([1], [2]))
         self.assertEqual((list(first.words), list(second.words)), ([word for word, _ in store.read("r")],) * 2)
-        self.assertEqual((first.kinds, first.who), (second.kinds, second.who))
+        self.assertEqual((first.kinds, first.caller_number), (second.kinds, second.caller_number))
 
     def test_words_are_tested(self):
         """One that fits no graph isn't put, nor its group: it would break the row for everybody."""
@@ -350,7 +352,7 @@ class Views(Case):
         view = RowView(store, store.open("r", EMPTY), new_session())
         view.act(lambda view: [(ATTACH << 56 | 1 << 24, b'{"name":"s","again":5}')])
         with self.assertRaises(Broken) as told:
-            view.said(0)
+            view.definition(0)
         self.assertIn("'r', place 1: its payload can't be read", str(told.exception))
 
     def test_a_store_that_is_away(self):
@@ -370,11 +372,11 @@ class Views(Case):
         for room, refused, asked in [(5, [Code.ROOM] * 2, [5, 2, 1]), (5, [Code.NO_MEMORY], [5]), (1, [Code.ROOM] * 2, [1, 0])]:
             view._room, answers = room, [*map(Refused, refused), None]
             with unittest.mock.patch.object(view, "plan") as plan, contextlib.ExitStack() as raises:
-                plan.replica.side_effect = answers
+                plan.new_replica.side_effect = answers
                 if len(asked) == len(refused):
                     raises.enter_context(self.assertRaises(Refused))
-                view._made()
-            self.assertEqual([call.args[0] for call in plan.replica.mock_calls], asked)
+                view._new_replica()
+            self.assertEqual([call.args[0] for call in plan.new_replica.mock_calls], asked)
 
     def test_an_account_by_sessions(self):
         """Above 64 sessions a number is two sessions', each of which has its own records."""
@@ -383,7 +385,7 @@ class Views(Case):
         views = [RowView(store, store.open("r", json.dumps(plan)), new_session()) for _ in range(70)]
         for stage, view in enumerate(views):
             view.catch_up()
-            view.act(lambda view, stage=stage: [(CLAIM << 56 | view.who << 48 | stage << 36, None)])
+            view.act(lambda view, stage=stage: [(CLAIM << 56 | view.caller_number << 48 | stage << 36, None)])
         views[0].catch_up()
         account = json.loads(views[0].history(Json()).account())
         shared = [own["sessions"] for own in account["callers"] if isinstance(own, dict)]
@@ -456,7 +458,7 @@ class Watchers(unittest.TestCase):
         for host.now in (2.0, 4.0, 6.0):
             watcher.look()
         host.now = 7.0
-        watcher.heard([5])
+        watcher.note_signs_of_life([5])
         self.assertEqual(self.gone_at(watcher, host, 5), 19)
 
     def test_which_words_are_signs_of_life(self):
@@ -467,7 +469,7 @@ class Watchers(unittest.TestCase):
         def puts(session, name):
             view = RowView(store, store.open(name, EMPTY), session, 60, None, host)
             view.catch_up()
-            view.act(lambda view: [(ATTACH << 56 | view.who << 48, b'{"name": "p"}')])
+            view.act(lambda view: [(ATTACH << 56 | view.caller_number << 48, b'{"name": "p"}')])
 
         puts(gone, "old")
         puts(other, "r")

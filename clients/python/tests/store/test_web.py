@@ -559,7 +559,7 @@ class Lists(WebCase):
         for name, session in [("r", gone), ("s", unheard)]:
             opened = store.open(name, text_of(self.flow(), f.functions))
             view = RowView(store, opened, session)
-            view.act(lambda view: [(4 << 56 | view.who << 48, None)])
+            view.act(lambda view: [(4 << 56 | view.caller_number << 48, None)])
         store.beat(gone), store.name_session(gone, "host 7")
         self.page_over(store)
         self.until(lambda: self.rows().get("r", {}).get("state") == "running")
@@ -576,7 +576,7 @@ class Lists(WebCase):
         self.page_over(store)
         self.until(lambda: self.rows().get("r", {}).get("state") == "ready")
         view = RowView(store, opened, new_session())
-        view.act(lambda view: [(4 << 56 | view.who << 48, None)])
+        view.act(lambda view: [(4 << 56 | view.caller_number << 48, None)])
         self.until(lambda: (self.rows()["r"]["state"], self.rows()["r"]["words"]) == ("running", 1))
 
     def test_a_row_that_is_read_before_its_last_word_is_there(self):
@@ -600,7 +600,7 @@ class Lists(WebCase):
             store = Lagging()
             opened = store.open("r", text_of(self.flow(), f.functions))
             view = RowView(store, opened, new_session())
-            view.act(lambda view: [(4 << 56 | view.who << 48, None)])
+            view.act(lambda view: [(4 << 56 | view.caller_number << 48, None)])
             page = self.page_over(store)
             self.until(
                 lambda: (self.rows()["r"]["state"], store.late) == ("running", 0)
@@ -622,7 +622,9 @@ class Lists(WebCase):
         store = Counting()
         for k in range(20):
             opened = store.open(f"r{k:02}", text_of(self.flow(), f.functions))
-            RowView(store, opened, new_session()).act(lambda view: [(7 << 56 | view.who << 48 | 0 << 24, json.dumps({"name": f"more {k}"}).encode())])
+            RowView(store, opened, new_session()).act(
+                lambda view: [(7 << 56 | view.caller_number << 48 | 0 << 24, json.dumps({"name": f"more {k}"}).encode())]
+            )
         store.open("gone", text_of(self.flow(), f.functions))
         store.append(Put("r07", 1, [(77, 7)], {}))
         store.open("r08 of another kind", "{}")

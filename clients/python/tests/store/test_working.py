@@ -125,7 +125,7 @@ class Working(Case):
             worked_on = working.request("r")
             self.assertEqual(worked_on.supply(f.inc, 1).result(20), 2)
             self.assertIsInstance(worked_on.promise().or_timeout(0.05).exception(20), TimeoutError)
-            working.store.end("r", worked_on.seen)
+            working.store.end("r", worked_on.words_seen)
             self.until(lambda: "r" not in working._requests)
         self.assertEqual(sorted(refused), ["_fire", "_let_go", "_work"])
 
@@ -135,10 +135,10 @@ class Working(Case):
         self.services.append(working)
         worked_on = working.request("r")
         first, second = worked_on.supply(f.inc, 1), worked_on.supply(f.inc, 2)
-        done = worked_on._act(lambda view: [(CLAIM << 56 | view.who << 48, None)])  # as by a put whose reply was lost
+        done = worked_on._act(lambda view: [(CLAIM << 56 | view.caller_number << 48, None)])  # as by a put whose reply was lost
         self.assertTrue(first.abandon())
         working._pool.submit(int).result(20)  # (so that the one thread has nothing to do)
-        worked_on._view.found[0] = done[0]
+        worked_on._view.found_claims[0] = done[0]
         working._workers = 1
         working._serve(worked_on)
         self.assertEqual(second.result(20), 3)

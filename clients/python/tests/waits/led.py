@@ -502,12 +502,12 @@ def look(at):
 
 
 def every_order(world, waits, **given):
-    """Goes through all orders of a world, in which threads take things from `waits.by`. How many states and ends there are."""
+    """Goes through all orders of a world, in which threads take things from `waits.primitives`. How many states and ends there are."""
     global LED
-    way, seen, ends, real = [], set(), 0, waits.by
+    way, seen, ends, real = [], set(), 0, waits.primitives
     try:
         while True:
-            LED = waits.by = Led(way, seen, **given)
+            LED = waits.primitives = Led(way, seen, **given)
             world(LED)
             ends += LED.run()
             while way and way[-1].chosen + 1 == way[-1].moves:
@@ -516,4 +516,4 @@ def every_order(world, waits, **given):
                 return len(seen), ends
             way[-1].chosen += 1
     finally:
-        LED, waits.by = None, real
+        LED, waits.primitives = None, real

@@ -295,7 +295,7 @@ class TurnsOfThreads(Case):
 
             def ends():
                 pool.close()
-                back.extend(pool.take_back())
+                back.extend(pool.take_turns_back())
                 pool.join()
 
             led.plays(lambda: said.update(a=pool.put("a")))
@@ -324,11 +324,11 @@ class Limited:
 
     def limit(self, moment):
         self._limits[moment] = True
-        self.clock.ask(self, moment)
+        self.clock.ask_for_alarm(self, moment)
 
     def settle(self, moment):
         if self._limits.pop(moment, None) and not self._limits:
-            self.clock.drop(self)
+            self.clock.drop_alarm(self)
 
     def _ring(self, now):
         for moment in sorted(self._limits):
@@ -336,7 +336,7 @@ class Limited:
                 del self._limits[moment]
                 self.rung.append(moment)
         if self._limits:
-            self.clock.ask(self, min(self._limits))
+            self.clock.ask_for_alarm(self, min(self._limits))
 
 
 class LedClock(waits.Clock):
@@ -528,7 +528,7 @@ class Hooks(Case):
         self.in_every_order(world)
 
 
-class Future(waits.Waited):
+class Future(waits.AwaitedFuture):
     """A stage as the C module has it: it is settled first, and shown then."""
 
     def __init__(self, led):
@@ -651,7 +651,7 @@ class Loop:
         self.is_shut = True
 
 
-class LedWakes(waits.LoopWakes):
+class LedWakes(waits.LoopWaker):
     """Those of a loop that writes down which turns it uses. A function is called, and may leave the loop."""
 
     _is_woken, _lock = Looked(), None
@@ -727,7 +727,7 @@ class Loops(Case):
     def test_each_limit_comes(self):
         def world(led):
             loop = Loop(led)
-            wakes = waits.LoopWakes(loop)
+            wakes = waits.LoopWaker(loop)
             request = Limited(wakes)
             led.plays(loop.run, is_main=False)
             led.plays(lambda: request.limit(3000))

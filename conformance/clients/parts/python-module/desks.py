@@ -50,9 +50,9 @@ class Noted:
             told = make()
         except cf.Refused as refused:
             name = refused.code.name.title().replace("_", "")
-            self.lines.append(Line("no", self.caller.seen(), call, name))
+            self.lines.append(Line("no", self.caller.events_seen(), call, name))
             raise
-        self.lines.append(Line(kind, self.caller.seen(), call, say(told)))
+        self.lines.append(Line(kind, self.caller.events_seen(), call, say(told)))
         return told
 
     def change(self, call):
@@ -68,7 +68,7 @@ class Noted:
 
     def ready(self):
         told = self.caller.ready()
-        self.asked.append((self.caller.seen(), told))
+        self.asked.append((self.caller.events_seen(), told))
         return told
 
     def function(self, stage):
@@ -198,9 +198,9 @@ class Run:
     def meet(self):
         """Between two rounds, two callers meet."""
         one, other = (noted.caller for noted in self.rng.sample(self.noted, 2))
-        longer = max(one.seen(), other.seen())
+        longer = max(one.events_seen(), other.events_seen())
         one.meet(other)
-        compare("what two callers have seen that met", (one.seen(), other.seen()), (longer, longer))
+        compare("what two callers have seen that met", (one.events_seen(), other.events_seen()), (longer, longer))
 
 
 def wrong_openings(plan, sizes):
@@ -256,10 +256,10 @@ def closed_of(rng, desk, other):
 
 def line_of(caller, record):
     """A record as a line."""
-    if isinstance(record, cf.Did):
+    if isinstance(record, cf.CallRecord):
         call = event_of(record.event)
         return Line("did", record.place, call, model.reply_text(reply_of(call[0], record.reply)))
-    if isinstance(record, cf.Saw):
+    if isinstance(record, cf.ReadRecord):
         return Line("saw", record.place, ("outcome", caller, record.stage), model.settled_text(outcome_of(record.outcome)))
     return Line("saw", record.place, ("now", caller, record.stage, record.absent), model.now_text(now_of(record.now)))
 
@@ -355,7 +355,7 @@ def end_of(caller):
     functions = []
     while functions[-1:] != [("refused", "NO_STAGE")]:
         functions.append(told_or_refused(lambda: caller.function(len(functions))))
-    return caller.seen(), caller.left(), functions
+    return caller.events_seen(), caller.records_left(), functions
 
 
 def judge(script, sizes, plan, noted, ends, closed):

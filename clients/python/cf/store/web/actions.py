@@ -64,7 +64,7 @@ class Actions:
         view = RowView(self._store, found, session, PATIENCE)
         view.catch_up()
         # first: whoever reads the word finds the name
-        view.sure(lambda: self._store.name_session(session, TEXTS["by_hand"].format(who), name, number))
+        view.retrying_for_a_minute(lambda: self._store.name_session(session, TEXTS["by_hand"].format(who), name, number))
         return view
 
     def _settle(self, name: str, number: int, who: str, action: str, asked: Dict[str, Any]) -> Tuple[bool, str]:
@@ -87,7 +87,7 @@ class Actions:
             if cancels:
                 view = self._view(name, number, who)
                 many = self._cancel_all(view)
-                words = view.seen
+                words = view.words_seen
         except Gone:
             raise
         except Broken:  # it can't be gone on with, and so is closed as it stands
@@ -127,7 +127,7 @@ class Actions:
 
 
 def _cancel(view: RowView, stage: int) -> Tuple[int, Optional[bytes]]:
-    return CANCEL << 56 | view.who << 48 | stage << 36, None
+    return CANCEL << 56 | view.caller_number << 48 | stage << 36, None
 
 
 Maker = Callable[[RowView, int], Tuple[int, Optional[bytes]]]
@@ -143,8 +143,8 @@ def _completing(asked: Dict[str, Any]) -> Maker:
         raise Misused(TEXTS["no_json"].format(error)) from None
 
     def make(view: RowView, stage: int) -> Tuple[int, Optional[bytes]]:
-        low = 0 if payload is None else GIVES << 32 | view.place
-        return COMPLETE << 56 | view.who << 48 | stage << 36 | low, payload
+        low = 0 if payload is None else GIVES << 32 | view.next_place
+        return COMPLETE << 56 | view.caller_number << 48 | stage << 36 | low, payload
 
     return make
 
@@ -159,7 +159,7 @@ def _failing(asked: Dict[str, Any]) -> Maker:
     if not text or len(text) > LONGEST_TEXT:
         raise Misused(TEXTS["no_reason"])
     payload = json.dumps({"error": "RuntimeError", "text": text, "args": [text]}).encode()
-    return lambda view, stage: (FAIL << 56 | view.who << 48 | stage << 36 | view.place, payload)
+    return lambda view, stage: (FAIL << 56 | view.caller_number << 48 | stage << 36 | view.next_place, payload)
 
 
 _MAKERS: Dict[str, Callable[[Dict[str, Any]], Maker]] = {"cancel": lambda asked: _cancel, "complete": _completing, "fail": _failing}

@@ -8,8 +8,8 @@ import time
 from collections import deque
 from typing import Any, Deque, Dict, List, NamedTuple, Optional, Sequence, Tuple
 
-from ..glances import Queue, Seen, glance_of, read
-from ..rows import Broken, Changes, Glance, Gone, Open, Store, StoreError, Unknown
+from ..glances import Queue, GlanceContent, glance_of, read
+from ..rows import Broken, Changes, Glance, Gone, OpenRequest, Store, StoreError, Unknown
 from ..view import RowView, Watcher
 from .reading import Readings
 
@@ -41,7 +41,7 @@ class Line:
     flow: str
     words: int = 0
     glanced: int = -1
-    seen: Optional[Seen] = None
+    seen: Optional[GlanceContent] = None
     why: str = ""
     state: str = "unread"
     changed: float = 0.0  # when its last word was noticed, by this process's monotonic clock
@@ -194,7 +194,7 @@ class Board:
                 self._say_away("")
                 if self.is_known:  # (else the others follow the first at once)
                     self._stops.wait(LEAST_BETWEEN)
-                    self.store.changed(LEAST_BETWEEN)
+                    self.store.wait_for_change(LEAST_BETWEEN)
             except (Unknown, StoreError) as error:
                 self.unknown += isinstance(error, Unknown)
                 self._say_away(str(error))
@@ -254,13 +254,13 @@ class Board:
             self.is_known, self.many = changes.many is None, changes.many or 0
         return is_other or has_new or bool(gone)
 
-    def _add(self, it: Open, now: float) -> Line:
+    def _add(self, it: OpenRequest, now: float) -> Line:
         self._forget(it.name)
         line = self._lines[it.name] = Line(it.name, it.number, it.opened, it.flow, it.words, changed=now, folded=it.name.lower())
         self._behind[it.name] = None
         return line
 
-    def _tell(self, line: Line, it: Open, now: float) -> bool:
+    def _tell(self, line: Line, it: OpenRequest, now: float) -> bool:
         """Takes over what is told of a request, and says whether that is something new."""
         seen = read(it.glance) if it.glance is not None and it.glance.words > line.glanced else None
         if seen is not None and it.glance is not None:

@@ -87,7 +87,11 @@ class Details:
             with self.readings.reading(name, number) as view:
                 number = view.opened.number
                 told.update(
-                    number=number, flow=escaped(view.plan.flow), words=view.seen, opened=view.opened.opened - self.board.ahead, **self._stages(view)
+                    number=number,
+                    flow=escaped(view.plan.flow),
+                    words=view.words_seen,
+                    opened=view.opened.opened - self.board.ahead,
+                    **self._stages(view),
                 )
                 history = self._history(view)
         except Gone:
@@ -106,15 +110,15 @@ class Details:
     def _stages(self, view: RowView) -> Dict[str, Any]:
         counts: Dict[str, int] = {}
         for number, kind in enumerate(view.kinds):
-            state = ENDS.get(view.told[number].kind, "failed") if kind == IS_SETTLED else KINDS[kind]
+            state = ENDS.get(view.outcomes[number].kind, "failed") if kind == IS_SETTLED else KINDS[kind]
             counts[state] = counts.get(state, 0) + 1
         order = [number for how in (IS_CLAIMED, IS_READY, IS_LINKED, IS_PENDING) for number, kind in enumerate(view.kinds) if kind == how]
         shown = order[:STAGES]
-        view.look_up(shown)
+        view.read_definitions(shown)
         claims = view.open_claims()
         rows = []
         for number in shown:
-            said, (form, of) = view.said(number), view.forms[number]
+            said, (form, of) = view.definition(number), view.forms[number]
             rows.append(
                 {
                     "n": number,
@@ -131,7 +135,7 @@ class Details:
 
     def _history(self, view: RowView) -> History:
         """The history of what a view has seen, which is told once."""
-        key = (view.name, view.opened.number, view.seen)
+        key = (view.name, view.opened.number, view.words_seen)
         with self._lock:
             known = self._histories.get(key)
         if known is None:
@@ -178,7 +182,7 @@ class Details:
         """What `cf_look` reads of a request, and what it is known by."""
         with self.readings.reading(name, number) as view:
             history = self._history(view)
-            return (name, view.opened.number, view.seen), history.account()
+            return (name, view.opened.number, view.words_seen), history.account()
 
     def picture(self, name: str, number: int) -> Picture:
         """The page that `cf_look page` makes of a request.
@@ -204,10 +208,10 @@ class Details:
 
 
 def _has_payload(word: int) -> bool:
-    from ..view import _names
+    from ..view import _names_payload
 
     kind = word >> 56
-    return _names(word) or kind in (7, 8) or kind == 5 and word >> 32 & 0xF == 3
+    return _names_payload(word) or kind in (7, 8) or kind == 5 and word >> 32 & 0xF == 3
 
 
 def _scripts(page: bytes) -> List[bytes]:

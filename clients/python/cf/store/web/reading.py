@@ -4,8 +4,8 @@ import threading
 from collections import OrderedDict
 from typing import Dict, Generator, List, Mapping, Optional, Tuple
 
-from ..glances import told_of
-from ..rows import Broken, Gone, Row, Store, Wanted
+from ..glances import stages_told
+from ..rows import Broken, Gone, ReadRow, Store, RowQuery
 from ..view import RowView, new_session
 
 MOST = 256  # views that are kept
@@ -47,10 +47,10 @@ class Readings:
         """Views of these requests, by names and numbers, with all that stands, read together. Where something is
         wrong, or a row is long, it is left out, and is for `reading`. One thread alone may have views of them."""
         slots = {name: self._slot(name, number, keeps)[1] for name, number in wanted.items()}
-        seen = {name: kept[0].seen if kept[0] is not None else 0 for name, kept in slots.items()}
+        seen = {name: kept[0].words_seen if kept[0] is not None else 0 for name, kept in slots.items()}
         told: Dict[str, RowView] = {}
         missing: Dict[Tuple[str, int], Dict[int, int]] = {}
-        for name, row in self._store.read_rows([Wanted(*it, seen[it[0]]) for it in wanted.items()]).items():
+        for name, row in self._store.read_rows([RowQuery(*it, seen[it[0]]) for it in wanted.items()]).items():
             try:
                 view = self._caught_up(slots[name], row)
             except BaseException as error:
@@ -58,19 +58,19 @@ class Readings:
                 if not isinstance(error, Broken):
                     raise
                 continue
-            stages = told_of(view)
-            view.say(view.unsaid(stages), row.payloads)
+            stages = stages_told(view)
+            view.take_definitions(view.undefined_stages(stages), row.payloads)
             told[name] = view
-            unsaid = view.unsaid(stages)
+            unsaid = view.undefined_stages(stages)
             if unsaid:
                 missing[name, view.opened.number] = unsaid
         if missing:
             payloads = self._store.payloads_of({key: list(its) for key, its in missing.items()})
             for (name, _), its in missing.items():
-                told[name].say(its, payloads.get(name, {}))
+                told[name].take_definitions(its, payloads.get(name, {}))
         return told
 
-    def _caught_up(self, kept: List[Optional[RowView]], row: Row) -> RowView:
+    def _caught_up(self, kept: List[Optional[RowView]], row: ReadRow) -> RowView:
         """A view that knows a row, in its slot."""
         view = kept[0]
         if view is None:
