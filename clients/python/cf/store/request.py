@@ -2,59 +2,58 @@
 
 The design of `cf.store`, which this file leads through:
 
-A request is a row of words in a store. Each process that works on it replays the words on a graph of its own, so all
-have the same. To change something is to put a word at the end of the row that one has seen. Of two that put at the same
-place, the store takes one; the other reads what stands there, and decides again. So the row is the one order of all
-that happened, and the proved library says what follows from it. docs/ENGINES.md says what that asks of a store.
+A request is a row of words in a store. Each process that works on it replays the words on its own graph, so all graphs
+are the same. A change is a word that is put at the end of the row. If two processes put at the same place, the store
+takes one put; the other process reads that word and decides again. So the row is the one order of all changes, and the
+proved library computes their consequences. docs/ENGINES.md says what that demands of a store.
 
 What is kept where
-    - A `Store` (rows.py) has rows, payloads, timers and the beats of sessions. A payload is what a word's number stands
-      for: a value, an exception, or what an attached stage is. It is put with its word, and named by the word's place.
-    - A `RowView` (view.py) is what one session knows of one row: the library's view (`Replica`), words, and what they
-      say of each stage. It reads (`catch_up`) and puts (`act`), and knows nothing of futures.
-    - `DurableRequest` has one view, and the futures that somebody has asked for. A `DurableStage` shows what is read of
-      the row. It is a plain `concurrent.futures.Future`, which is settled once.
+    - A `Store` (rows.py) has rows, payloads, timers and the beats of sessions. A payload is a value, an exception, or the
+      definition of an attached stage. It is put with its word, and named by the word's place.
+    - A `RowView` (view.py) is one session's view of one row: the library's view (`Replica`), words, and the state of each
+      stage. It reads (`catch_up`) and puts (`act`), and has no futures.
+    - `DurableRequest` has one view, and the futures that somebody has asked for. A `DurableStage` shows the words read so
+      far. It is a plain `concurrent.futures.Future`, which is settled once.
     - `DurableService` (service.py) has the requests that this process works on, a pool of threads that runs functions,
-      and the pump, a thread that looks what is new.
+      and the pump, a thread that looks for news.
 
 What guards what
-    `_lock` guards the view; who reads or puts has it while the store answers. Who puts takes `_writes` before it. A
-    transactional function of a store that lets nobody else put meanwhile (SQLite) runs with `_writes`: this process's
-    other threads then wait there, and not in the store with `_lock`, which the function's finish needs. A codec,
-    a callback, `describe` and any other function run without either. `DurableService._lock` guards its table of
-    requests, and isn't held while a store is asked.
+    `_lock` guards the view. A thread that reads or puts holds it while the store answers. A thread that puts takes
+    `_writes` first. A transactional function of a store that admits no other put meanwhile (SQLite) runs with `_writes`:
+    this process's other threads then wait for that, and not in the store with `_lock`, which the function's finish
+    needs. A codec, a callback, `describe` and any other function run without either lock. `DurableService._lock` guards
+    the table of requests, and isn't held during a call of the store.
 
 What happens at a change (`_act`)
-    1. `decide` says by what is seen which words are wanted, or none. It may be asked again, and so only looks.
-    2. The view puts them with their payloads, as one step of the store: all of them or none.
-    3. If they stand, the graph does them. If others' words stand there, it does those, and step 1 comes again. A put of
-       which no answer came is known later by its token.
-    4. Without a lock, `_show` settles the futures of the stages that are settled now: it reads their payloads, the
-       codec makes objects of them, and callbacks are called. What a callback raises keeps no other from being called.
-       A stage whose payload can't be read yet stays in `_unshown`, and is shown later.
+    1. `decide` returns the wanted words, by the words seen. It may be called again, so it changes nothing.
+    2. The view puts them with their payloads, in one step of the store: all or none.
+    3. If they stand, the graph does them. If other words stand there, the graph does those, and step 1 comes again. A put
+       without an answer is recognised later by its token.
+    4. Without a lock, `_show` settles the futures of settled stages: it reads their payloads, the codec makes objects of
+       them, and callbacks run. If a callback raises, the others still run. A stage whose payload can't be read yet stays
+       in `_unshown`, and is shown later.
 
 A function from ready to finished
     `_serve` hands a request to the pool. `DurableService._work` catches up, and claims one stage whose function is
     registered here. It calls the function without a lock. The finish and the claim of the next stage are one put. A
     transactional function puts its finish in its own transaction (`_act_within`). A session that is silent for too long
-    is taken for gone: others fail the stages that it had claimed, with `Abandoned`, and `again` has tries behind them.
+    counts as gone: other sessions fail its claimed stages with `Abandoned`, and `again` attaches further tries.
 
 Relays
-    A stage that composes has a promise beside it, which stands for what comes. Its finish links to that promise, and
-    its payload names the stage that the function gave. Whoever sees that this one is settled settles the promise alike
-    (`_relay`).
+    A stage that composes has a promise for its result. Its finish links to that promise, and the finish's payload names
+    the stage that the function returned. Any process that sees that stage settled settles the promise alike (`_relay`).
 
 Deadlines
-    `_set_timer` keeps a timer in the store. The pump of any process that works on the request fires it (`_fire`), which is
-    a change as any other, and forgets it then. A stage has one timer.
+    `_set_timer` sets a timer in the store. The pump of any process that works on the request fires it (`_fire`), as a
+    change like any other, and deletes it. A stage has one timer.
 
 Room
-    A request has at most 4,096 stages. `RowView.make_room` has the ledger make more room as it is needed. `RequestFull`
-    is raised before anything is put.
+    A request has at most 4,096 stages. `RowView.make_room` makes room as needed. `RequestFull` is raised before
+    anything is put.
 
 Errors
-    `Unknown`: the store didn't answer for a minute; what was asked may stand. `Broken`: the row can't be gone on with.
-    `Gone`, a `Broken`: the request was dropped. `StoreError`: all else that a store refuses.
+    `Unknown`: the store didn't answer for a minute; the change may stand. `Broken`: the row is damaged. `Gone`, a
+    `Broken`: the request was dropped. `StoreError`: the store refuses the call.
 
 Which methods call a user's code
     `DurableService._call_for_result`, `_call_composing` and `_try_in_transaction` (functions), `DurableStage._invoke_callbacks`, the codec in
@@ -126,8 +125,7 @@ else:
 
 
 class DurableStage(_Future[T]):
-    """A stage of a request in a store: a future that can be awaited, and that shows what this process has read of the
-    row.
+    """A stage of a request in a store: a future that can be awaited. It shows the words that this process has read.
 
     Its methods are those of `cf.service.Stage`, with these differences:
 
@@ -139,8 +137,8 @@ class DurableStage(_Future[T]):
 
         TypeError: The function isn't registered, the codec can't write the value, or a stage is another request's.
         RequestFull: There would be more than 4,096 stages. Nothing is put.
-        Unknown: The store didn't answer for a minute. What was asked may stand or not.
-        Broken: The row can't be gone on with, or the request was dropped.
+        Unknown: The store didn't answer for a minute. The change may stand or not.
+        Broken: The row is damaged, or the request was dropped.
         StoreError: The store refuses it, or a transactional function of this request runs on this thread."""
 
     def __init__(self, request: "DurableRequest", number: int) -> None:
@@ -150,7 +148,7 @@ class DurableStage(_Future[T]):
 
     @property
     def name(self) -> str:
-        """What histories call the stage: the name of its function, or of the promise."""
+        """The stage's name in histories: that of its function or of the promise."""
         return str(self.request._view.definition(self.number)["name"])
 
     def then(self, fn: Callable[[T], U]) -> "DurableStage[U]":
@@ -274,7 +272,7 @@ class DurableStage(_Future[T]):
         return self.result()
 
     def _waited_for(self, loop: asyncio.AbstractEventLoop) -> Generator[Any, None, None]:
-        """Waits on a loop until it is done. Nothing is left of that in the stage where it is given up."""
+        """Waits on a loop until it is done. A wait that is given up leaves nothing in the stage."""
         shown = loop.create_future()
 
         def wake(_: object) -> None:
@@ -291,11 +289,11 @@ class DurableStage(_Future[T]):
 
     @property
     def _ended(self) -> int:
-        """The kind of its outcome, as far as it is read."""
+        """The kind of its outcome, by the words read."""
         return self.request._view.outcomes[self.number].kind
 
     def _show(self, value: Any, error: Optional[BaseException], is_cancelled: bool) -> None:
-        """Tells those who wait, once."""
+        """Settles this future and wakes its waiters, once."""
         if self.done():
             return
         if is_cancelled:
@@ -311,7 +309,7 @@ class DurableStage(_Future[T]):
                 super().set_result(value)
 
     def _invoke_callbacks(self) -> None:
-        """Calls each, also behind one that raised what isn't an `Exception`. That is raised then."""
+        """Calls all callbacks, and raises at the end the first error that isn't an `Exception`."""
         ended: Optional[BaseException] = None
         for callback in self._done_callbacks:
             try:
@@ -325,24 +323,24 @@ class DurableStage(_Future[T]):
 
 
 class Composing:
-    """A stage whose function runs, and attaches stages.
+    """A stage whose function attaches stages while it runs.
 
     Attributes:
         stage: The stage.
-        first: The one whose function it is: the same, or that of which this is a further try.
-        taken: What was attached, and what of an earlier try was found in the place of that."""
+        first: The first try: the same stage, or the one of which it is a further try.
+        taken: The stages that it has attached, or found attached by an earlier try."""
 
     def __init__(self, stage: int, first: Optional[int]) -> None:
         self.stage, self.first = stage, stage if first is None else first
         self.taken: Set[int] = set()
 
     def check_goes_on(self, view: RowView) -> None:
-        """`Abandoned` where the stage isn't the session's any more: another try attaches stages."""
+        """Raises `Abandoned` where this session has lost the stage: another try attaches stages."""
         if view.is_settled(self.stage) or view.holder(self.stage) != view.session:
             raise Abandoned(f"{view.definition(self.first)['name']} is settled, and its function attaches nothing any more")
 
     def stages_of_earlier_tries(self, view: RowView, form: Tuple[int, Tuple[int, ...]], said: Dict[str, Any]) -> List[int]:
-        """The stages that earlier tries have attached, that are such ones, and that weren't taken yet."""
+        """The stages of this form and definition that earlier tries have attached and that weren't taken yet."""
         if self.first == self.stage:
             return []
         wanted = comparable_definition(json.loads(json.dumps(said)))
@@ -440,19 +438,17 @@ class DurableRequest:
         return self._stage(number)
 
     def history(self) -> History:
-        """All that happened until now, as the row tells it. It reads all payloads, so it takes time by the number of
-        words."""
+        """The history until now. It reads all payloads, so it takes time by the number of words."""
         self._catch_up()
         return self._history()
 
     def _history(self) -> History:
-        """All that is seen."""
+        """The history of the words seen."""
         return self._view.history(self._service.codec, self._lock)._with_descriptions(self._describe)
 
     def end(self) -> None:
-        """Closes the request: nothing is left to do in it, and workers look at it no more. Its timers are forgotten.
-        A flow's request is closed by itself once all its stages are settled. A stage that is attached opens a
-        request again."""
+        """Closes the request: workers look at it no more, and its timers are dropped. A flow's request is closed by
+        itself once all its stages are settled. Attaching a stage opens a request again."""
         self._catch_up()
         if self._view.retrying_for_a_minute(lambda: self._service.store.end(self.name, self.words_seen, self.number)):
             self._service._tell_end(self)
@@ -505,7 +501,7 @@ class DurableRequest:
         return self._attach_or_find(form, sources, said, words)
 
     def _compose(self, source: "DurableStage[Any]", call: Callable[..., Any], name: str = "") -> "DurableStage[Any]":
-        """A stage that composes, with the promise for what comes; or a further try of one, by `FurtherTry`."""
+        """Attaches a stage that composes, or a further try of one (`FurtherTry`), and the promise for its result."""
         if source.request._view is not self._view:
             raise TypeError("no stage of this request")
         form = Form.EXCEPTIONALLY_COMPOSE if isinstance(call, FurtherTry) else Form.COMPOSE
@@ -524,19 +520,19 @@ class DurableRequest:
         return self._attach_or_find(form, (source.number,), said, words)
 
     def _definition_of(self, call: Optional[Callable[..., Any]], args: Tuple[Any, ...], kwargs: Dict[str, Any]) -> Dict[str, Any]:
-        """What is said of a stage that is attached: its function, and which function of a stage attaches it."""
+        """The definition of an attached stage: its function, and the stage whose function attaches it."""
         said = definition_of(self._service.functions, call, args, kwargs)
         said.update(capture_all(self._service.contexts) if call is not None else {})
         composing = self._composing_here()
         return said if composing is None else {**said, "by": composing.first}
 
     def _composing_here(self) -> "Optional[Composing]":
-        """The stage whose function runs on this thread and attaches stages to this request, or None."""
+        """The composing stage whose function runs on this thread, or None."""
         return self._composed_by.get(threading.get_ident())
 
     @contextlib.contextmanager
     def _composing(self, composing: "Composing") -> Generator[None, None, None]:
-        """While a function runs that attaches stages."""
+        """Marks this thread as running the function of a composing stage."""
         self._composed_by[threading.get_ident()] = composing
         try:
             yield
@@ -569,8 +565,8 @@ class DurableRequest:
         return self._stage(number)
 
     def _relay(self) -> None:
-        """Settles the promises of stages that composed as the stages are that their functions gave, where those are
-        settled, and cancels those of stages that were settled in another way."""
+        """Settles the promises of composing stages as the stages that their functions returned, once those are settled.
+        Cancels the promises of composing stages that were settled otherwise."""
         view = self._view
 
         def given_in(said: bytes) -> int:
@@ -593,7 +589,7 @@ class DurableRequest:
                 self._settle(kind, promise, payload, failure=view.outcomes[given].kind)
 
     def _settling_as(self, stage: int) -> Tuple[int, Optional[bytes]]:
-        """The call that settles a promise as a stage is, and its payload."""
+        """The kind of word that settles a promise as this stage is settled, and its payload."""
         told = self._view.outcomes[stage]
         if told.kind == VALUE:
             return COMPLETE, self._view.payload(told.number) if told.some else None
@@ -606,7 +602,7 @@ class DurableRequest:
         return FAIL, self._service._error(CancelledError())
 
     def _attach_tree(self, form: Form, of: "Sequence[DurableStage[Any]]", name: str) -> "DurableStage[Any]":
-        """An attached stage has at most two sources; a tree of them tells what one stage of all would."""
+        """Attaches a tree of stages with at most two sources each, which ends as one stage of all sources would."""
         if len(self._view.forms) + max(len(of) - 1, 1) > MOST_STAGES:
             raise RequestFull("a request has at most 4,096 stages")
         row = list(of)
@@ -615,8 +611,8 @@ class DurableRequest:
         return self._attach(form, row, None, name=name)
 
     def _settle(self, kind: int, stage: int, payload: Optional[bytes], waits: bool = False, failure: int = TIMED_OUT) -> bool:
-        """Completes, fails or cancels a stage, and says whether that did it. `waits`: not while its function runs.
-        `failure`: what it ends in by FAIL_AS, whose word doesn't name the payload."""
+        """Completes, fails or cancels a stage, and returns whether this call settled it. With `waits` not while its
+        function runs. `failure` is the kind of failure of FAIL_AS, whose word doesn't name the payload."""
 
         def decide(view: RowView) -> Any:
             if view.is_settled(stage) or waits and view.holder(stage) is not None:
@@ -639,7 +635,7 @@ class DurableRequest:
         return bool(done[0].reply[ANSWER])
 
     def _complete_all(self, given: "List[Tuple[int, Optional[bytes]]]") -> None:
-        """Completes a flow's promises, but those that are settled; up to 32 in one put."""
+        """Completes a flow's open promises, up to 32 in one put."""
         if given[32:]:
             self._complete_all(given[32:])
 
@@ -666,8 +662,8 @@ class DurableRequest:
 
     @contextlib.contextmanager
     def _transacting(self) -> Generator[None, None, None]:
-        """While a transactional function runs. Where the store lets nobody else put meanwhile, this process's
-        threads don't wait for it with the lock of the request, which the finish takes."""
+        """Marks this thread as running a transactional function. If the store admits no other put meanwhile, keeps this
+        process's other threads from waiting with the request's lock, which the finish takes."""
         writes: ContextManager[Any] = contextlib.nullcontext()
         if self._service.store.locks_out:
             writes = self._writes
@@ -679,8 +675,8 @@ class DurableRequest:
                 self._transacts.discard(threading.get_ident())
 
     def _glance(self, session: int, now: float) -> Optional[Glance]:
-        """What lists are to tell of it, where it has rested since the last beat, the last word is this session's, and
-        nobody has the lock: else others tell it, or it is told later."""
+        """A new glance for lists, if the request has rested since the last beat, its last word is this session's, and the
+        lock is free. Else another session or a later beat makes it."""
         if not self._lock.acquire(blocking=False):
             return None
         try:
@@ -694,8 +690,8 @@ class DurableRequest:
             self._lock.release()
 
     def _act_within(self, transaction: Transaction, finish: "FunctionResult") -> bool:
-        """Puts a finish within a transaction, and says whether that stands. `Unknown` where it may. What it settled
-        isn't shown yet."""
+        """Puts a finish within a transaction, and returns whether it stands. `Unknown` where it may. Shows nothing
+        yet."""
         with self._lock:
             wanted = None if self._view.is_settled(finish.stage) else finish.word_to_put(self._view)
             if wanted is None:
@@ -715,16 +711,16 @@ class DurableRequest:
             return True
 
     def _read(self) -> None:
-        """Replays what others have put, which isn't shown yet."""
+        """Replays the words of others, without showing them yet."""
         with self._lock:
             self._view.catch_up()
 
     def _is_held(self, stage: int) -> bool:
-        """Whether this session has a claim of a stage that isn't finished, by what is seen."""
+        """Whether this session holds the open claim of a stage, by the words seen."""
         return self._view.holder(stage) == self._service.session
 
     def _is_over(self) -> bool:
-        """Whether it is a flow's, and nothing is left to do."""
+        """Whether it is a flow's request with nothing left to do."""
         return bool(self._view.plan.rows) and self._view.is_done(self._service._is_gone)
 
     def _end_if_done(self) -> None:
@@ -756,15 +752,15 @@ class DurableRequest:
         self._show_these([*self._unshown, *(number for done in news for number in done.settled)])
 
     def _show_settled(self) -> None:
-        """Shows all that is settled, where it isn't known what was read: a call has failed."""
+        """Shows all settled stages, after a call that failed part-way."""
         self._show_these(list(self._stages))
 
     def _show_these(self, numbers: Iterable[int]) -> None:
-        """Shows those of these stages that are settled."""
+        """Shows the settled ones of these stages."""
         self._show_each(numbers, self._show_one)
 
     def _show_each(self, numbers: Iterable[int], show: "Callable[[DurableStage[Any]], None]") -> None:
-        """Shows each of these stages, whatever the callbacks of another raise."""
+        """Shows each of these stages, also after a callback of another one has raised."""
         raised: Optional[BaseException] = None
         for number in numbers:
             stage = self._stages.get(number)
@@ -794,7 +790,7 @@ class DurableRequest:
         stage._show(value, error, is_cancelled)
 
     def _outcome(self, told: OutcomeNumbers, of: Sequence[int]) -> Tuple[Any, Optional[BaseException]]:
-        """The value or the exception of an outcome that one of these stages has."""
+        """The value and the exception of an outcome of one of these stages."""
         if told.kind == VALUE:
             return self._value(told.some, told.number), None
         if told.kind == THROWN:

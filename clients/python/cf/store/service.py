@@ -60,7 +60,7 @@ ONLY_FAULT = (int(Form.EXCEPTIONALLY), int(Form.EXCEPTIONALLY_COMPOSE))
 
 
 class Running(NamedTuple):
-    """A function that runs: of which stage of which request, and for how many seconds."""
+    """A running function, with its request, its stage and the seconds that it has run."""
 
     request: str
     stage: int
@@ -72,18 +72,18 @@ class Running(NamedTuple):
 
 
 class ClaimedStage(NamedTuple):
-    """A stage that this session has, with its function and what that is called with."""
+    """A stage that this session has claimed, with its function and arguments."""
 
     stage: int
     known: RegisteredFunction
     args: Tuple[Any, ...]
     kwargs: Dict[str, Any]
-    error: Optional[BaseException]  # what a further try passes on instead
-    carried: Dict[str, Any]  # of the context of the place where it was attached
+    error: Optional[BaseException]  # a further try passes this on instead
+    carried: Dict[str, Any]  # its part of the context
 
 
 class FunctionResult(NamedTuple):
-    """What a stage's function came to: `raised` is what it has raised itself, for the log."""
+    """The result of a stage's function; `raised` is its own exception, for the log."""
 
     stage: int
     kind: int
@@ -91,18 +91,19 @@ class FunctionResult(NamedTuple):
     raised: Optional[BaseException] = None
 
     def answer(self, view: RowView) -> FinishAnswer:
-        """It at the end of what is seen: what it gives or throws is named by its own place."""
+        """The answer for a finish at the end of the row, whose payload is named by the next place."""
         if self.kind == LINKS:
             return FinishAnswer(self.stage, LINKS, int(view.definition(self.stage)["to"]))
         return FinishAnswer(self.stage, NO_VALUE if self.payload is None else self.kind, view.next_place)
 
     def word_to_put(self, view: RowView) -> Optional[Tuple[int, Optional[bytes]]]:
-        """Its word at the end of what is seen, or None where the session has no open claim of the stage."""
+        """The finish with its payload, for the end of the row, or None where the session has no open claim of the
+        stage."""
         word = view.word_to_finish(self.answer(view))
         return None if word is None else (word, self.payload)
 
 
-LOST = FunctionResult(-1, GIVES, None)  # that of a transaction whose place was taken
+LOST = FunctionResult(-1, GIVES, None)  # of a transaction whose place was taken
 
 
 class DurableService(concurrent.futures.Executor):
@@ -125,13 +126,13 @@ class DurableService(concurrent.futures.Executor):
             this process runs none.
         functions: Registered functions, beside those that `function` registers here.
         codec: Makes bytes of values and exceptions. By default `Json()`.
-        lease: After how many seconds without a sign of life another process takes this one for gone, and abandons the
+        lease: After how many seconds without a sign of life other processes count this one as gone, and abandon the
             stages whose functions it runs.
         takes_all: Whether it works on all requests that are open in the store, as a `Worker` does.
-        groups: Whether puts that come at the same time become one commit.
-        note: Told of each answer of the store; for tests.
-        describe: What histories tell of values and exceptions, as of `cf.service.Service`.
-        host: Has the clock, the threads and what comes by chance; for tests.
+        groups: Whether simultaneous puts become one commit.
+        note: Called with each answer of the store; for tests.
+        describe: Makes the texts of values and exceptions in histories, as of `cf.service.Service`.
+        host: Has the clock, the threads and random numbers; for tests.
         on_end: Called with the `History` of each request that this process has closed, on a thread of its own, and in
             the context of the place where the request was opened, as far as `contexts` carry that. What it raises is
             logged as a warning. `SpanFile` and `Spans` of `cf.service` are such hooks.
@@ -215,18 +216,18 @@ class DurableService(concurrent.futures.Executor):
 
         Args:
             name: The request's name, by which other processes find it. By default one by chance.
-            describe: What its histories tell of values and exceptions here, in place of what the service chose.
+            describe: Makes the texts of values and exceptions in its histories here, in place of the service's.
 
         Raises:
             RuntimeError: The service is shut down, or this process is a child of `fork`.
             Unknown: The store didn't answer for a minute.
-            Broken: The row can't be gone on with."""
+            Broken: The row is damaged."""
         request = self._open_request(name or self._new_name("request"), text_of(None, self.functions, self.contexts), False)
         request._describe = describe or request._describe
         return request
 
     def start(self, flow: Flow, *given: Any, name: str = "", describe: Optional[Describe] = None) -> DurableRequest:
-        """Begins a request of a flow's stages. If one of this name stands in the store, goes on with that.
+        """Begins a request of a flow's stages, or goes on with the one of this name in the store.
 
         Args:
             flow: The plan, whose functions are registered ones.
@@ -252,7 +253,7 @@ class DurableService(concurrent.futures.Executor):
         return request
 
     def open(self, name: str) -> DurableRequest:
-        """A request that stands in the store, whichever process began it.
+        """Opens a request of the store, whichever process began it.
 
             service.open("order 17")["approval"].complete("yes")
 
@@ -277,8 +278,8 @@ class DurableService(concurrent.futures.Executor):
         return self.start(flow)[step]
 
     def resume(self) -> List[DurableRequest]:
-        """Goes on with all requests that are open in the store, as after a crash. Those that are broken are left out
-        and logged; `broken` names them.
+        """Goes on with all open requests of the store, as after a crash. Leaves out and logs damaged ones, which `broken`
+        lists.
 
         Returns:
             The requests."""
@@ -289,21 +290,19 @@ class DurableService(concurrent.futures.Executor):
         return [request for request in resumed if request is not None]
 
     def running(self) -> List[Running]:
-        """The functions that run in this process now, the one that has run for longest first."""
+        """The functions that run in this process now, the longest-running first."""
         now = self._host.monotonic()
         return sorted(
             (Running(name, stage, function, now - since) for (name, stage), (function, since) in list(self._runs.items())), key=lambda it: -it.seconds
         )
 
     def shutdown(self, wait: bool = True, *, cancel_futures: bool = False) -> None:
-        """Begins no more functions. Those that run are finished. What is open stays in the store, and others go on with
-        it.
+        """Begins no more functions, and finishes the running ones. Open requests stay in the store, and other processes go
+        on with them.
 
         Args:
-            wait: Whether to wait for the functions that run, and until `on_end` was told, for at most 30 seconds; and
-                then to close the store.
-            cancel_futures: Whether to cancel stages of flows, as of `submit`, that were asked for here and that
-                nobody has claimed."""
+            wait: Whether to wait for running functions, and at most 30 seconds for `on_end`, and then close the store.
+            cancel_futures: Whether to cancel unclaimed stages of flows, as of `submit`, that were asked for here."""
         for request in list(self._requests.values()) if cancel_futures else ():
             try:
                 request._cancel_all()
@@ -347,7 +346,7 @@ class DurableService(concurrent.futures.Executor):
         return DurableRequest(self, RowView(self.store, found, self.session, PATIENCE, self._note, self._host, is_timed=self._ends is not None))
 
     def _keep_one(self, request: DurableRequest) -> DurableRequest:
-        """The one object of a request that this service has: this one, or the one that was there before."""
+        """Keeps one object for each request: an earlier one, or else this."""
         with self._lock:
             known = self._requests.get(request.name) or self._left.get(request.name)
             is_newer = known is None or known.number < request.number
@@ -372,7 +371,7 @@ class DurableService(concurrent.futures.Executor):
         self._left.pop(request.name, None)
 
     def _find_known(self, name: str) -> Optional[DurableRequest]:
-        """A request that is known here: also one that was closed, and that others have opened again."""
+        """A request that is known here, also a closed one that others have opened again."""
         known = self._requests.get(name)
         if known is None:
             known = self._left.get(name)
@@ -381,7 +380,7 @@ class DurableService(concurrent.futures.Executor):
         return known
 
     def _find_or_open(self, name: str) -> Optional[DurableRequest]:
-        """A request of the store, or None where it is broken or gone."""
+        """A request of the store, or None where it is damaged or gone."""
         known = self._find_known(name)
         if known is not None or name in self.broken:
             return known
@@ -394,7 +393,7 @@ class DurableService(concurrent.futures.Executor):
             return None
 
     def _break(self, name: str, error: BaseException, request: Optional[DurableRequest] = None) -> None:
-        """Leaves a request alone. Others go on."""
+        """Gives up a damaged request, and fails its stages here."""
         self._host.report_broken(error)
         if not isinstance(error, Gone):  # (another of its name may be begun)
             self.broken[name] = error
@@ -459,7 +458,7 @@ class DurableService(concurrent.futures.Executor):
         self._mark = mark
 
     def _beat(self) -> bool:
-        """Says that this session is there, and looks who else is, if it is time to; whether it was."""
+        """Beats, and looks at the beats of others, if it is time. Returns whether it was."""
         now = self._host.monotonic()
         if now < self._next_beat:
             return False
@@ -474,8 +473,8 @@ class DurableService(concurrent.futures.Executor):
         return True
 
     def _keep_glances(self) -> None:
-        """Keeps what lists tell of requests that have rested since the last beat, for a part of the time until the next
-        one. The rest comes then, and a list does without what fails."""
+        """Stores glances at requests that have rested since the last beat, for a part of the time until the next one.
+        The rest comes then, and a list does without glances that fail."""
         until = self._host.monotonic() + self._lease / 50
         made: List[Tuple[DurableRequest, Glance]] = []
         for request in list(self._requests.values()):
@@ -504,7 +503,7 @@ class DurableService(concurrent.futures.Executor):
             LOGGER.warning("%d of %d threads run a function for longer than %s s: %s", len(long), self._workers, LONG, said)
 
     def _has_work(self, request: DurableRequest) -> bool:
-        """Whether something is to do in a request without a new word."""
+        """Whether a request has work without a new word."""
         view = request._view
         gone = [self._is_gone(session) for session in view.open_claims().values()]
         is_due = view.ready or view.links or view.unlinked_stages or view.found_claims or request._unshown
@@ -514,8 +513,7 @@ class DurableService(concurrent.futures.Executor):
         return session != self.session and self._watcher.is_gone(session)
 
     def _let_go(self, request: DurableRequest, kept: int) -> None:
-        """Forgets a request that is closed, once all is told, unless it was asked for again since the store was
-        asked."""
+        """Forgets a closed request once its last words are shown, unless somebody asked for it meanwhile."""
         try:
             request._catch_up()
             with self._lock:
@@ -542,7 +540,7 @@ class DurableService(concurrent.futures.Executor):
             self._firing.discard(timer[:3])
 
     def _serve(self, request: DurableRequest) -> None:
-        """Lets a thread look what is to do in a request."""
+        """Has a thread of the pool work on a request."""
         if request.is_queued or self._stops.is_set():
             return
         request.is_queued = True
@@ -561,13 +559,12 @@ class DurableService(concurrent.futures.Executor):
             return False
 
     def _note_signs_of_life(self, news: Sequence[DoneWord]) -> None:
-        """Words that came behind others that were seen here are signs of life of who put them."""
+        """Takes new words behind seen ones as signs of life of their sessions."""
         if news and news[0].place > 1:
             self._watcher.note_signs_of_life({done.token >> COUNT_BITS for done in news} - {self.session})
 
     def _report_raised(self, error: BaseException) -> None:
-        """Tells what a callback raised: who called, or the log where that is a thread of the pool, which has more to
-        do."""
+        """Raises the error of a callback, or logs it in a thread of the pool, which has more to do."""
         if not getattr(self._works, "is_here", False):
             raise error
         self._host.report_raised("a callback has raised", error)
@@ -602,7 +599,7 @@ class DurableService(concurrent.futures.Executor):
         request._end_if_done()
 
     def _abandon(self, request: DurableRequest) -> None:
-        """Fails the stages whose session is gone. If it isn't, the row says who was first."""
+        """Fails the stages whose session is gone. If it is there after all, the first word in the row counts."""
         for stage, session in request._view.open_claims().items():
             if self._is_gone(session):
                 said = f"the worker that ran {request._view.definition(stage)['name']} is gone, and it may have run"
@@ -660,7 +657,7 @@ class DurableService(concurrent.futures.Executor):
         return None
 
     def _takes_beats(self) -> bool:
-        """Whether the store can write now."""
+        """Whether the store takes a write now."""
         try:
             self.store.beat(self.session)
             return True
@@ -668,8 +665,7 @@ class DurableService(concurrent.futures.Executor):
             return False
 
     def _next_found_claim(self, request: DurableRequest) -> Optional[ClaimedStage]:
-        """A claim of this session's that was granted without its being told, or one that was put with the end of
-        such."""
+        """Takes up a claim of this session that landed without an answer, or one that was put with its late finish."""
         found = request._view.found_claims
         while found and not self._stops.is_set():
             try:
@@ -684,14 +680,14 @@ class DurableService(concurrent.futures.Executor):
         return None
 
     def _choose_stages(self, request: DurableRequest, view: RowView, finish: Optional[FunctionResult]) -> List[int]:
-        """Up to two stages that this session could claim: those that are ready, or that the finish makes ready."""
+        """Up to two stages that this session could claim: ready ones, or ones that the finish makes ready."""
         if self._stops.is_set() or not self._workers:
             return []
         claims = view.next_claims(None if finish is None else finish.answer(view))
         return list(itertools.islice((stage for stage in claims if self._function_of(request, stage) is not None), 2))
 
     def _function_of(self, request: DurableRequest, stage: int) -> Optional[RegisteredFunction]:
-        """The function of a stage, or None where it isn't registered here: others may have it."""
+        """The function of a stage, or None where it isn't registered here."""
         said = request._view.called_definition(stage)
         known = self.functions.find(str(said.get("fn")), int(said.get("version", 0)))
         composes = request._view.forms[stage][0] in COMPOSE_FORMS
@@ -727,7 +723,7 @@ class DurableService(concurrent.futures.Executor):
         return ClaimedStage(stage, known, tuple(said.get("args", ())) or args, said.get("kwargs", {}), None, view.carried_context(stage))
 
     def _args(self, request: DurableRequest, stage: int, reply: Sequence[int]) -> Tuple[Any, ...]:
-        """What a claim says that the function is called with."""
+        """The arguments of the function, by the reply to its claim."""
         kind = reply[ARGS]
         if kind == GOT:
             value, error = request._outcome(OutcomeNumbers(*reply[OUTCOME]), request._view.forms[stage][1])
@@ -737,8 +733,8 @@ class DurableService(concurrent.futures.Executor):
         return (first, second)[:kind]
 
     def _args_again(self, request: DurableRequest, stage: int) -> Tuple[Any, ...]:
-        """What a stage's function was called with before. One that was settled by hand, and whose function wasn't to be
-        called, has what its sources hold by now."""
+        """The arguments of a stage's earlier call. A stage that was settled by hand without a call gets the present values
+        of its sources."""
         granted = request._view.granted_replies.get(stage)
         if granted is not None:
             return self._args(request, stage, granted)
@@ -753,7 +749,7 @@ class DurableService(concurrent.futures.Executor):
         return tuple(request._value(it.some, it.number) if it.kind == VALUE else None for it in told)
 
     def _run(self, request: DurableRequest, claimed: ClaimedStage) -> Optional[ClaimedStage]:
-        """Calls a function and puts its finish; what was claimed with it."""
+        """Calls a function and puts its finish. Returns the stage that was claimed with it."""
         self._runs[request.name, claimed.stage] = (claimed.known.name, self._host.monotonic())
         try:
             return self._run_claimed(request, claimed)
@@ -768,8 +764,7 @@ class DurableService(concurrent.futures.Executor):
         return self._finish_and_claim(request, self._call_for_result(claimed))
 
     def _call_composing(self, request: DurableRequest, claimed: ClaimedStage) -> FunctionResult:
-        """What a function came to that attaches stages. What an earlier try of it has attached isn't attached once
-        more."""
+        """Calls a function that attaches stages. It finds stages that an earlier try has attached."""
         again = request._view.first_try_of(claimed.stage)
         try:
             with request._composing(Composing(claimed.stage, again)):
@@ -794,14 +789,14 @@ class DurableService(concurrent.futures.Executor):
             return FunctionResult(claimed.stage, THROWS, self._error(error), None if error is claimed.error else error)
 
     def _call(self, claimed: ClaimedStage, *first: Any) -> Any:
-        """Calls a function, in a context of its own where contexts go along."""
+        """Calls a function, with its own context where contexts go along."""
         call: Callable[..., Any] = self._host.call
         if self.contexts:
             call = functools.partial(restored_context(self.contexts, claimed.carried).run, call)
         return call(claimed.known, *first, *claimed.args, **claimed.kwargs)
 
     def _tell_end(self, request: DurableRequest) -> None:
-        """Has the hook told of a request that this process has closed. It raises nothing."""
+        """Hands a request that this process has closed to the hook. It raises nothing."""
         try:
             if self._ends is not None:
                 self._ends.tell(request._history, restored_context(self.contexts, request._view.plan.carried_context))
@@ -809,16 +804,15 @@ class DurableService(concurrent.futures.Executor):
             LOGGER.warning("the end of request %r isn't told", request.name, exc_info=True)
 
     def _error(self, error: BaseException) -> bytes:
-        """The bytes of an exception, or of one that says that the codec has none for it."""
+        """The bytes of an exception, or of a `RemoteError` where the codec can't write it."""
         try:
             return self.codec.write_error(error)
         except BaseException as fault:
             return Json().write_error(RemoteError(type(error).__name__, f"(it can't be written: {type(fault).__name__})"))
 
     def _in_transaction(self, request: DurableRequest, claimed: ClaimedStage) -> Optional[ClaimedStage]:
-        """The function's effect and the word of its finish stand or fall together. Where the finish's place was
-        taken meanwhile, or the connection is lost, all of it is done again, unless it stands. What comes next is put
-        once the transaction has ended."""
+        """Commits the function's effect and its finish together. If the finish's place was taken meanwhile or the
+        connection is lost, does all of it again, unless it stands. The next claim follows the transaction."""
         while True:
             is_open = False
             try:
@@ -846,9 +840,9 @@ class DurableService(concurrent.futures.Executor):
                 return self._finish_and_claim(request, finish)
 
     def _try_in_transaction(self, request: DurableRequest, claimed: ClaimedStage, transaction: Transaction) -> Optional[FunctionResult]:
-        """Calls a function in a transaction and puts its finish there; what has to be put behind that, `LOST` where
-        it has to be done again. What others have put is read first: where the stage isn't this session's any more,
-        no effect is for nothing."""
+        """Calls a function in a transaction and puts its finish there. Returns a finish to put afterwards, or `LOST` where
+        it has to be done again. Reads the words of others first, and calls nothing if this session has lost the
+        stage."""
         request._read()
         if not request._is_held(claimed.stage):
             return None  # it stands

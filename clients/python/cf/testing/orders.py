@@ -47,23 +47,23 @@ def orders(
             print(failure)
 
     Args:
-        test: Called with a `World`, once for each order, and each time to do the same. What it returns, a future or a
-            list of futures, has to be settled in the end.
-        most: How many orders are tried at most, those that are cut short among them.
-        seconds: How long that may take. The order that is tried then ends first.
-        row: An order that was told, which is tried alone.
-        chance: How many orders are drawn, in place of all in turn.
-        seed: What these depend on.
-        failures: How many orders may fail before the search ends.
-        workers: How many functions may go on at the same time. With 0 any number.
-        fine: Whether a function lets others go on at each change that it makes to a stage.
-        reduce: Whether orders that can come to nothing else are left out.
-        smaller: Whether orders that fail are made smaller, and the moves are named that decide.
+        test: Called with a `World`, once for each order. It has to do the same each time. The future or the list of
+            futures that it returns has to be settled in the end.
+        most: The greatest number of orders, including those cut short.
+        seconds: How long the search may take. The last order is tried to its end.
+        row: The row of one order, which is tried alone.
+        chance: How many orders are drawn at random, in place of all in turn.
+        seed: The seed of these draws.
+        failures: After how many failing orders the search ends.
+        workers: How many functions may run at the same time. With 0 any number.
+        fine: Whether others may go on at each change that a function makes to a stage.
+        reduce: Whether to leave out orders that can't end differently.
+        smaller: Whether to make failing orders smaller, and to name the deciding moves.
         free_clock: Whether limits need not pass, as in `cf_look explore`.
-        ends: What an end is, for `Report.ends`.
+        ends: Describes an end, for `Report.ends`.
 
     Returns:
-        What was found. A fault in the test itself is an order that fails.
+        The report. A fault in the test itself is a failing order.
 
     Raises:
         NotDeterministic: The test did other things with the same choices."""
@@ -112,8 +112,8 @@ def _search(
 
 
 def _search_all(runner: Runner, report: Report, most: int, until: float, failures: int, tree: Tree, seed: int) -> None:
-    """Some orders in turn, and if these aren't all, some by chance: what needs the last of many to come first is
-    met late by the search in turn, and soon by chance."""
+    """Tries some orders in turn, and if these aren't all, some by chance: a failure that needs the last of many moves to
+    come first is found late in turn, and soon by chance."""
     at_first = min(AT_FIRST, most)
     tree.search(at_first, until, failures)
     if report.whole or len(report.failed) >= failures or most <= at_first:
@@ -132,9 +132,9 @@ def every_order(test: Optional[Callable[..., Any]] = None, **options: Any) -> An
             ..
 
     Args:
-        test: A function whose last parameter is a `World`. What stands before it, such as `self` or fixtures of
-            pytest, it is given as any test is.
-        options: As of `orders`. With `whole=True` it fails, too, where not all orders could be tried."""
+        test: A function whose last parameter is a `World`. Parameters before it, such as `self` or fixtures of pytest,
+            work as in any test.
+        options: As of `orders`. With `whole=True` the test also fails if not all orders could be tried."""
     if test is None:
         return functools.partial(every_order, **options)
     tested: Callable[..., Any] = test

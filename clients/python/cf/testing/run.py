@@ -1,7 +1,7 @@
 """One run of a test, of which a search chooses each move.
 
-A run is the `Watch` of its service: it keeps what is ready, what goes on, what may come from outside and what is
-due, and says which moves may be next (`moves`). `do` does one, and answers what it touched.
+A run is the `Watch` of its service. It knows the ready and the running functions, the possible arrivals and the limits
+that are due, and lists the possible moves (`moves`). `do` makes one, and returns its footprint.
 
 A move is a tuple of a word and numbers:
 
@@ -89,8 +89,8 @@ class Run(Listening):
         return keys
 
     def _may_stop(self, keys: List[Move]) -> bool:
-        """Whether it may be that no limit passes any more. It may be at any moment, and comes to the same at the end;
-        but for what is left out the move has to be there as long as the limits are."""
+        """Whether the limits may stop passing. At any moment that ends the same way as at the end. But where orders are
+        left out, the move has to be possible as long as the limits are."""
         limits = [key for key in keys if key[0] == "limit"]
         return bool(limits) and (self.settings.is_reduced or len(limits) == len(keys))
 
@@ -101,7 +101,7 @@ class Run(Listening):
         return self.settings.workers - sum(flight.task is not None for flight in self.flights.values())
 
     def _limits(self) -> List[Move]:
-        """The next limit of each request, whose clock calls what one settles back before it looks at the next."""
+        """The next limit of each request. A clock calls the callbacks of one limit before it looks at the next."""
         if not self.timers:
             return []
         if not self.settings.is_clock_free:
@@ -118,7 +118,7 @@ class Run(Listening):
     # Moves.
 
     def do(self, key: Move) -> Footprint:
-        """Does a move, and answers what it touched."""
+        """Makes a move, and returns its footprint."""
         self._footprint, self._settled = {}, []
         if key[0] in ("begin", "call", "end", "go"):
             self.touch(("flight", *key[1:]), CHANGES)
@@ -270,7 +270,7 @@ class Run(Listening):
         flight.act()
 
     def _let_run(self, flight: Flight, goes: Callable[[Carrier], None]) -> None:
-        """Lets a thread go on until its function waits or has ended."""
+        """Runs a thread until its function waits or has ended."""
         carrier = flight.carrier
         assert carrier is not None
         saved, self._in_user = self._in_user, True
@@ -305,7 +305,7 @@ class Run(Listening):
             self.fail(f"the test raised {describe_all(error)}")
 
     def finish(self) -> None:
-        """Nothing may come any more: looks whether all that must hold at the end does."""
+        """Ends the run, and checks the conditions for the end."""
         self._is_over = True
         waiting = [f"{flight.name} waits for {flight.wait.name}" for flight in self.flights.values() if flight.wait is not None]
         if waiting:
@@ -327,7 +327,7 @@ class Run(Listening):
             self.fail(f"the test raised {describe_all(future.exception())}")
 
     def close(self) -> None:
-        """Ends functions that wait."""
+        """Ends the waiting functions."""
         for flight in self.flights.values():
             if flight.carrier is not None:
                 flight.carrier.end()
@@ -345,12 +345,12 @@ class Run(Listening):
     # In words.
 
     def told(self) -> List[str]:
-        """What the last move settled, but relays, whose futures are told."""
+        """The stages that the last move settled, in words, without relays."""
         told = [f"{stage.name} {_end_of(stage)}" for stage in self._settled if not stage.name.startswith("relay of ")]
         return told if self.store is None else told + self.store.rows.told
 
     def text(self, key: Move) -> str:
-        """What a move is called. It is asked before the move is done."""
+        """A move in words, before it is made."""
         word = key[0]
         if self.store is not None and word in OF_STORES:
             return self.store.text(key)
@@ -387,7 +387,7 @@ class Run(Listening):
 
 
 def _end_of(stage: "Stage[Any]") -> str:
-    """What a settled stage came to."""
+    """The outcome of a settled stage, in words."""
     if stage.cancelled():
         return "is cancelled"
     error = stage.exception(0)
@@ -395,7 +395,7 @@ def _end_of(stage: "Stage[Any]") -> str:
 
 
 def _next_of(thing: Thing, flight: Flight) -> List[Move]:
-    """What a function may do next."""
+    """The possible moves of a running function."""
     wait = flight.wait
     if wait is None:
         return [(flight.word, *thing)]
@@ -407,6 +407,6 @@ def _next_of(thing: Thing, flight: Flight) -> List[Move]:
 
 
 def _is_of_stage(call: Any) -> bool:
-    """Whether a call is one of a stage's methods by which no function is called and nothing is waited for."""
+    """Whether a call is a method of a stage that calls no function and doesn't wait."""
     method = getattr(call, "func", call)
     return isinstance(getattr(method, "__self__", None), Stage) and method.__name__ in OF_STAGE

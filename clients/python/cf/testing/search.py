@@ -1,17 +1,16 @@
-"""All orders, but those that can come to nothing else.
+"""All orders, except those that can't end differently.
 
-The search is stateless: each order is a run from the start. It goes through a tree of moves, depth first, of which
-it has the path to the last run. What is left out stands on what moves touched (footprints.py):
+The search is stateless: each order is a run from the start. It walks a tree of moves, depth first, and keeps the path to
+the last run. Footprints (footprints.py) decide which orders are left out:
 
-- *Races.* Two moves of a run race if they touch the same thing, and nothing between them makes them wait for one
-  another. At the earlier one a move is added that leads to the other order, unless one of those that do so is there
-  already (source sets). What no race asks for isn't tried.
-- *Sleep sets.* A move that was tried at a place isn't tried again behind a sibling that is independent of it.
-- A move that takes another one away races with it, though that one was never made: both are tried.
-- A move that fails the order takes all others away, and touches all that any other does: what would have come behind
-  it isn't known.
+- *Races.* Two moves of a run race if they touch the same thing and no move between them orders them. At the place of the
+  earlier one, a move that leads to the other order is added, unless such a move is there already (source sets). Only
+  these moves are tried.
+- *Sleep sets.* A move that was tried at a place isn't tried again behind an independent sibling.
+- A move that removes another possible move races with it, though the other was never made: both are tried.
+- A move that fails the order removes all others, and conflicts with all: the moves behind it aren't known.
 
-A workers' bound makes moves wait for one another in ways that races don't see; sleep sets alone are used then."""
+With a bound of workers, moves wait for one another in ways that races don't see. Then only sleep sets are used."""
 import time
 from typing import Any, Callable, Dict, Hashable, List, Optional, Set
 
@@ -21,7 +20,7 @@ from .runner import CUT, FAILED, NotDeterministic, RunResult, Runner, failure_of
 
 
 class _Node:
-    """A place in the path: the moves that were possible, and those that were or are to be tried."""
+    """A place in the path, with its possible moves, the tried ones and those still to try."""
 
     __slots__ = ("keys", "sleep", "done", "chosen", "footprint", "todo", "before")
 
@@ -34,7 +33,7 @@ class _Node:
 
 
 class Tree:
-    """A search that can be stopped and gone on with."""
+    """A search that can stop and go on."""
 
     def __init__(self, runner: Runner, report: Report, ends: Optional[Callable[[Any], Hashable]], reduces: bool) -> None:
         self.runner, self.report, self._ends, self._reduces = runner, report, ends, reduces
@@ -45,7 +44,7 @@ class Tree:
         self._watched = 0
 
     def search(self, runs: int, until: float, failures: int) -> None:
-        """So many runs more, until all is seen, the moment comes, or so many orders have failed."""
+        """Makes at most so many runs, until no order is left, the moment comes, or so many orders have failed."""
         report = self.report
         while runs > 0 and not report.whole and len(report.failed) < failures and time.perf_counter() < until:
             runs -= 1
@@ -59,7 +58,7 @@ class Tree:
             self._go_back()
 
     def _begin_anew(self) -> None:
-        """Checks have looked at something new, so what moves touched before isn't known whole."""
+        """Begins again, since checks have looked at something new and earlier footprints lack it."""
         self._watched = len(self.runner.watched)
         self._stack = []
 
@@ -82,8 +81,7 @@ class Tree:
             report.ends[end] = report.ends.get(end, 0) + ran.run.weight
 
     def _note_failure(self) -> None:
-        """Where the last move has failed the order, the others are tried in its place and before it. Behind the last
-        move of all there are none."""
+        """Has the other moves tried in place of a move that failed the order, and before it."""
         if self._races and self._stack and self._stack[-1].footprint is None:
             self._stack[-1].todo.update(self._stack[-1].keys)
             self._race({ALL: CHANGES})
@@ -126,7 +124,7 @@ class Tree:
             self._sleep = {other: touched for other, touched in known if other != key and independent(touched, footprint)}
 
     def _race(self, footprint: Footprint) -> None:
-        """Finds with which moves before the last one races, and has the other orders tried, too."""
+        """Finds the moves that the last one races with, and has the other orders tried, too."""
         stack = self._stack
         last, before = len(stack) - 1, 0
         racing = []
@@ -143,7 +141,7 @@ class Tree:
                 node.todo.update([key for key in firsts if key in node.keys][:1])
 
     def _firsts(self, place: int, last: int) -> List[Move]:
-        """What can come first of the moves behind a place that needn't come after it, and lead to the last one."""
+        """The moves that can come first at a place to reach the last move without the move of that place."""
         stack, inside = self._stack, 0
         firsts = []
         for each in [k for k in range(place + 1, last) if not stack[k].before >> place & 1] + [last]:
@@ -154,7 +152,7 @@ class Tree:
         return firsts
 
     def _go_back(self) -> None:
-        """Goes back to the last place at which another move is to be tried."""
+        """Goes back to the last place with a move still to try."""
         stack = self._stack
         while stack:
             node = stack[-1]

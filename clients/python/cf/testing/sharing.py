@@ -11,9 +11,9 @@
     land n        the nth put that was on its way comes to the store
     spare         nobody is killed any more, or taken for gone while it is there
 
-A process looks only where that leads to something. Its look, and the first read that follows, are one move: between
-them nothing of it could be seen. What has to be done in the store stands in footprints as the rows that are read and
-changed; all that one process does stands there as a change of that process, so no two of its moves are swapped unseen.
+A process looks only if that leads to something. Its look and the first read that follows are one move, since nobody can
+see anything between them. Footprints have the rows that a move reads or changes in the store. Each move of a process
+also changes the process itself, so the search tries both orders of any two of its moves.
 """
 import contextlib
 import json
@@ -45,8 +45,8 @@ class WorldStore:
     """Rows in memory that processes of a world share. `World.store` gives it.
 
     Attributes:
-        granted: Each granted claim that a process was told of: the process's name, the request's and the stage.
-        answered: Each word that a process was told to stand: the process's name, the request's, place and word."""
+        granted: The granted claims whose answers came: the process's name, the request's and the stage.
+        answered: The words that a process knows to stand: the process's name, the request's, place and word."""
 
     def __init__(self, run: "Run", bounds: Bounds) -> None:
         self.run: "Run" = run
@@ -64,10 +64,10 @@ class WorldStore:
     def process(
         self, name: str, functions: Optional[Functions] = None, *, workers: int = 1, takes_all: bool = False, lease: float = 10, ahead: float = 0
     ) -> Process:
-        """A process with a service over this store, which works on the requests that it has begun or opened.
+        """Adds a process with a service over this store, which works on the requests that it has begun or opened.
 
         Args:
-            name: What it is called where an order is told.
+            name: Its name in the description of an order.
             functions: The functions that it knows.
             workers: How many threads run functions. With 0 it runs none.
             takes_all: Whether it works on all requests.
@@ -79,19 +79,19 @@ class WorldStore:
         return made
 
     def worker(self, name: str, functions: Functions, *, workers: int = 1, lease: float = 10) -> Process:
-        """A process that works on all requests, as `cf.store.Worker` does."""
+        """Adds a process that works on all requests, as `cf.store.Worker` does."""
         return self.process(name, functions, workers=workers, takes_all=True, lease=lease)
 
     def outcome(self, request: str, stage: str) -> Any:
-        """The value or the exception that the first stage of this name ended with, by all words that stand. None where
-        it isn't settled."""
+        """The value or the exception of the first stage of this name, by all words in the store. None where it isn't
+        settled."""
         view = self.rows.view(request)
         self.touch(("row", request), READS)
         number = None if view is None else self._stage_number(view, stage)
         return None if view is None or number is None else outcome(view, number)
 
     def is_settled(self, request: str, stage: str) -> bool:
-        """Whether the first stage of this name is settled, by all words that stand."""
+        """Whether the first stage of this name is settled, by all words in the store."""
         view = self.rows.view(request)
         self.touch(("row", request), READS)
         number = None if view is None else self._stage_number(view, stage)
@@ -99,12 +99,12 @@ class WorldStore:
 
     @property
     def effects(self) -> List[Any]:
-        """What transactional functions have appended to their connection, and what stands."""
+        """The committed effects: what transactional functions have appended to their connections."""
         self.touch(("effects",), READS)
         return self.rows.effects
 
     def outcomes(self) -> List[str]:
-        """What each stage of each request came to, by all words that stand, for comparing the ends of orders."""
+        """The outcome of each stage of each request, by all words in the store, for comparing the ends of orders."""
         told = []
         for name in self.rows.names:
             view = self.rows.view(name)
@@ -115,7 +115,7 @@ class WorldStore:
         return told
 
     def histories(self) -> List[History]:
-        """The history of each request, by all words that stand, in the order in which they were opened."""
+        """The history of each request, by all words in the store, in the order in which they were opened."""
         for name, view in self.rows.views.items():
             for process in self.processes:
                 self.rows.memory.name_session(process.session, process.name, name, view.opened.number)
@@ -126,27 +126,27 @@ class WorldStore:
         return next((k for k in range(len(view.forms)) if view.definition(k)["name"] == stage), None)
 
     def is_of_dead(self, future: object) -> bool:
-        """Whether a future is a stage as a process has it that was killed."""
+        """Whether a future is a stage in a killed process."""
         return isinstance(future, WorldStage) and future._host().process.is_dead
 
     # What processes ask.
 
     def touch(self, thing: Thing, how: str) -> None:
-        """This move touches a thing."""
+        """Adds a thing to this move's footprint."""
         self.run.touch(thing, how)
 
     def current(self) -> Optional[Flight]:
-        """What goes on in this thread, or None where the search itself does."""
+        """The flight of this thread, or None in the search's own thread."""
         flight: Optional[Flight] = getattr(self.run._carried, "flight", None)
         return flight
 
     def flight_of(self, process: Process) -> Optional[Flight]:
-        """The thread of a process that this is, or None: then what it does is a part of another's move."""
+        """This thread's flight, if it is one of the process; else None, and its calls are part of another's move."""
         flight = self.current()
         return flight if flight is not None and flight.process is process else None
 
     def ask(self, process: Process, answers: Sequence[Answer], text: str, act: Callable[[], T], put: Optional[Put] = None) -> T:
-        """Asks the store for something, which is a move of its own, and is answered as the search says."""
+        """Makes a call of the store, as a separate move. The search chooses the answer."""
         flight = self.flight_of(process)
         if process.is_dead:
             raise RunEnded
@@ -180,7 +180,7 @@ class WorldStore:
     # Moves.
 
     def moves(self, others: Sequence[Move]) -> List[Move]:
-        """What processes may do beside what their threads do."""
+        """The possible moves of processes, beside those of their running threads."""
         keys: List[Move] = []
         living = [it for it in self.processes if not it.is_dead]
         free = [it for it in living if self._is_free(it)]
@@ -206,8 +206,8 @@ class WorldStore:
         return keys
 
     def _notice_moves(self, free: List[Process]) -> List[Move]:
-        """Limits that have passed, and processes that are gone. The first process notices that is free: which one it is
-        makes no difference to what stands."""
+        """The moves for limits that have passed and processes that are gone. The first free process notices them; another
+        one would put the same words."""
         keys: List[Move] = []
         for number, timer in self.rows.timers.values():
             by = next((it for it in free if self._is_due(it, timer)), None)
@@ -235,7 +235,7 @@ class WorldStore:
         return next((job for job in process.queue if job.word == "_fire" or job.word == "_work" and self._matters(process, job.request)), None)
 
     def _matters(self, process: Process, name: str) -> bool:
-        """Whether a process that looks at a request finds something to do in it, or to tell somebody of."""
+        """Whether a look at a request gives a process something to do or to show."""
         view, request = self.rows.view(name), process._requests.get(name) or process._left.get(name)
         if view is None or not process.works_on(name) or name in process.broken:
             return False
@@ -256,7 +256,7 @@ class WorldStore:
 
     @staticmethod
     def _relays(view: RowView) -> bool:
-        """Whether promises of stages that composed are to be settled."""
+        """Whether promises of composing stages have to be settled."""
         for promise, place in view.links.items():
             if not view.is_settled(promise):
                 given = view.read_payload(place, lambda it: int(json.loads(it)["stage"]))
@@ -273,7 +273,7 @@ class WorldStore:
         return process.works_on(timer.request) and view is not None and timer[:3] not in process._firing and not view.is_settled(timer.stage)
 
     def _has_claim(self, process: Process, other: Process) -> bool:
-        """Whether a process works on a request in which the other one has claimed something."""
+        """Whether a process works on a request in which the other one has a claim."""
         return any(other.session in view.open_claims().values() and process.works_on(name) for name, view in self.rows.views.items())
 
     def do(self, key: Move) -> None:
@@ -323,7 +323,7 @@ class WorldStore:
             self._begin(process, job)
 
     def _round(self, process: Process, beating: Sequence[Process]) -> None:
-        """Some time passes, others that are there say so, and a process looks at the store."""
+        """Lets some time pass, lets living processes beat, and has a process look at the store."""
         process.host.clock += process.lease / 4
         for other in beating:
             if not other.is_dead:
@@ -371,7 +371,7 @@ class WorldStore:
         self.bounds = self.bounds._replace(killed=0, slow=0)
 
     def text(self, key: Move) -> str:
-        """What a move is called."""
+        """A move in words."""
         word = key[0]
         if word == "land":
             return f"the put that was on its way comes: {self.rows.text_of(self._flying[key[1]][0])}"

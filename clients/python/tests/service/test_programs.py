@@ -99,10 +99,10 @@ class Works:
     def now(self, _request=None):
         return self.moment
 
-    def ask(self, request, moment):
+    def ask_for_alarm(self, request, moment):
         self.alarms[request] = min(moment, self.alarms.get(request, moment))
 
-    def drop(self, request):
+    def drop_alarm(self, request):
         self.alarms.pop(request, None)
 
 
