@@ -4,6 +4,7 @@
     CF_LIBRARY=/path/to/libcf.so python3 clients/python/tests/store/test_web.py [-v] [TEST ..]
 """
 import base64
+import contextlib
 import hashlib
 import html
 import http.client
@@ -209,6 +210,15 @@ class Door(WebCase):
             self.until(lambda: self.page._free._value == 3)
         self.assertEqual(self.ask("GET", "/")[0], 200)
         self.until(lambda: not self.page._reading)
+
+    def test_a_connection_is_kept_until_something_is_refused(self):
+        self.page_over(Memory())
+        with contextlib.closing(http.client.HTTPConnection("127.0.0.1", self.port, timeout=20)) as connection:
+            for path, status, told in [("/", 200, None), ("/data?view=sessions", 200, None), ("/nothing", 404, "close")]:
+                connection.request("GET", path, headers={"Cookie": self.cookie})
+                answer = connection.getresponse()
+                answer.read()
+                self.assertEqual((path, answer.status, answer.headers["Connection"]), (path, status, told))
 
     def test_actions_that_are_forged(self):
         store = self.page.board.store
