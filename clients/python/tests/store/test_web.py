@@ -23,7 +23,7 @@ import unittest.mock
 from pathlib import Path
 from urllib.parse import urlencode
 
-from case import Case, CLIENT
+from case import Case, CLIENT, EMPTY
 import shared_functions as f
 from cf.service import Flow
 from cf.store import Broken, connect, DurableService, Functions, Memory, new_session, Put, RowView, StoreError, Unknown
@@ -695,6 +695,19 @@ class Lists(WebCase):
         service.request("r").end()
         next(it for it in listed if not it["rows"])
         next(it for it in shown if it["state"] == "closed")
+
+    def test_how_often_changes_are_sent(self):
+        """What the store is asked for is sent less often than a list."""
+        for view, least in [("requests", server.AT_FIRST), ("request", server.BETWEEN_ASKED)]:
+            store, rests = Memory(), []
+            store.open("r", EMPTY)
+            with unittest.mock.patch.object(server, "time", wraps=time) as clock:
+                clock.sleep.side_effect = lambda seconds, rests=rests: rests.append(seconds) or time.sleep(0.01)
+                self.page_over(store)
+                next(self.live(view=view, name="r"))
+                self.until(lambda rests=rests: rests)
+            self.assertGreaterEqual(min(rests), least)
+            self.assertEqual(min(rests) < server.BETWEEN_ASKED, view == "requests", rests)
 
     def live(self, **given):
         connection = http.client.HTTPConnection("127.0.0.1", self.port, timeout=20)
