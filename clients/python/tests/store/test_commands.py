@@ -18,6 +18,7 @@ from pathlib import Path
 
 from case import Case, CLIENT, HERE
 import shared_functions as f
+import cf.worker
 from cf import requests
 from cf.store import connect, DurableService, Functions, Memory, StoreError, Worker, worker
 
@@ -129,6 +130,13 @@ class Commands(Case):
         said = ended.stderr.read().decode()
         self.assertIn("declines has raised", said)
         self.assertIn("ends without hold (request 'r', stage 2)", said)
+
+    def test_words_that_a_worker_needs(self):
+        for words, wanted in [(["shared_functions"], "--store"), (["--store", self.address], "modules")]:
+            err = io.StringIO()
+            with contextlib.redirect_stderr(err), self.assertRaises(SystemExit) as told:
+                cf.worker.main(words)
+            self.assertEqual((told.exception.code, f"required: {wanted}" in err.getvalue()), (2, True))
 
     def test_a_worker_that_is_told_to_end(self):
         """It tells what it waits for, until that has ended, or it is told once more."""

@@ -256,6 +256,16 @@ class EtcdCase(Case):
             return True
 
 
+class Refused(unittest.TestCase):
+    def test_a_watch_that_cant_be_begun_is_begun_again_soon(self):
+        """At the next member."""
+        store = etcd.Etcd.__new__(etcd.Etcd)
+        store._local, store._turn = threading.local(), 0
+        with unittest.mock.patch.object(store, "_watching", side_effect=OSError), unittest.mock.patch.object(etcd, "time") as clock:
+            store.changed(20), store.changed(0.01)
+        self.assertEqual((clock.sleep.mock_calls, store._turn), ([unittest.mock.call(0.05), unittest.mock.call(0.01)], 2))
+
+
 class OneMember(EtcdCase):
     def test_a_watch_that_is_cut_within_a_line(self):
         known = self.followed()

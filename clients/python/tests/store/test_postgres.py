@@ -65,6 +65,19 @@ class PostgreSQL(Case):
         postgres_store._changes.set()
         postgres_store._notifier.join(20)
 
+    @unittest.skipIf(importlib.util.find_spec("psycopg2") is None, "no psycopg2")
+    def test_a_connection_that_is_lost_is_let_go(self):
+        postgres = self.module()
+        for error, is_lost in [("OperationalError", True), ("DataError", False)]:
+            postgres_store, db = postgres.Postgres.__new__(postgres.Postgres), unittest.mock.MagicMock(closed=0)
+            db.close.side_effect = lambda db=db: setattr(db, "closed", 1)
+            cursor = unittest.mock.MagicMock(connection=db)
+            cursor.execute.side_effect = getattr(postgres.psycopg2, error)("why")
+            postgres_store._is_closed, postgres_store._free = False, [cursor]
+            with self.assertRaises(Unknown if is_lost else StoreError):
+                postgres_store._do("select 1", [])
+            self.assertEqual((db.closed, postgres_store._free), (1, []) if is_lost else (0, [cursor]))
+
     def test_a_connection_that_is_in_use_as_the_store_is_closed(self):
         postgres = self.module()
         postgres_store, db = postgres.Postgres.__new__(postgres.Postgres), unittest.mock.MagicMock(closed=0)

@@ -4,6 +4,7 @@
     CF_LIBRARY=/path/to/libcf.so python3 clients/python/tests/store/test_web.py [-v] [TEST ..]
 """
 import base64
+import contextlib
 import hashlib
 import html
 import http.client
@@ -22,7 +23,7 @@ import unittest.mock
 from pathlib import Path
 from urllib.parse import urlencode
 
-from case import Case, CLIENT
+from case import Case, CLIENT, EMPTY
 import shared_functions as f
 from cf.service import Flow
 from cf.store import Broken, connect, DurableService, Functions, Memory, new_session, Put, RowView, StoreError, Unknown
@@ -209,6 +210,15 @@ class Door(WebCase):
             self.until(lambda: self.page._free._value == 3)
         self.assertEqual(self.ask("GET", "/")[0], 200)
         self.until(lambda: not self.page._reading)
+
+    def test_a_connection_is_kept_until_something_is_refused(self):
+        self.page_over(Memory())
+        with contextlib.closing(http.client.HTTPConnection("127.0.0.1", self.port, timeout=20)) as connection:
+            for path, status, told in [("/", 200, None), ("/data?view=sessions", 200, None), ("/nothing", 404, "close")]:
+                connection.request("GET", path, headers={"Cookie": self.cookie})
+                answer = connection.getresponse()
+                answer.read()
+                self.assertEqual((path, answer.status, answer.headers["Connection"]), (path, status, told))
 
     def test_actions_that_are_forged(self):
         store = self.page.board.store
@@ -687,6 +697,19 @@ class Lists(WebCase):
         service.request("r").end()
         next(it for it in listed if not it["rows"])
         next(it for it in shown if it["state"] == "closed")
+
+    def test_how_often_changes_are_sent(self):
+        """What the store is asked for is sent less often than a list."""
+        for view, least in [("requests", server.AT_FIRST), ("request", server.BETWEEN_ASKED)]:
+            store, rests = Memory(), []
+            store.open("r", EMPTY)
+            with unittest.mock.patch.object(server, "time", wraps=time) as clock:
+                clock.sleep.side_effect = lambda seconds, rests=rests: rests.append(seconds) or time.sleep(0.01)
+                self.page_over(store)
+                next(self.live(view=view, name="r"))
+                self.until(lambda rests=rests: rests)
+            self.assertGreaterEqual(min(rests), least)
+            self.assertEqual(min(rests) < server.BETWEEN_ASKED, view == "requests", rests)
 
     def live(self, **given):
         connection = http.client.HTTPConnection("127.0.0.1", self.port, timeout=20)
