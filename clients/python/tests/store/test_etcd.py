@@ -262,7 +262,7 @@ class Refused(unittest.TestCase):
         store = etcd.Etcd.__new__(etcd.Etcd)
         store._local, store._turn = threading.local(), 0
         with unittest.mock.patch.object(store, "_watching", side_effect=OSError), unittest.mock.patch.object(etcd, "time") as clock:
-            store.changed(20), store.changed(0.01)
+            store.wait_for_change(20), store.wait_for_change(0.01)
         self.assertEqual((clock.sleep.mock_calls, store._turn), ([unittest.mock.call(0.05), unittest.mock.call(0.01)], 2))
 
 
