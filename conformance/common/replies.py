@@ -17,7 +17,7 @@ from cf.service.words import (
     THROWN,
     TIMED_OUT,
     VALUE,
-    Told,
+    OutcomeNumbers,
 )
 
 CAUSES = {CANCELLED: "cancelled", TIMED_OUT: "timeout", BAD_ANSWER: "badanswer"}
@@ -50,7 +50,7 @@ def reply_text(event, reply):
         if reply[ANSWER]:
             return ("", "settled", "taken", "notready")[reply[ANSWER]]
         if many == GOT:
-            return "granted got " + outcome_text(Told(*reply[OUTCOME]))
+            return "granted got " + outcome_text(OutcomeNumbers(*reply[OUTCOME]))
         texts = [value_text(reply[FIRST_SOME], reply[FIRST]), value_text(reply[SECOND_SOME], reply[SECOND])]
         return " ".join(["granted", ("none", "one", "two")[many], *texts[:many]])
     if isinstance(event, Finish):

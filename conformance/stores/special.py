@@ -177,7 +177,7 @@ def many_timers(address, folder):
     for k in range(500):
         store.set_timer(Timer("timers", k, store.now() + (1000 if k % 50 else -1), b"N"))
     began = time.monotonic()
-    due = store.timers_due(store.now())
+    due = store.due_timers(store.now())
     return len(due) == 10, f"{len(due)} due, found in {1000 * (time.monotonic() - began):.1f} ms"
 
 

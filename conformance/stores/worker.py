@@ -150,7 +150,7 @@ class Worker(Process):
             if session != self.session and self.watcher.is_gone(session):
 
                 def decide(desk, stage=stage, session=session):
-                    fails = desk.word_to_abandon(session, stage)
+                    fails = desk.abandon_word(session, stage)
                     if fails is not None:
                         return [(fails, json.dumps({"at": desk.place, "abandoned": session}).encode())]
                     return None

@@ -84,7 +84,7 @@ class Caller(GraphCalls):
             if other is not self:
                 self._call("cf_desk_meet", other._at)
 
-    def events_seen(self) -> int:
+    def seen_count(self) -> int:
         """How many events it has seen."""
         return self._call_for("cf_desk_seen", c.c_uint16()).value
 

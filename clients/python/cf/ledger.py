@@ -56,7 +56,7 @@ class Ledger(Handle):
         plan.build()._call("cf_ledger_new", room, self._at)
 
     @classmethod
-    def of_words(cls, plan: Plan, words: Sequence[int], room: int = 0) -> "Ledger":
+    def from_words(cls, plan: Plan, words: Sequence[int], room: int = 0) -> "Ledger":
         """The ledger of these words. The first that can't be done raises `Misfit`."""
         ledger = cls.__new__(cls)
         Handle.__init__(ledger)
@@ -115,7 +115,7 @@ class Ledger(Handle):
         """Starts again, as the ledger was opened: no word is written then, and all of its room is free."""
         self._call("cf_ledger_restart")
 
-    def do(self, event: Event) -> EventResult:
+    def apply_event(self, event: Event) -> EventResult:
         """Does an event."""
         return self.apply(word_of(event))
 

@@ -11,13 +11,13 @@ from .texts import _code_and_text
 from .values import check
 
 
-class Subject(enum.IntEnum):
+class Label(enum.IntEnum):
     """What texts are said of."""
 
     NAME, STAGES, CALLERS, VALUES, ERRORS = range(5)
 
 
-class TaleKind(enum.IntEnum):
+class TaleFormat(enum.IntEnum):
     """As what a tale is told."""
 
     LINES, LINE, ACCOUNT, SCRIPT, REPORT = range(5)
@@ -37,14 +37,14 @@ class Tale(Handle):
         """Says when each event was done, in nanoseconds from any moment on."""
         self._call("cf_history_times", (c.c_uint64 * len(times))(*times), len(times))
 
-    def set_texts(self, what: Subject, texts: Sequence[str]) -> None:
+    def set_texts(self, what: Label, texts: Sequence[str]) -> None:
         """Says what things are called, or stand for, by their numbers. Half of a surrogate pair, which UTF-8 hasn't, is
         told as JSON writes it."""
         parts = [text.encode("utf-8", "backslashreplace") for text in texts]
         ends = list(itertools.accumulate(map(len, parts)))
         self._call("cf_history_say", what, b"".join(parts), sum(map(len, parts)), (c.c_size_t * len(ends))(*ends), len(ends))
 
-    def text(self, kind: TaleKind) -> str:
+    def text(self, kind: TaleFormat) -> str:
         """All of it."""
         with self._lock:
             code, text = _code_and_text(lambda *room: library.cf_history_text(self._at, kind, *room))

@@ -83,14 +83,14 @@ def flight_recorder() -> None:
     """Each event tells which stages it changed, and the words of all make the same ledger again."""
     plan, source, total, *_ = fan_out()
     with cf.Ledger(plan) as ledger:
-        told = ledger.do(cf.events.Complete(0, source, 3))
+        told = ledger.apply_event(cf.events.Complete(0, source, 3))
         print("changed", [(stage.number, stage.kind.name) for stage in told.news if stage.number <= 2])
         ready = ledger.ready()
-        print("claimed", ledger.do(cf.events.Claim(1, ready)).reply.status.name, "by", ledger.stage(ready).who)
-        with cf.Ledger.of_words(plan, ledger.words()) as again:
+        print("claimed", ledger.apply_event(cf.events.Claim(1, ready)).reply.status.name, "by", ledger.stage(ready).who)
+        with cf.Ledger.from_words(plan, ledger.words()) as again:
             print("made again", [again.stage(stage) for stage in range(total)] == [ledger.stage(stage) for stage in range(total)])
         try:
-            cf.Ledger.of_words(plan, ledger.words() + [0])
+            cf.Ledger.from_words(plan, ledger.words() + [0])
         except cf.Misfit as misfit:
             print("word", misfit.place, "refused:", misfit)
 

@@ -51,7 +51,7 @@ class Callers(DeskCase):
         self.assertEqual(self.one.work([lambda x: x + 1]), 1)
         self.assertEqual((future.result(5), future.exception(), future.done(), future.cancelled()), (4, None, True, False))
         self.assertEqual(self.other.join(self.last, 3), cf.Now(cf.NowKind.VALUE, 4, None))
-        self.assertEqual((self.one.number, self.other.number, self.other.events_seen()), (0, 1, 3))
+        self.assertEqual((self.one.number, self.other.number, self.other.seen_count()), (0, 1, 3))
 
     def test_a_stage_without_a_value(self):
         for act, fault in [
@@ -81,9 +81,9 @@ class Callers(DeskCase):
 
     def test_callers_that_meet(self):
         self.one.complete(self.source, 1)
-        self.assertEqual((self.one.events_seen(), self.other.events_seen()), (1, 0))
+        self.assertEqual((self.one.seen_count(), self.other.seen_count()), (1, 0))
         self.other.meet(self.one)
-        self.assertEqual(self.other.events_seen(), 1)
+        self.assertEqual(self.other.seen_count(), 1)
         self.one.meet(self.one)
         of_another = one_stage().open_desk(callers=1, log=1, calls=1).callers[0]
         self.refuses(Code.OTHER_DESK, lambda: self.one.meet(of_another))
@@ -93,7 +93,7 @@ class Callers(DeskCase):
 
         def calls():
             try:
-                self.one.events_seen()
+                self.one.seen_count()
             except cf.InUse as error:
                 refused.append(error)
 
@@ -102,7 +102,7 @@ class Callers(DeskCase):
             thread.start()
             thread.join(20)
         self.assertEqual(len(refused), 1)
-        self.assertEqual(self.one.events_seen(), 0)
+        self.assertEqual(self.one.seen_count(), 0)
 
 
 class Closing(DeskCase):
@@ -129,8 +129,8 @@ class Closing(DeskCase):
 
     def test_a_desk_that_a_with_ends(self):
         with self.desk:
-            self.one.events_seen()
-        self.refuses(Code.EMPTY, self.one.events_seen)
+            self.one.seen_count()
+        self.refuses(Code.EMPTY, self.one.seen_count)
 
 
 class Words(unittest.TestCase):

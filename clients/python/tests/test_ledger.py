@@ -56,7 +56,7 @@ class Steps(unittest.TestCase):
     def test_a_step_is_a_finish_and_a_claim(self):
         ledger, beside = self.ledger, cf.Ledger(self.plan)
         for each in (ledger, beside):
-            each.do(Complete(0, self.source, 2))
+            each.apply_event(Complete(0, self.source, 2))
         told = ledger.step(WORKER)
         self.assertEqual(
             (told.place, told.finish, told.claim, told.news, told.finished), (1, None, cf.word_of(Claim(WORKER, 1)), [], cf.FinishReply.WON)
@@ -73,21 +73,21 @@ class Steps(unittest.TestCase):
         self.assertEqual(self.stages(ledger), self.stages(beside))
 
     def test_steps_do_all(self):
-        self.ledger.do(Complete(0, self.source, 1))
+        self.ledger.apply_event(Complete(0, self.source, 1))
         self.assertEqual(self.work(self.ledger), 15)
         self.assertEqual(self.ledger.stage(self.last).outcome, cf.Outcome(2**8, None))
-        self.assertEqual(self.stages(cf.Ledger.of_words(self.plan, self.ledger.words())), self.stages(self.ledger))
+        self.assertEqual(self.stages(cf.Ledger.from_words(self.plan, self.ledger.words())), self.stages(self.ledger))
 
     def test_from_a_number_on(self):
-        self.ledger.do(Complete(0, self.source, 1))
+        self.ledger.apply_event(Complete(0, self.source, 1))
         self.assertEqual(self.ledger.step(WORKER, first=4).task.stage, 4)
         told = self.ledger.step(WORKER, first=9)
         self.assertEqual((told.task, told.claim, told.place), (None, None, 2))
 
     def test_late_and_thrown(self):
-        self.ledger.do(Complete(0, self.source, 1))
+        self.ledger.apply_event(Complete(0, self.source, 1))
         task = self.ledger.step(WORKER).task
-        self.ledger.do(Cancel(0, task.stage))
+        self.ledger.apply_event(Cancel(0, task.stage))
         told = self.ledger.step(WORKER, task, 7)
         self.assertEqual((told.finished, told.news), (cf.FinishReply.LATE, []))
         told = self.ledger.step(WORKER, told.task, cf.Thrown(4))
@@ -98,10 +98,11 @@ class Steps(unittest.TestCase):
             ledger, event = cf.Ledger(self.plan), FailAs(WORKER, self.source, failure)
             word = FAIL_AS << 56 | WORKER << 48 | self.source << 36 | tag << 32
             self.assertEqual((cf.word_of(event), cf.event_of(word)), (word, event))
-            told = ledger.do(event)
+            told = ledger.apply_event(event)
             self.assertEqual((told.reply, len(told.news)), (True, ledger.stages()))
             self.assertEqual([(type(it.outcome.fault), it.outcome.fault.wrapped) for it in told.news], [(fault, it.number > 0) for it in told.news])
-            self.assertEqual((ledger.do(event), self.stages(cf.Ledger.of_words(self.plan, [word]))), (cf.EventResult(False, []), self.stages(ledger)))
+            self.assertEqual(ledger.apply_event(event), cf.EventResult(False, []))
+            self.assertEqual(self.stages(cf.Ledger.from_words(self.plan, [word])), self.stages(ledger))
         for wrong in (0, 3, 6):
             with self.assertRaises(cf.Refused) as refused:
                 cf.word_of(FailAs(WORKER, 0, wrong))
@@ -114,7 +115,7 @@ class Steps(unittest.TestCase):
             cf.word_of(FailAs(WORKER, 0, -1))
 
     def test_refused_steps_change_nothing(self):
-        self.ledger.do(Complete(0, self.source, 1))
+        self.ledger.apply_event(Complete(0, self.source, 1))
         task, words = self.ledger.step(WORKER).task, self.ledger.words()
         for who, held, code in (
             (64, None, "NO_WORD"),

@@ -187,7 +187,7 @@ class Desks(unittest.TestCase):
             with unittest.mock.patch.object(cf._library.library, "cf_desk_meet") as asked:
                 with self.assertRaises(cf.Refused) as refused:
                     one.callers[0].meet(other.callers[0])
-            self.assertEqual((refused.exception.code, asked.called, one.callers[0].events_seen()), (Code.OTHER_DESK, False, 0))
+            self.assertEqual((refused.exception.code, asked.called, one.callers[0].seen_count()), (Code.OTHER_DESK, False, 0))
 
 
 if __name__ == "__main__":

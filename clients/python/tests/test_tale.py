@@ -14,7 +14,7 @@ if not os.environ.get("CF_INSTALLED"):
     sys.path.insert(0, str(HERE.parent))
 from cf import Code, Form, Plan, Refused  # noqa: E402
 from cf.service.words import FORMS  # noqa: E402
-from cf.tale import TaleKind, Subject, Tale  # noqa: E402
+from cf.tale import TaleFormat, Label, Tale  # noqa: E402
 
 CASES = json.loads((HERE.parents[2] / "conformance/requests/told.json").read_text(encoding="utf-8"))
 TEXT = "r: 0 events, 0 stages\n"
@@ -39,10 +39,10 @@ class Tales(unittest.TestCase):
         self.assertGreater(len(CASES), 6)
         for case in CASES:
             with Tale(plan_of(case), case["room"], list(map(int, case["words"]))) as tale:
-                for what in reversed(Subject):
+                for what in reversed(Label):
                     tale.set_texts(what, case["said"][what.name.lower()])
                 tale.set_times(case["times"])
-                for kind in TaleKind:
+                for kind in TaleFormat:
                     with self.subTest(case=case["case"], kind=kind.name):
                         wanted = case["texts"][kind.name.lower()]
                         lines = "".join(line + "\n" for line in wanted) if isinstance(wanted, list) else wanted
@@ -59,19 +59,19 @@ class Tales(unittest.TestCase):
         self.refuses(Code.NO_STAGE, lambda: Tale(plan, 0, [1 << 56]))
         self.refuses(Code.ROOM, lambda: Tale(plan, 4097, []))
         with Tale(plan, 0, []) as tale:
-            tale.set_texts(Subject.NAME, ["r"])
-            self.refuses(Code.TOO_MANY, lambda: tale.set_texts(Subject.NAME, ["a", "b"]))
-            self.refuses(Code.TOO_MANY, lambda: tale.set_texts(Subject.STAGES, [""] * 4097))
-            self.refuses(Code.TOO_MANY, lambda: tale.set_texts(Subject.CALLERS, [""] * 65))
+            tale.set_texts(Label.NAME, ["r"])
+            self.refuses(Code.TOO_MANY, lambda: tale.set_texts(Label.NAME, ["a", "b"]))
+            self.refuses(Code.TOO_MANY, lambda: tale.set_texts(Label.STAGES, [""] * 4097))
+            self.refuses(Code.TOO_MANY, lambda: tale.set_texts(Label.CALLERS, [""] * 65))
             self.refuses(Code.TOO_MANY, lambda: tale.set_times([1]))
             self.refuses(Code.NO_SUCH_NUMBER, lambda: tale.set_texts(5, []))
             self.refuses(Code.NO_SUCH_NUMBER, lambda: tale.text(5))
-            self.assertEqual(tale.text(TaleKind.LINES), TEXT)
-            tale.set_texts(Subject.STAGES, [""] * 4096)
-            tale.set_texts(Subject.CALLERS, [""] * 64)
-            tale.set_texts(Subject.VALUES, [""] * 10000)
-            tale.set_texts(Subject.NAME, [])
-            self.assertEqual(tale.text(TaleKind.LINES), TEXT.replace("r:", "a history:"))
+            self.assertEqual(tale.text(TaleFormat.LINES), TEXT)
+            tale.set_texts(Label.STAGES, [""] * 4096)
+            tale.set_texts(Label.CALLERS, [""] * 64)
+            tale.set_texts(Label.VALUES, [""] * 10000)
+            tale.set_texts(Label.NAME, [])
+            self.assertEqual(tale.text(TaleFormat.LINES), TEXT.replace("r:", "a history:"))
 
 
 if __name__ == "__main__":

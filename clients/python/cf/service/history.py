@@ -11,7 +11,7 @@ from .._library import CNews, CReply, CStage
 from ..events import Event, event_of
 from ..ledger import Ledger
 from ..plan import Plan
-from ..tale import TaleKind, Subject, Tale
+from ..tale import TaleFormat, Label, Tale
 from ..values import Form
 from .words import BAD_ANSWER, CANCELLED, CLIENT, CLOCK, FIRST_WORKER, IS_SETTLED, RELAY, REPLY_NUMBERS, THROWN, TIMED_OUT, OutcomeNumbers
 
@@ -178,7 +178,7 @@ class History:
     # As texts, which the library tells.
 
     def __str__(self) -> str:
-        return self._text_as(TaleKind.LINES).rstrip("\n")
+        return self._text_as(TaleFormat.LINES).rstrip("\n")
 
     def lines(self) -> List[str]:
         """A line that says how much happened; then a line for each event, and below it one for each stage that the event
@@ -187,7 +187,7 @@ class History:
 
     def line(self) -> str:
         """One line, for a log: how much happened, which stage failed first, and which one is open."""
-        return self._text_as(TaleKind.LINE)
+        return self._text_as(TaleFormat.LINE)
 
     def sentences(self) -> List[Tuple[str, List[str]]]:
         """For each event its line, and the lines of the stages that it settled."""
@@ -196,28 +196,28 @@ class History:
 
     def account(self) -> str:
         """The events as a line of JSON, which `cf_look check` judges and `cf_look page` shows."""
-        return self._text_as(TaleKind.ACCOUNT).rstrip("\n")
+        return self._text_as(TaleFormat.ACCOUNT).rstrip("\n")
 
     def script(self, most: Optional[int] = None) -> str:
         """The events as a line of JSON, which `cf run` does again, without your functions, and `cf_look dot` draws.
 
         Args:
             most: How many of the first events it has. By default all."""
-        return self._text_as(TaleKind.SCRIPT, most).rstrip("\n")
+        return self._text_as(TaleFormat.SCRIPT, most).rstrip("\n")
 
     def report(self) -> str:
         """What `cf run` prints for the script: the replies, and what the stages end with."""
-        return self._text_as(TaleKind.REPORT)
+        return self._text_as(TaleFormat.REPORT)
 
-    def _text_as(self, kind: TaleKind, most: Optional[int] = None) -> str:
+    def _text_as(self, kind: TaleFormat, most: Optional[int] = None) -> str:
         with Tale(self._plan(), len(self.names) - len(self.planned), self.words[:most]) as tale:
-            if kind not in (TaleKind.SCRIPT, TaleKind.REPORT):
+            if kind not in (TaleFormat.SCRIPT, TaleFormat.REPORT):
                 tale.set_times(self._clock())
-                tale.set_texts(Subject.NAME, [self.name])
-                tale.set_texts(Subject.STAGES, self.names)
-                tale.set_texts(Subject.CALLERS, self._callers())
-                tale.set_texts(Subject.VALUES, [self._text(value) for value in self.values])
-                tale.set_texts(Subject.ERRORS, [self._text(error) for error in self.errors])
+                tale.set_texts(Label.NAME, [self.name])
+                tale.set_texts(Label.STAGES, self.names)
+                tale.set_texts(Label.CALLERS, self._callers())
+                tale.set_texts(Label.VALUES, [self._text(value) for value in self.values])
+                tale.set_texts(Label.ERRORS, [self._text(error) for error in self.errors])
             return tale.text(kind)
 
     def _plan(self) -> Plan:

@@ -54,10 +54,11 @@ A function from ready to finished
 Relays
     A source has to be a stage of the same request. Any other future gets a relay: a source of this request that ends as
     the future does (`follow_future` in relays.py). The future keeps the relay, and so the request, until either is
-    settled. If only one stage needed the relay, the relay is released once that stage is settled (`_let_go_with`). A composing stage has a relay right below
-    it. Its finish links to the stage that the function returned, if that is a lower one of this request, and else to
-    the relay (`_link`). If the function returned a higher stage of this request, the machine lets the relay follow it
-    (`_follow_within`), and else `follow_future` does (`_follow`).
+    settled. If only one stage needed the relay, the relay is released once that stage is settled (`_let_go_with`).
+
+    A composing stage has a relay right below it. Its finish links to the stage that the function returned, if that is a
+    lower one of this request, and else to the relay (`_link`). If the function returned a higher stage of this request,
+    the machine lets the relay follow it (`_follow_within`), and else `follow_future` does (`_follow`).
 
 Time limits
     Each is a deadline of the machine (`_limit`), at a moment of the works' clock that no other limit of the request has.

@@ -546,7 +546,7 @@ class Etcd(Store):
         if not self._txn([self._is_there(timer.request, revision)], [_put(key, value)]).get("succeeded"):
             raise self._gone(timer.request)
 
-    def timers_due(self, now: float) -> List[Timer]:
+    def due_timers(self, now: float) -> List[Timer]:
         told = []
         for key, value in self._get(b"cf/t/", b"cf/t0", serializable=True):
             due, payload = json.loads(value)

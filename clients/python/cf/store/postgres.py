@@ -478,7 +478,7 @@ class Postgres(TableStore):
         )[0]:
             raise self._gone(timer.request)
 
-    def timers_due(self, now: float) -> List[Timer]:
+    def due_timers(self, now: float) -> List[Timer]:
         rows = self._ask("select name, stage, due, payload, id from cf_timer join cf_request on id = request where due <= %s order by due", now)
         return [Timer(str(name), int(stage), float(at), bytes(payload), int(number)) for name, stage, at, payload, number in rows]
 

@@ -126,13 +126,13 @@ class Replica(Handle):
             yield told.value
             first = told.value + 1
 
-    def word_to_abandon(self, session: int, first: int, code: int) -> Optional[int]:
+    def abandon_word(self, session: int, first: int, code: int) -> Optional[int]:
         """The word that fails, with this code, the lowest stage from a number on that a session holds, or None where it
         holds none."""
         word = c.c_uint64()
         return word.value if _is_there(_abandon(self._to, session, first, code, c.byref(word))) else None
 
-    def word_to_finish(self, ended: FinishAnswer) -> Optional[int]:
+    def finish_word(self, ended: FinishAnswer) -> Optional[int]:
         """The word that finishes a stage, or None where this session has no open claim of it."""
         word = c.c_uint64()
         return word.value if _is_there(_finish(self._to, c.byref(_task_of(ended)), c.byref(word))) else None

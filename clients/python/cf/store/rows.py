@@ -314,7 +314,7 @@ class Store(abc.ABC):
         """Sets the timer of a stage, and replaces an earlier one."""
 
     @abc.abstractmethod
-    def timers_due(self, now: float) -> List[Timer]:
+    def due_timers(self, now: float) -> List[Timer]:
         """The timers that are due at this moment."""
 
     @abc.abstractmethod
@@ -536,7 +536,7 @@ class Memory(Store):
             self._is_there(timer.request, timer.number)
             self._timers[timer.request, timer.stage] = timer
 
-    def timers_due(self, now: float) -> List[Timer]:
+    def due_timers(self, now: float) -> List[Timer]:
         with self._change:
             return [timer for timer in self._timers.values() if timer.due <= now]
 
@@ -688,8 +688,8 @@ class Grouped(Store):
     def set_timer(self, timer: Timer) -> None:
         self._store.set_timer(timer)
 
-    def timers_due(self, now: float) -> List[Timer]:
-        return self._store.timers_due(now)
+    def due_timers(self, now: float) -> List[Timer]:
+        return self._store.due_timers(now)
 
     def drop_timer(self, request: str, stage: int, number: int = 0) -> None:
         self._store.drop_timer(request, stage, number)

@@ -99,7 +99,7 @@ class FunctionResult(NamedTuple):
     def word_to_put(self, view: RowView) -> Optional[Tuple[int, Optional[bytes]]]:
         """The finish with its payload, for the end of the row, or None where the session has no open claim of the
         stage."""
-        word = view.word_to_finish(self.answer(view))
+        word = view.finish_word(self.answer(view))
         return None if word is None else (word, self.payload)
 
 
@@ -432,7 +432,7 @@ class DurableService(concurrent.futures.Executor):
             self._keep_glances()
         if now >= self._next_look:
             self._next_look = now + 0.02
-            for timer in self.store.timers_due(self.store.now()):
+            for timer in self.store.due_timers(self.store.now()):
                 is_mine = timer.request in self._requests or self._takes_all and timer.request not in self.broken
                 if is_mine and timer[:3] not in self._firing:
                     self._firing.add(timer[:3])
@@ -606,7 +606,7 @@ class DurableService(concurrent.futures.Executor):
                 payload = self._error(Abandoned(said))
 
                 def decide(view: RowView, stage: int = stage, session: int = session, payload: bytes = payload) -> Any:
-                    word = view.word_to_abandon(session, stage)
+                    word = view.abandon_word(session, stage)
                     return None if word is None else [(word, payload)]
 
                 request._act(decide)

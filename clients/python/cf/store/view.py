@@ -198,15 +198,15 @@ class RowView:
         """The unsettled stages that a session has claimed."""
         return list(self._replica.stages_held_by(session))
 
-    def word_to_abandon(self, session: int, stage: int) -> Optional[int]:
+    def abandon_word(self, session: int, stage: int) -> Optional[int]:
         """The word that fails this stage for a session that is gone, with the exception at the word's own place, or None
         where that session doesn't hold it."""
-        word = self._replica.word_to_abandon(session, stage, self.next_place)
+        word = self._replica.abandon_word(session, stage, self.next_place)
         return word if word is not None and word >> 36 & 0xFFF == stage else None
 
-    def word_to_finish(self, ended: FinishAnswer) -> Optional[int]:
+    def finish_word(self, ended: FinishAnswer) -> Optional[int]:
         """The word that finishes a stage, or None where this session has no open claim of it."""
-        return self._replica.word_to_finish(ended)
+        return self._replica.finish_word(ended)
 
     def next_claims(self, ended: Optional[FinishAnswer]) -> Iterator[int]:
         """The stages that this session could claim next, rising: the ready ones, and those that this finish makes

@@ -187,7 +187,7 @@ class ProcessStore(Store):
             self._process, OF_WRITES, f"sets the limit of {self.rows.name_of(timer.request, timer.stage)}", lambda: self.rows.set_timer(timer)
         )
 
-    def timers_due(self, now: float) -> List[Timer]:
+    def due_timers(self, now: float) -> List[Timer]:
         return list(self._process.due_now)
 
     def drop_timer(self, request: str, stage: int, number: int = 0) -> None:

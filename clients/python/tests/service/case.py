@@ -127,7 +127,7 @@ class CoreCase(unittest.TestCase):
         """What is written down of a request is done again by a ledger of its own, which comes to the same."""
         done = [request._stage(number).done() for number in range(request._stages)]
         words, times, names, values, errors = request._facts()
-        ledger = cf.Ledger.of_words(cf.Plan(), list(memoryview(bytes(words)).cast("Q")), len(names))
+        ledger = cf.Ledger.from_words(cf.Plan(), list(memoryview(bytes(words)).cast("Q")), len(names))
         self.assertEqual((len(bytes(words)), ledger.stages()), (len(bytes(times)), len(names)))
         for number, was_done in enumerate(done):
             is_settled = ledger.stage(number).outcome is not None

@@ -57,7 +57,7 @@ class RefusedMemory(unittest.TestCase):
                 first.complete(-6)
                 assert first.result(0) in (-5, -6), first.result(0)
                 words, times, names, values, errors = r._facts()
-                ledger = cf.Ledger.of_words(cf.Plan(), list(words), len(names))
+                ledger = cf.Ledger.from_words(cf.Plan(), list(words), len(names))
                 assert (ledger.stages(), len(words)) == (len(names), len(times))
                 r._run(3)
                 assert seen.result(0) in (5, 6)

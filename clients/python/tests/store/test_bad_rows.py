@@ -94,7 +94,7 @@ class BadRows(Case):
             service = self.service(takes_all=True)
             self.until(lambda: service.broken)
             self.assertEqual(service.request("good").supply(f.slow, 0.2).result(20), os.getpid())
-        self.assertEqual(len(store.timers_due(1.0)), 1)
+        self.assertEqual(len(store.due_timers(1.0)), 1)
         store.close()
 
 

@@ -125,12 +125,12 @@ class Stores(Case):
                 timers = [Timer(self.name, k, now + k - 1, b"%d" % k) for k in range(3)]
                 for timer in timers:
                     store.set_timer(timer)
-                mine = [it for it in store.timers_due(now) if it.request == self.name]
+                mine = [it for it in store.due_timers(now) if it.request == self.name]
                 self.assertEqual([(it.stage, it.payload) for it in mine], [(0, b"0"), (1, b"1")])
                 store.drop_timer(self.name, 0)
-                self.assertEqual([it.stage for it in store.timers_due(now) if it.request == self.name], [1])
+                self.assertEqual([it.stage for it in store.due_timers(now) if it.request == self.name], [1])
                 store.end(self.name, 0)
-                self.assertEqual([it for it in store.timers_due(now + 9) if it.request == self.name], [])
+                self.assertEqual([it for it in store.due_timers(now + 9) if it.request == self.name], [])
                 store.drop(self.name)
                 store.close()
 
@@ -208,9 +208,9 @@ class Stores(Case):
                 self.assertEqual(store.read(name, 1, number), [])
                 self.assertIn(name, store.ends())
                 store.set_timer(Timer(name, 3, 1.0, b"N", number))
-                self.assertEqual([it for it in store.timers_due(2.0) if it.request == name], [Timer(name, 3, 1.0, b"N", number)])
+                self.assertEqual([it for it in store.due_timers(2.0) if it.request == name], [Timer(name, 3, 1.0, b"N", number)])
                 store.drop_timer(name, 3, number)
-                self.assertEqual([it for it in store.timers_due(2.0) if it.request == name], [])
+                self.assertEqual([it for it in store.due_timers(2.0) if it.request == name], [])
                 store.end(name, 1, number)
                 self.assertNotIn(name, store.ends())
                 store.drop(name)

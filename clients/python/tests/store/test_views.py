@@ -152,14 +152,14 @@ class Views(Case):
         for each in (one, two):
             self.assertEqual((each.claims(), each.open_claims(), each.stages_held_by(100), each.stages_held_by(164)), ({1: 100}, {1: 100}, [1], []))
             self.assertEqual([each.holder(stage) for stage in (0, 1)], [None, 100])
-            self.assertEqual([each.word_to_abandon(100, 0), each.word_to_abandon(164, 1)], [None, None])
-        fails = two.word_to_abandon(100, 1)
+            self.assertEqual([each.abandon_word(100, 0), each.abandon_word(164, 1)], [None, None])
+        fails = two.abandon_word(100, 1)
         self.assertEqual(fails, FAIL << 56 | 36 << 48 | 1 << 36 | two.next_place)
         done, _ = two.act(lambda view: [(fails, b"{}")])
         self.assertEqual(done[0].reply[0], 1)
         one.catch_up()
         for each in (one, two):
-            self.assertEqual((each.claims(), each.open_claims(), each.stages_held_by(100), each.word_to_abandon(100, 1)), ({1: 100}, {}, [], None))
+            self.assertEqual((each.claims(), each.open_claims(), each.stages_held_by(100), each.abandon_word(100, 1)), ({1: 100}, {}, [], None))
         one.act(lambda view: [(FINISH << 56 | view.caller_number << 48 | 1 << 36, None)])
         self.assertEqual((one.claims(), one.holder(1)), ({}, None))
 

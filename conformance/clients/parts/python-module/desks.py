@@ -50,9 +50,9 @@ class Noted:
             told = make()
         except cf.Refused as refused:
             name = refused.code.name.title().replace("_", "")
-            self.lines.append(Line("no", self.caller.events_seen(), call, name))
+            self.lines.append(Line("no", self.caller.seen_count(), call, name))
             raise
-        self.lines.append(Line(kind, self.caller.events_seen(), call, say(told)))
+        self.lines.append(Line(kind, self.caller.seen_count(), call, say(told)))
         return told
 
     def change(self, call):
@@ -68,7 +68,7 @@ class Noted:
 
     def ready(self):
         told = self.caller.ready()
-        self.asked.append((self.caller.events_seen(), told))
+        self.asked.append((self.caller.seen_count(), told))
         return told
 
     def function(self, stage):
@@ -198,9 +198,9 @@ class Run:
     def meet(self):
         """Between two rounds, two callers meet."""
         one, other = (noted.caller for noted in self.rng.sample(self.noted, 2))
-        longer = max(one.events_seen(), other.events_seen())
+        longer = max(one.seen_count(), other.seen_count())
         one.meet(other)
-        compare("what two callers have seen that met", (one.events_seen(), other.events_seen()), (longer, longer))
+        compare("what two callers have seen that met", (one.seen_count(), other.seen_count()), (longer, longer))
 
 
 def wrong_openings(plan, sizes):
@@ -355,7 +355,7 @@ def end_of(caller):
     functions = []
     while functions[-1:] != [("refused", "NO_STAGE")]:
         functions.append(told_or_refused(lambda: caller.function(len(functions))))
-    return caller.events_seen(), caller.records_left(), functions
+    return caller.seen_count(), caller.records_left(), functions
 
 
 def judge(script, sizes, plan, noted, ends, closed):

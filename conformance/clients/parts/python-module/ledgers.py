@@ -44,7 +44,7 @@ def compare_all(ledger, words, states):
 def misfit_of(plan, words, room):
     """Where words are refused, and why."""
     try:
-        cf.Ledger.of_words(plan, words, room).close()
+        cf.Ledger.from_words(plan, words, room).close()
         return None
     except cf.Misfit as misfit:
         return (misfit.place, misfit.code.name)
@@ -79,7 +79,7 @@ def run(seed, script, sizes, plan, calls_of, refusal, seen):
         words.append(word)
         states.append(new)
     compare_all(ledger, words, states)
-    with cf.Ledger.of_words(plan, words, room) as again:
+    with cf.Ledger.from_words(plan, words, room) as again:
         compare_all(again, words, states)
     place = rng.randrange(len(words) + 1)
     wrong = rng.choice(NO_WORDS)
