@@ -64,7 +64,7 @@ def reply_text(event, reply):
 
 def report_of(history):
     """What `cf run` has to print of a history's script: the replies, and what stages hold in the end."""
-    last = dict(history.start())
+    last = dict(history.settled_at_start())
     for entry in history.entries():
         last.update(entry.told)
     lines = [reply_text(entry.event, entry.reply) for entry in history.entries()]

@@ -80,14 +80,14 @@ class Worker(Process):
         pick, form = random.Random(int(desk.name) * 4096 + stage).random(), FORMS[desk.forms[stage][0]]
 
         def finish(desk):
-            payload = json.dumps({"at": desk.place, "by": self.session, "stage": stage, "reply": reply}).encode()
+            payload = json.dumps({"at": desk.next_place, "by": self.session, "stage": stage, "reply": reply}).encode()
             if form == "compose":
                 return word(FINISH, desk, stage, LINKS << 32 | int(pick * stage)), None
             if pick < 0.1:
-                return word(FINISH, desk, stage, THROWS << 32 | desk.place), payload
+                return word(FINISH, desk, stage, THROWS << 32 | desk.next_place), payload
             if pick < 0.15:
                 return word(FINISH, desk, stage), None
-            return word(FINISH, desk, stage, GIVES << 32 | desk.place), payload
+            return word(FINISH, desk, stage, GIVES << 32 | desk.next_place), payload
 
         return finish
 
@@ -114,7 +114,7 @@ class Worker(Process):
         pick, stage = rng.random(), rng.randrange(many)
 
         def put(kind, stage, said, tag=0):
-            desk.act(lambda desk: [(word(kind, desk, stage, tag << 32 | desk.place), json.dumps({"at": desk.place, **said}).encode())])
+            desk.act(lambda desk: [(word(kind, desk, stage, tag << 32 | desk.next_place), json.dumps({"at": desk.next_place, **said}).encode())])
 
         sources = [k for k in range(many) if not desk.forms[k][0] and not desk.is_settled(k)]
         if sources and pick < 0.6:
@@ -152,7 +152,7 @@ class Worker(Process):
                 def decide(desk, stage=stage, session=session):
                     fails = desk.abandon_word(session, stage)
                     if fails is not None:
-                        return [(fails, json.dumps({"at": desk.place, "abandoned": session}).encode())]
+                        return [(fails, json.dumps({"at": desk.next_place, "abandoned": session}).encode())]
                     return None
 
                 if desk.act(decide)[0]:
