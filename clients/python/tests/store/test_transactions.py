@@ -15,7 +15,7 @@ from case import Case, STORES
 import shared_functions as f
 from cf.service import Flow
 from cf.service.words import CLAIM
-from cf.store import connect, DurableService, Functions, Memory, Put, service as shared_service, sqlite as shared_sqlite, Unknown
+from cf.store import connect, DurableService, Functions, Memory, Put, service as shared_service, sqlite as shared_sqlite, StoreError, Unknown
 
 
 class Effects(Memory):
@@ -266,6 +266,24 @@ class Transactions(Case):
                 self.assertIsNone(paying.request(self.name).supply(pay).result(20))
             rows = paying.store._ask("select count(*) from lost where name = %s", self.name)
             self.assertEqual((rows, len(called)), ([(1,)], 2))
+
+    def test_a_transaction_that_cant_be_begun_is_begun_again_after_a_while(self):
+        functions, refused = Functions(), [StoreError("it can only be read")] * 2
+        function = functions.function("f", transactional=True)(lambda connection: 7)
+        service = DurableService(connect(self.address), 1, functions=functions)
+        self.services.append(service)
+        real = service.store.transaction
+
+        def transaction():
+            if refused:
+                raise refused.pop()
+            return real()
+
+        with unittest.mock.patch.object(service.store, "transaction", transaction), unittest.mock.patch.object(type(service._host), "rest") as rests:
+            with self.assertLogs("cf.store", "WARNING") as logs:
+                self.assertEqual(service.request("r").supply(function).result(20), 7)
+        self.assertEqual([call.args for call in rests.mock_calls], [(service._stops, 0.5)] * 2)
+        self.assertEqual({it.getMessage() for it in logs.records}, {"request 'r', stage 0: it can only be read"})
 
 
 class KilledTransactions(Case):

@@ -23,7 +23,7 @@ import unittest.mock
 from pathlib import Path
 from urllib.parse import urlencode
 
-from case import Case, CLIENT
+from case import Case, CLIENT, EMPTY
 import shared_functions as f
 from cf.service import Flow
 from cf.store import Broken, connect, DurableService, Functions, Memory, new_session, Put, RowView, StoreError, Unknown
@@ -695,6 +695,27 @@ class Lists(WebCase):
         service.request("r").end()
         next(it for it in listed if not it["rows"])
         next(it for it in shown if it["state"] == "closed")
+
+    def test_how_often_changes_are_sent(self):
+        """What the store is asked for is sent less often than a list."""
+        store, rests, streams = Memory(), {}, []
+        store.open("r", EMPTY)
+
+        def sleep(seconds):
+            rests.setdefault(threading.get_ident(), []).append(seconds)
+            time.sleep(0.01)
+
+        self.page_over(store)
+        with unittest.mock.patch.object(server, "time", wraps=time) as clock:
+            clock.sleep.side_effect = sleep
+            for many, view in enumerate(("requests", "request"), 1):
+                streams.append(self.live(view=view, name="r"))
+                next(streams[-1])
+                self.until(lambda many=many: len(rests) == many)
+        listed, shown = rests.values()
+        self.assertGreaterEqual(min(listed), server.AT_FIRST)
+        self.assertLess(min(listed), server.BETWEEN_ASKED)
+        self.assertGreaterEqual(min(shown), server.BETWEEN_ASKED)
 
     def live(self, **given):
         connection = http.client.HTTPConnection("127.0.0.1", self.port, timeout=20)
