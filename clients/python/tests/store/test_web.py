@@ -700,16 +700,24 @@ class Lists(WebCase):
 
     def test_how_often_changes_are_sent(self):
         """What the store is asked for is sent less often than a list."""
-        for view, least in [("requests", server.AT_FIRST), ("request", server.BETWEEN_ASKED)]:
-            store, rests = Memory(), []
-            store.open("r", EMPTY)
-            with unittest.mock.patch.object(server, "time", wraps=time) as clock:
-                clock.sleep.side_effect = lambda seconds, rests=rests: rests.append(seconds) or time.sleep(0.01)
-                self.page_over(store)
-                next(self.live(view=view, name="r"))
-                self.until(lambda rests=rests: rests)
-            self.assertGreaterEqual(min(rests), least)
-            self.assertEqual(min(rests) < server.BETWEEN_ASKED, view == "requests", rests)
+        store, rests, streams = Memory(), {}, []
+        store.open("r", EMPTY)
+
+        def sleep(seconds):
+            rests.setdefault(threading.get_ident(), []).append(seconds)
+            time.sleep(0.01)
+
+        self.page_over(store)
+        with unittest.mock.patch.object(server, "time", wraps=time) as clock:
+            clock.sleep.side_effect = sleep
+            for many, view in enumerate(("requests", "request"), 1):
+                streams.append(self.live(view=view, name="r"))
+                next(streams[-1])
+                self.until(lambda many=many: len(rests) == many)
+        listed, shown = rests.values()
+        self.assertGreaterEqual(min(listed), server.AT_FIRST)
+        self.assertLess(min(listed), server.BETWEEN_ASKED)
+        self.assertGreaterEqual(min(shown), server.BETWEEN_ASKED)
 
     def live(self, **given):
         connection = http.client.HTTPConnection("127.0.0.1", self.port, timeout=20)
