@@ -1,6 +1,6 @@
 //! What time it is, and who rings when it is later.
 use crate::core::Core;
-use crate::spawn::{guarded, in_drop, quietly};
+use crate::spawn::{catch_panic, run_in_drop, swallow_panic};
 use std::cmp::{self, Reverse};
 use std::collections::BinaryHeap;
 use std::fmt;
@@ -23,8 +23,8 @@ use std::time::{Duration, Instant};
 ///     fn now(&self) -> Duration {
 ///         SystemClock.now() * 10
 ///     }
-///     fn after(&self, wait: Duration, alarm: Alarm) {
-///         SystemClock.after(wait / 10, alarm)
+///     fn ring_after(&self, wait: Duration, alarm: Alarm) {
+///         SystemClock.ring_after(wait / 10, alarm)
 ///     }
 /// }
 ///
@@ -37,7 +37,7 @@ pub trait Clock: Send + Sync + 'static {
 
     /// Rings the alarm after a while. It must not ring it before it returns. A request asks for one alarm at a time, up to the first of its
     /// timeouts, and for an earlier one where an earlier timeout comes; the one before isn't wanted any more then ([`Alarm::is_wanted`]).
-    fn after(&self, wait: Duration, alarm: Alarm);
+    fn ring_after(&self, wait: Duration, alarm: Alarm);
 
     /// Whether it is the computer's own, which requests read by themselves.
     #[doc(hidden)]
@@ -55,7 +55,7 @@ pub trait Clock: Send + Sync + 'static {
 ///     fn now(&self) -> std::time::Duration {
 ///         std::time::Duration::ZERO
 ///     }
-///     fn after(&self, _wait: std::time::Duration, alarm: cf::Alarm) {
+///     fn ring_after(&self, _wait: std::time::Duration, alarm: cf::Alarm) {
 ///         drop(alarm);
 ///     }
 /// }
@@ -80,7 +80,7 @@ impl Alarm {
     ///     fn now(&self) -> std::time::Duration {
     ///         std::time::Duration::ZERO
     ///     }
-    ///     fn after(&self, _wait: std::time::Duration, alarm: cf::Alarm) {
+    ///     fn ring_after(&self, _wait: std::time::Duration, alarm: cf::Alarm) {
     ///         std::thread::spawn(move || alarm.ring());
     ///     }
     /// }
@@ -89,12 +89,12 @@ impl Alarm {
     /// ```
     pub fn ring(mut self) {
         if let Some(core) = std::mem::take(&mut self.core).upgrade() {
-            core.rung(self.number);
+            core.ring_alarm(self.number);
         }
     }
 
     /// Lets it be that this moment never comes.
-    pub(crate) fn never(mut self) {
+    pub(crate) fn forget(mut self) {
         self.core = Weak::new();
     }
 
@@ -113,7 +113,7 @@ impl Alarm {
 impl Drop for Alarm {
     fn drop(&mut self) {
         if let Some(core) = self.core.upgrade() {
-            in_drop(|| core.never_rung(self.number));
+            run_in_drop(|| core.give_up_alarm(self.number));
         }
     }
 }
@@ -139,17 +139,17 @@ pub struct SystemClock;
 impl Clock for SystemClock {
     #[inline]
     fn now(&self) -> Duration {
-        begun().elapsed()
+        first_moment().elapsed()
     }
 
     fn is_system(&self) -> bool {
         true
     }
 
-    fn after(&self, wait: Duration, alarm: Alarm) {
+    fn ring_after(&self, wait: Duration, alarm: Alarm) {
         let at = match self.now().checked_add(wait) {
             Some(at) => at,
-            None => return alarm.never(),
+            None => return alarm.forget(),
         };
         let mut held = ALARMS.lock();
         held.start_ringer();
@@ -161,13 +161,13 @@ impl Clock for SystemClock {
             ALARMS.came.notify_one();
         }
         if is_full {
-            sweep();
+            drop_unwanted();
         }
     }
 }
 
 /// The moment from which the system's clock counts.
-fn begun() -> Instant {
+fn first_moment() -> Instant {
     thread_local! {
         static BEGUN: Instant = first();
     }
@@ -179,7 +179,7 @@ fn begun() -> Instant {
 }
 
 /// Starts the thread of the computer's clock, if the system has refused it before.
-pub(crate) fn try_again() {
+pub(crate) fn retry_ringer() {
     if ALARMS.is_refused.load(Ordering::Relaxed) {
         ALARMS.lock().start_ringer();
     }
@@ -228,45 +228,45 @@ impl Ringers {
     }
 
     fn start_ringer(&mut self) {
-        self.has_ringer = self.has_ringer || start(ring);
+        self.has_ringer = self.has_ringer || start_thread(ring_alarms);
         ALARMS.is_refused.store(!self.has_ringer, Ordering::Relaxed);
     }
 }
 
 /// Alarms, of which the first that rings is at hand.
 struct Due {
-    alarms: BinaryHeap<Reverse<Rings>>,
+    alarms: BinaryHeap<Reverse<DueAlarm>>,
     number: u64,
     /// Above how many alarms those are left out whose stages need none any more.
     sweep: usize,
 }
 
 /// An alarm, and the moment at which it rings. Of one moment, the one rings first that came first.
-struct Rings {
+struct DueAlarm {
     at: Duration,
     number: u64,
     alarm: Alarm,
 }
 
-impl Ord for Rings {
-    fn cmp(&self, other: &Rings) -> cmp::Ordering {
+impl Ord for DueAlarm {
+    fn cmp(&self, other: &DueAlarm) -> cmp::Ordering {
         (self.at, self.number).cmp(&(other.at, other.number))
     }
 }
 
-impl PartialOrd for Rings {
-    fn partial_cmp(&self, other: &Rings) -> Option<cmp::Ordering> {
+impl PartialOrd for DueAlarm {
+    fn partial_cmp(&self, other: &DueAlarm) -> Option<cmp::Ordering> {
         Some(self.cmp(other))
     }
 }
 
-impl PartialEq for Rings {
-    fn eq(&self, other: &Rings) -> bool {
+impl PartialEq for DueAlarm {
+    fn eq(&self, other: &DueAlarm) -> bool {
         self.cmp(other).is_eq()
     }
 }
 
-impl Eq for Rings {}
+impl Eq for DueAlarm {}
 
 impl Due {
     fn new() -> Due {
@@ -274,21 +274,21 @@ impl Due {
     }
 
     /// The moment of the first.
-    fn first(&self) -> Option<Duration> {
+    fn first_moment(&self) -> Option<Duration> {
         self.alarms.peek().map(|Reverse(first)| first.at)
     }
 
     /// Whether the alarm is the first that rings now.
     fn add(&mut self, at: Duration, alarm: Alarm) -> bool {
-        let is_first = self.first().map_or(true, |first| at < first);
+        let is_first = self.first_moment().map_or(true, |first| at < first);
         self.number += 1;
-        self.alarms.push(Reverse(Rings { at, number: self.number, alarm }));
+        self.alarms.push(Reverse(DueAlarm { at, number: self.number, alarm }));
         is_first
     }
 
     /// The first, if its moment has come, or how long that takes.
-    fn take(&mut self, now: Duration) -> Result<Alarm, Option<Duration>> {
-        match self.first() {
+    fn take_due(&mut self, now: Duration) -> Result<Alarm, Option<Duration>> {
+        match self.first_moment() {
             Some(first) if first <= now => self.alarms.pop().map(|Reverse(first)| first.alarm).ok_or(None),
             first => Err(first.map(|first| first - now)),
         }
@@ -301,7 +301,7 @@ fn lock<T>(held: &Mutex<T>) -> MutexGuard<'_, T> {
 
 /// Leaves out alarms that nobody wants. They are asked and dropped without the lock, since a request may end with that; a `Drop` that panics
 /// takes no other alarm along.
-fn sweep() {
+fn drop_unwanted() {
     let alarms = std::mem::take(&mut ALARMS.lock().due().alarms);
     let is_wanted = |alarm: &Alarm| catch_unwind(AssertUnwindSafe(|| alarm.is_wanted())).unwrap_or(false);
     let (wanted, unwanted): (Vec<_>, Vec<_>) = alarms.into_iter().partition(|Reverse(rings)| is_wanted(&rings.alarm));
@@ -312,26 +312,26 @@ fn sweep() {
     drop(held);
     ALARMS.came.notify_one();
     for rings in unwanted {
-        quietly(|| drop(rings));
+        swallow_panic(|| drop(rings));
     }
 }
 
 /// Starts a thread of the clock, if the system does.
-fn start(act: fn()) -> bool {
+fn start_thread(act: fn()) -> bool {
     thread::Builder::new().name("cf clock".into()).spawn(act).is_ok()
 }
 
 /// Rings each alarm at its moment, without the lock, until another thread does so in its place.
-fn ring() {
+fn ring_alarms() {
     let mut held = ALARMS.lock();
     let ringer = held.ringer;
     while held.ringer == ringer {
-        match held.due().take(SystemClock.now()) {
+        match held.due().take_due(SystemClock.now()) {
             Ok(alarm) => {
                 held.rung += 1;
                 held.is_ringing = true;
                 if !held.has_spare {
-                    held.has_spare = start(stand_by);
+                    held.has_spare = start_thread(stand_by);
                 }
                 let watches = held.watches;
                 drop(held);
@@ -339,7 +339,7 @@ fn ring() {
                     ALARMS.rings.notify_one();
                 }
                 // A waker that panics doesn't stop the clock.
-                quietly(|| alarm.ring());
+                swallow_panic(|| alarm.ring());
                 held = ALARMS.lock();
                 held.is_ringing = held.ringer != ringer && held.is_ringing;
             }
@@ -363,7 +363,7 @@ fn stand_by() {
             held.ringer += 1;
             (held.is_ringing, held.has_spare) = (false, false);
             drop(held);
-            return ring();
+            return ring_alarms();
         }
     }
 }
@@ -416,11 +416,11 @@ impl HandClock {
         loop {
             let mut held = self.lock();
             let (now, due) = &mut *held;
-            *now = due.first().map_or(end, |first| first.min(end)).max(*now);
-            let next = due.take(*now);
+            *now = due.first_moment().map_or(end, |first| first.min(end)).max(*now);
+            let next = due.take_due(*now);
             drop(held);
             match next {
-                Ok(alarm) => guarded(&mut panicked, || alarm.ring()),
+                Ok(alarm) => catch_panic(&mut panicked, || alarm.ring()),
                 Err(_) => break,
             };
         }
@@ -451,11 +451,11 @@ impl Clock for HandClock {
         self.lock().0
     }
 
-    fn after(&self, wait: Duration, alarm: Alarm) {
+    fn ring_after(&self, wait: Duration, alarm: Alarm) {
         let mut held = self.lock();
         match held.0.checked_add(wait) {
             Some(at) => drop(held.1.add(at, alarm)),
-            None => alarm.never(),
+            None => alarm.forget(),
         }
     }
 }
@@ -471,7 +471,7 @@ mod tests {
         let request = Request::new("swept", Inline);
         let stage = request.promise::<i32>().or_timeout(Duration::from_millis(300));
         let held = request.0.lock();
-        let sweeps = thread::spawn(sweep);
+        let sweeps = thread::spawn(drop_unwanted);
         thread::sleep(Duration::from_millis(50));
         ALARMS.came.notify_all();
         thread::sleep(Duration::from_millis(50));
@@ -486,7 +486,7 @@ mod tests {
         let request = Request::new("swept", Inline);
         let stage = request.promise::<i32>().or_timeout(Duration::from_secs(3600));
         let held = request.0.lock();
-        let sweeps = thread::spawn(sweep);
+        let sweeps = thread::spawn(drop_unwanted);
         thread::sleep(Duration::from_millis(50));
         let came = Request::new("came", Inline).promise::<i32>().or_timeout(Duration::from_millis(300));
         drop(held);

@@ -69,7 +69,7 @@ impl Spawn for Tasks {
             RuntimeFlavor::MultiThread => StandIn::Tokio,
             _ => StandIn::Nobody,
         };
-        self.runtime.spawn(async move { stands_in.during(|| job.run()) });
+        self.runtime.spawn(async move { stands_in.stand_in_during(|| job.run()) });
         Ok(())
     }
 
@@ -114,7 +114,7 @@ impl Clock for TokioClock {
         self.begun.elapsed()
     }
 
-    fn after(&self, wait: Duration, alarm: Alarm) {
+    fn ring_after(&self, wait: Duration, alarm: Alarm) {
         let (core, number) = (alarm.core.clone(), alarm.number);
         let task = self.runtime.spawn(async move {
             tokio::time::sleep(wait).await;

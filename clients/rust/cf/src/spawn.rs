@@ -15,30 +15,30 @@ use std::time::Duration;
 pub(crate) type Payload = Box<dyn Any + Send>;
 
 /// Does it, and keeps what it panics with, unless something is kept. A payload that panics as it is dropped is let go.
-pub(crate) fn guarded<T>(panicked: &mut Option<Payload>, act: impl FnOnce() -> T) -> Option<T> {
+pub(crate) fn catch_panic<T>(panicked: &mut Option<Payload>, act: impl FnOnce() -> T) -> Option<T> {
     match catch_unwind(AssertUnwindSafe(act)) {
         Ok(did) => return Some(did),
         Err(payload) if panicked.is_none() => *panicked = Some(payload),
-        Err(payload) => forget(payload),
+        Err(payload) => forget_payload(payload),
     }
     None
 }
 
 /// Does it on a thread that goes on, whatever it panics with.
-pub(crate) fn quietly(act: impl FnOnce()) {
-    catch_unwind(AssertUnwindSafe(act)).unwrap_or_else(forget);
+pub(crate) fn swallow_panic(act: impl FnOnce()) {
+    catch_unwind(AssertUnwindSafe(act)).unwrap_or_else(forget_payload);
 }
 
 /// Does it in a `Drop`: what it panics with goes on, unless the thread unwinds already. Then one more panic would end the process.
-pub(crate) fn in_drop(act: impl FnOnce()) {
+pub(crate) fn run_in_drop(act: impl FnOnce()) {
     if thread::panicking() {
-        quietly(act);
+        swallow_panic(act);
     } else {
         act();
     }
 }
 
-fn forget(payload: Payload) {
+fn forget_payload(payload: Payload) {
     if let Err(again) = catch_unwind(AssertUnwindSafe(|| drop(payload))) {
         std::mem::forget(again);
     }
@@ -46,9 +46,9 @@ fn forget(payload: Payload) {
 
 /// A turn of a request's work: it runs functions that are ready, one after the other, or polls the future of one. [`Spawn`] has an example.
 /// One that is dropped lets what it would have run fail with [`Refusal::Closed`](crate::Refusal::Closed).
-pub struct Job(Option<Turn>);
+pub struct Job(Option<JobKind>);
 
-pub(crate) enum Turn {
+pub(crate) enum JobKind {
     Work(Arc<Core>),
     Poll(Arc<Polling>),
 }
@@ -57,26 +57,26 @@ impl Drop for Job {
     fn drop(&mut self) {
         match self.0.take() {
             None => {}
-            Some(Turn::Work(core)) => in_drop(|| in_turn(&REFUSED, core, |core| core.refuse())),
-            Some(Turn::Poll(polling)) => in_drop(|| polling.refuse()),
+            Some(JobKind::Work(core)) => run_in_drop(|| do_in_turn(&REFUSED, core, |core| core.refuse_ready())),
+            Some(JobKind::Poll(polling)) => run_in_drop(|| polling.refuse_stage()),
         }
     }
 }
 
 impl Job {
-    pub(crate) fn new(turn: Turn) -> Job {
+    pub(crate) fn new(turn: JobKind) -> Job {
         Job(Some(turn))
     }
 
     /// What it is to do.
     #[cfg(feature = "testing")]
-    pub(crate) fn turn(&self) -> Option<&Turn> {
+    pub(crate) fn kind(&self) -> Option<&JobKind> {
         self.0.as_ref()
     }
 
     /// Takes over what it is to do.
     #[cfg(feature = "testing")]
-    pub(crate) fn into_turn(mut self) -> Option<Turn> {
+    pub(crate) fn into_kind(mut self) -> Option<JobKind> {
         self.0.take()
     }
 
@@ -96,8 +96,8 @@ impl Job {
         let turn = self.0.take();
         as_worker(|who| match turn {
             None => {}
-            Some(Turn::Work(core)) => core.work(who, Core::TURN),
-            Some(Turn::Poll(polling)) => polling.poll(),
+            Some(JobKind::Work(core)) => core.work(who, Core::TURN),
+            Some(JobKind::Poll(polling)) => polling.poll(),
         });
     }
 }
@@ -105,7 +105,7 @@ impl Job {
 impl fmt::Debug for Job {
     fn fmt(&self, f: &mut fmt::Formatter<'_>) -> fmt::Result {
         match &self.0 {
-            Some(Turn::Work(core)) => write!(f, "Job(functions of {:?})", core.name),
+            Some(JobKind::Work(core)) => write!(f, "Job(functions of {:?})", core.name),
             _ => f.write_str("Job(a future)"),
         }
     }
@@ -211,14 +211,14 @@ pub(crate) enum StandIn {
     /// The thread itself has to, as far as that goes.
     Nobody,
     /// A spare thread of a pool.
-    Pool(Arc<Shared>),
+    Pool(Arc<PoolState>),
     /// A thread of tokio, to which the runtime hands over.
     #[cfg(feature = "tokio")]
     Tokio,
 }
 
 impl StandIn {
-    pub(crate) fn here() -> StandIn {
+    pub(crate) fn current() -> StandIn {
         STANDS_IN.try_with(|stands_in| stands_in.borrow().clone()).unwrap_or(StandIn::Nobody)
     }
 
@@ -245,7 +245,7 @@ impl StandIn {
     }
 
     /// Does something on a thread for which this one stands in as long as that takes.
-    pub(crate) fn during(self, act: impl FnOnce()) {
+    pub(crate) fn stand_in_during(self, act: impl FnOnce()) {
         struct Back(StandIn);
         impl Drop for Back {
             fn drop(&mut self) {
@@ -261,7 +261,7 @@ impl StandIn {
 /// A thread that does nothing but wait. The jobs that it is in aren't counted, so that others are asked for, and its pool may start a spare one.
 pub(crate) struct Resting {
     cores: Vec<Arc<Core>>,
-    pool: Option<Arc<Shared>>,
+    pool: Option<Arc<PoolState>>,
     /// Whether somebody else runs what is ready meanwhile.
     pub(crate) is_stood_in: bool,
 }
@@ -272,19 +272,19 @@ impl Resting {
         let cores: Vec<Arc<Core>> = RUNNING.try_with(counted).unwrap_or_default();
         let (pool, is_stood_in) = match stands_in {
             StandIn::Nobody => (None, false),
-            StandIn::Pool(pool) => (Some(Arc::clone(pool)), pool.rests()),
+            StandIn::Pool(pool) => (Some(Arc::clone(pool)), pool.begin_rest()),
             #[cfg(feature = "tokio")]
             StandIn::Tokio => (None, true),
         };
         let resting = Resting { cores, pool, is_stood_in };
-        resting.cores.iter().for_each(Core::rests);
+        resting.cores.iter().for_each(Core::begin_rest);
         resting
     }
 }
 
 impl Drop for Resting {
     fn drop(&mut self) {
-        self.cores.iter().for_each(|core| core.goes_on());
+        self.cores.iter().for_each(|core| core.end_rest());
         if let Some(pool) = &self.pool {
             pool.lock().running += 1;
         }
@@ -292,7 +292,7 @@ impl Drop for Resting {
 }
 
 /// The number of this thread as a worker: the next of all when it runs its first job, round and round.
-pub(crate) fn worker() -> u8 {
+pub(crate) fn worker_number() -> u8 {
     static NEXT: AtomicUsize = AtomicUsize::new(0);
     WORKER.with(|worker| {
         if worker.get() == CALLER {
@@ -304,13 +304,13 @@ pub(crate) fn worker() -> u8 {
 }
 
 /// Who this thread is to a request that it calls.
-pub(crate) fn here() -> u8 {
+pub(crate) fn caller_number() -> u8 {
     HERE.with(Cell::get)
 }
 
 /// Does something as a worker.
 pub(crate) fn as_worker<T>(act: impl FnOnce(u8) -> T) -> T {
-    let who = worker();
+    let who = worker_number();
     as_caller(who, || act(who))
 }
 
@@ -327,7 +327,7 @@ pub(crate) fn as_caller<T>(who: u8, act: impl FnOnce() -> T) -> T {
 }
 
 /// Lets it be known that this thread runs functions of a request, by a job that is counted or otherwise, until what is given back is dropped.
-pub(crate) fn running(core: &Arc<Core>, is_job: bool) -> Running {
+pub(crate) fn mark_running(core: &Arc<Core>, is_job: bool) -> Running {
     let _ = RUNNING.try_with(|running| running.borrow_mut().push((Arc::clone(core), is_job)));
     Running
 }
@@ -342,12 +342,12 @@ impl Drop for Running {
 }
 
 /// The requests whose functions this thread is running, the innermost last.
-pub(crate) fn run_here() -> Vec<Arc<Core>> {
+pub(crate) fn requests_run_here() -> Vec<Arc<Core>> {
     RUNNING.try_with(|running| running.borrow().iter().map(|it| Arc::clone(&it.0)).collect()).unwrap_or_default()
 }
 
 /// What comes while the like of it is done waits here for its end, so that the stack stays flat.
-pub(crate) struct Row<T>(RefCell<Waiting<T>>);
+pub(crate) struct TurnQueue<T>(RefCell<Waiting<T>>);
 
 struct Waiting<T> {
     /// Whether one is done at present.
@@ -355,9 +355,9 @@ struct Waiting<T> {
     next: Option<VecDeque<T>>,
 }
 
-impl<T> Row<T> {
-    pub(crate) const fn new() -> Row<T> {
-        Row(RefCell::new(Waiting { is_taken: false, next: None }))
+impl<T> TurnQueue<T> {
+    pub(crate) const fn new() -> TurnQueue<T> {
+        TurnQueue(RefCell::new(Waiting { is_taken: false, next: None }))
     }
 
     /// The next that has come; or none, and then none is done.
@@ -376,12 +376,12 @@ impl<T> Row<T> {
 }
 
 thread_local! {
-    static INLINE: Row<Job> = const { Row::new() };
-    static REFUSED: Row<Arc<Core>> = const { Row::new() };
+    static INLINE: TurnQueue<Job> = const { TurnQueue::new() };
+    static REFUSED: TurnQueue<Arc<Core>> = const { TurnQueue::new() };
 }
 
 /// Does it, and what comes meanwhile, one after another. One that panics doesn't keep the others from being done.
-pub(crate) fn in_turn<T>(row: &'static LocalKey<Row<T>>, first: T, act: impl Fn(T)) {
+pub(crate) fn do_in_turn<T>(row: &'static LocalKey<TurnQueue<T>>, first: T, act: impl Fn(T)) {
     let mut first = Some(first);
     // A thread that ends has no row any more, and does what comes at once.
     let _ = row.try_with(|row| {
@@ -392,7 +392,7 @@ pub(crate) fn in_turn<T>(row: &'static LocalKey<Row<T>>, first: T, act: impl Fn(
     });
     let mut panicked = None;
     if let Some(first) = first {
-        take_turn(row, || act(first), &act, &mut panicked);
+        do_turns(row, || act(first), &act, &mut panicked);
     }
     if let Some(payload) = panicked {
         resume_unwind(payload);
@@ -400,11 +400,11 @@ pub(crate) fn in_turn<T>(row: &'static LocalKey<Row<T>>, first: T, act: impl Fn(
 }
 
 /// The same, where nothing of the row is done at present.
-fn take_turn<T>(row: &'static LocalKey<Row<T>>, first: impl FnOnce(), act: impl Fn(T), panicked: &mut Option<Payload>) {
+fn do_turns<T>(row: &'static LocalKey<TurnQueue<T>>, first: impl FnOnce(), act: impl Fn(T), panicked: &mut Option<Payload>) {
     let _ = row.try_with(|row| row.0.borrow_mut().is_taken = true);
-    guarded(panicked, first);
-    while let Some(next) = row.try_with(Row::pop).ok().flatten() {
-        guarded(panicked, || act(next));
+    catch_panic(panicked, first);
+    while let Some(next) = row.try_with(TurnQueue::pop).ok().flatten() {
+        catch_panic(panicked, || act(next));
     }
 }
 
@@ -414,8 +414,8 @@ pub(crate) fn is_inline_free() -> bool {
 }
 
 /// Runs this as a job of [`Inline`], which is free, and then the jobs that came meanwhile.
-pub(crate) fn inline(job: impl FnOnce(), panicked: &mut Option<Payload>) {
-    take_turn(&INLINE, job, Job::run, panicked);
+pub(crate) fn run_inline(job: impl FnOnce(), panicked: &mut Option<Payload>) {
+    do_turns(&INLINE, job, Job::run, panicked);
 }
 
 /// Runs each function at once, on the thread by which its stage became ready, and polls a future on the thread that wakes it: one whose waker
@@ -431,7 +431,7 @@ pub struct Inline;
 
 impl Spawn for Inline {
     fn spawn(&self, job: Job) -> Result<(), Job> {
-        in_turn(&INLINE, job, Job::run);
+        do_in_turn(&INLINE, job, Job::run);
         Ok(())
     }
 
@@ -457,10 +457,10 @@ impl Spawn for Inline {
 pub struct Pool(Arc<Threads>);
 
 #[derive(Debug)]
-struct Threads(Arc<Shared>);
+struct Threads(Arc<PoolState>);
 
 #[derive(Debug)]
-pub(crate) struct Shared {
+pub(crate) struct PoolState {
     queue: Mutex<Queue>,
     came: Condvar,
     /// How many jobs run at a time.
@@ -481,15 +481,15 @@ struct Queue {
 /// How long a spare thread stays that has nothing to do.
 const SPARE: Duration = Duration::from_secs(1);
 
-impl Shared {
+impl PoolState {
     fn lock(&self) -> MutexGuard<'_, Queue> {
         self.queue.lock().unwrap_or_else(PoisonError::into_inner)
     }
 
     /// Starts a thread more, unless the system refuses it. The next job that comes tries again.
-    fn start(self: &Arc<Shared>, queue: &mut Queue) -> bool {
+    fn start_thread(self: &Arc<PoolState>, queue: &mut Queue) -> bool {
         let shared = Arc::clone(self);
-        let serves = move || StandIn::Pool(Arc::clone(&shared)).during(|| shared.serve());
+        let serves = move || StandIn::Pool(Arc::clone(&shared)).stand_in_during(|| shared.run_jobs());
         let started = thread::Builder::new().name(format!("cf {}", queue.threads.len())).spawn(serves);
         queue.idle += usize::from(started.is_ok());
         let is_started = started.is_ok();
@@ -499,16 +499,16 @@ impl Shared {
 
     /// Sees to it that a thread comes for each job that may run now: one that is idle has to be woken, or one is started. Whether one is to be
     /// woken; an error where none comes.
-    fn hire(self: &Arc<Shared>, queue: &mut Queue) -> Result<bool, ()> {
+    fn hire(self: &Arc<PoolState>, queue: &mut Queue) -> Result<bool, ()> {
         let wanted = queue.jobs.len().min(self.most.saturating_sub(queue.running));
-        if wanted > queue.idle && !self.start(queue) && queue.running == 0 && queue.idle == 0 {
+        if wanted > queue.idle && !self.start_thread(queue) && queue.running == 0 && queue.idle == 0 {
             return Err(());
         }
         Ok(wanted > 0)
     }
 
     /// A thread rests in its job, so another may run one. Whether there is one for what is queued.
-    fn rests(self: &Arc<Shared>) -> bool {
+    fn begin_rest(self: &Arc<PoolState>) -> bool {
         let mut queue = self.lock();
         queue.running -= 1;
         let hired = self.hire(&mut queue);
@@ -519,7 +519,7 @@ impl Shared {
         hired.is_ok()
     }
 
-    fn serve(&self) {
+    fn run_jobs(&self) {
         let mut queue = self.lock();
         loop {
             let next = if queue.running < self.most { queue.jobs.pop_front() } else { None };
@@ -528,7 +528,7 @@ impl Shared {
                 queue.running += 1;
                 drop(queue);
                 // A waker that panics doesn't end the thread.
-                quietly(|| job.run());
+                swallow_panic(|| job.run());
                 queue = self.lock();
                 queue.running -= 1;
                 queue.idle += 1;
@@ -561,9 +561,9 @@ impl Pool {
     /// assert_eq!(cf::Spawn::parallelism(&pool), 2);
     /// ```
     pub fn new(threads: usize) -> Pool {
-        let shared = Arc::new(Shared { queue: Mutex::default(), came: Condvar::new(), most: threads.max(1) });
+        let shared = Arc::new(PoolState { queue: Mutex::default(), came: Condvar::new(), most: threads.max(1) });
         let mut queue = shared.lock();
-        let _ = (0..shared.most).all(|_| shared.start(&mut queue));
+        let _ = (0..shared.most).all(|_| shared.start_thread(&mut queue));
         drop(queue);
         Pool(Arc::new(Threads(shared)))
     }

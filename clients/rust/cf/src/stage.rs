@@ -36,13 +36,13 @@
 //!
 //! 1. The clock is asked what time it is. Then the lock is taken.
 //! 2. The machine does one word, settles the relays that follow a stage that is settled now, and tells all that it has settled.
-//!    `Inner::show` takes that: of each stage the slot is written, its function is kept for dropping, and its wakers are taken.
+//!    `Inner::show_settled` takes that: of each stage the slot is written, its function is kept for dropping, and its wakers are taken.
 //!    Polls read slots under the same lock, so whoever is told an outcome can also see the outcomes of all earlier words.
 //! 3. `Inner::cancel_relays` cancels relays that nobody needs any more, each by a word, which may settle more.
 //! 4. `Inner::hire` asks for one job, if the machine has more ready stages than jobs are coming, and fewer jobs run than may.
-//! 5. Where `Inline` would begin the job at once, it is begun under the same hold (`Core::begin_here`): the thread claims the
+//! 5. Where `Inline` would begin the job at once, it is begun under the same hold (`Core::begin_inline`): the thread claims the
 //!    stage, and runs the job in the place where the executor would.
-//! 6. The lock is given back. `Core::tell` tells what came of it, in this order: the clock is asked for an alarm, jobs go to the
+//! 6. The lock is given back. `Core::tell_all` tells what came of it, in this order: the clock is asked for an alarm, jobs go to the
 //!    executor, wakers are called, futures of settled stages are dropped, relays of other requests are settled, relays are hung
 //!    on other requests' stages or taken off, and at last values and functions are dropped. A relay of another request is a
 //!    change there; what it has yet to tell of further requests is added to this list, so a row of requests takes no stack.
@@ -65,7 +65,7 @@
 //! isn't counted (`Resting`), and a pool may start a spare thread.
 //!
 //! **Relays.** A stage of another request can't be a source. A *relay* takes its place: a source of this request that is
-//! settled as that stage is. `Core::feed` hangs it there. That stage then keeps this request alive until either is settled; so
+//! settled as that stage is. `Core::feed_relay` hangs it there. That stage then keeps this request alive until either is settled; so
 //! a relay that was made for one stage alone is cancelled once that is settled (`let_go`). A composing stage has a relay right
 //! below it. Its finish links to the stage that its function gave, where that is a lower one of the request, and else to the
 //! relay.
@@ -73,7 +73,7 @@
 //! **Deadlines.** The machine keeps them, by moments in nanoseconds since the request began, and settles by the caller `CLOCK`
 //! what is due. A stage's `Limit`s say what it gets then: a value, or an error with the while that it had. The request asks its
 //! clock for one `Alarm` at a time, at the first deadline (`Awaited`), and for another where an earlier deadline comes.
-//! `Core::rung` lets time pass up to the alarm's moment, and asks for the next one. An alarm keeps no request alive. It is
+//! `Core::ring_alarm` lets time pass up to the alarm's moment, and asks for the next one. An alarm keeps no request alive. It is
 //! wanted until it is rung, another is asked for, or all stages that have deadlines are settled. One that is wanted and dropped
 //! lets these stages fail with `Refusal::NoClock`.
 //!
@@ -81,18 +81,18 @@
 //! there is none. Where there is none, the call gives a handle of a stage that has failed with `Refusal::Full`: its `at` is an
 //! error, and nothing was attached.
 //!
-//! **Which code calls a user's.** `Core::work` and `Core::help_by` (a stage's function), `Polling::poll` (a future), `Core::tell` (wakers, and the
-//! `Drop` of values, functions, errors and futures), `Core::spawn` (`Spawn::spawn`), `Core::now` and `Core::tell` (`Clock`),
+//! **Which code calls a user's.** `Core::work` and `Core::help_by` (a stage's function), `Polling::poll` (a future), `Core::tell_all` (wakers, and the
+//! `Drop` of values, functions, errors and futures), `Core::spawn` (`Spawn::spawn`), `Core::now` and `Core::tell_all` (`Clock`),
 //! `Core::poll` (cloning and dropping a waker), and histories and `Debug` (`Describe`, `Display` of errors).
 use crate::core::Core;
-use crate::describe::escaped;
+use crate::describe::escape_text;
 use crate::error::{BoxError, Error, Refusal};
 use crate::help::Helper;
 use crate::name::Made;
-use crate::request::{later, Request};
-use crate::spawn::{here, in_drop, Resting, StandIn, CALLER};
-use crate::value::{self, Call, Gave, Given, Val};
-use crate::word::Form;
+use crate::request::{await_future, Request};
+use crate::spawn::{caller_number, run_in_drop, Resting, StandIn, CALLER};
+use crate::value::{self, CallArgs, Returned, StageFn, Val};
+use crate::word::WordForm;
 use sealed::Sealed;
 use std::borrow::Cow;
 use std::fmt;
@@ -122,34 +122,34 @@ use std::time::{Duration, Instant};
 pub struct Stage<T> {
     pub(crate) core: Arc<Core>,
     pub(crate) at: Result<u16, Refusal>,
-    waits: Waits,
+    waits: KeptWaker,
     of: PhantomData<fn() -> T>,
 }
 
 /// Where the waker of a handle is kept, once that has waited: its request, its stage, and the place. It is forgotten with the handle.
-struct Waits(Option<(Arc<Core>, u16, u32)>);
+struct KeptWaker(Option<(Arc<Core>, u16, u32)>);
 
-impl Waits {
+impl KeptWaker {
     #[cold]
-    fn forget(&mut self) {
+    fn forget_now(&mut self) {
         if let Some((core, number, place)) = self.0.take() {
-            core.forget(number, place);
+            core.forget_waker(number, place);
         }
     }
 }
 
-impl Drop for Waits {
+impl Drop for KeptWaker {
     #[inline]
     fn drop(&mut self) {
         if self.0.is_some() {
-            self.forget();
+            self.forget_now();
         }
     }
 }
 
 impl<T> Stage<T> {
     pub(crate) fn new(core: &Arc<Core>, at: Result<u16, Refusal>) -> Stage<T> {
-        Stage { core: Arc::clone(core), at, waits: Waits(None), of: PhantomData }
+        Stage { core: Arc::clone(core), at, waits: KeptWaker(None), of: PhantomData }
     }
 
     /// Its number in the request's history. A stage that was refused has none.
@@ -193,19 +193,19 @@ impl<T> Stage<T> {
     /// assert!(!request.promise::<u32>().is_settled());
     /// ```
     pub fn is_settled(&self) -> bool {
-        self.reads();
+        self.tell_watch_of_read();
         self.at.map_or(true, |number| self.core.lock().slot(number).is_settled())
     }
 
     /// Lets who watches the request be told that somebody reads the stage.
     #[inline]
-    fn reads(&self) {
+    fn tell_watch_of_read(&self) {
         #[cfg(feature = "testing")]
-        self.at.into_iter().for_each(|number| self.core.watched(|watch| watch.read(number)));
+        self.at.into_iter().for_each(|number| self.core.tell_watch(|watch| watch.note_read(number)));
     }
 
-    fn told(&self) -> Option<Result<Val, Error>> {
-        self.reads();
+    fn end_if_settled(&self) -> Option<Result<Val, Error>> {
+        self.tell_watch_of_read();
         match self.at {
             Ok(number) => self.core.peek(number),
             Err(why) => Some(Err(why.into())),
@@ -222,7 +222,7 @@ impl<T> Stage<T> {
     /// assert_eq!(price.wait().unwrap_err().to_string(), "no stock");
     /// ```
     pub fn fail(&self, error: impl Into<BoxError>) -> bool {
-        self.at.map_or(false, |number| self.core.settle(here(), number, Err(Error::of(error.into()))).is_ok())
+        self.at.map_or(false, |number| self.core.settle(caller_number(), number, Err(Error::from_boxed(error.into()))).is_ok())
     }
 
     /// Cancels it, unless it is settled; whether it is cancelled then. A function that runs isn't stopped, its answer comes too late; a
@@ -235,7 +235,7 @@ impl<T> Stage<T> {
     /// assert!(price.wait().unwrap_err().is_cancelled());
     /// ```
     pub fn cancel(&self) -> bool {
-        self.at.map_or(false, |number| self.core.settle(here(), number, Err(Error::Cancelled)).is_ok())
+        self.at.map_or(false, |number| self.core.settle(caller_number(), number, Err(Error::Cancelled)).is_ok())
     }
 
     /// Cancels the stage when this is dropped. It is a future as the stage is.
@@ -262,7 +262,7 @@ impl<T> Stage<T> {
     /// ```
     pub fn or_timeout(self, wait: Duration) -> Stage<T> {
         if let Ok(number) = self.at {
-            self.core.limit(number, wait, None);
+            self.core.set_limit(number, wait, None);
         }
         self
     }
@@ -277,12 +277,12 @@ impl<T> Stage<T> {
     /// assert_eq!(told.blamed(), price.number());
     /// ```
     pub fn blamed(&self) -> Option<u16> {
-        self.reads();
+        self.tell_watch_of_read();
         self.core.lock().slot(self.at.ok()?).blamed()
     }
 
     pub(crate) fn poll_value(&mut self, cx: &mut Context<'_>) -> Poll<Result<Val, Error>> {
-        self.reads();
+        self.tell_watch_of_read();
         let number = match self.at {
             Ok(number) => number,
             Err(why) => return Poll::Ready(Err(why.into())),
@@ -298,22 +298,22 @@ impl<T> Stage<T> {
     fn wait_value(&self, wait: Option<Duration>) -> Option<Result<Val, Error>> {
         // A function may wait, and somebody else goes on with its runtime if that can be.
         #[cfg(feature = "tokio")]
-        if here() == CALLER && wait != Some(Duration::ZERO) {
+        if caller_number() == CALLER && wait != Some(Duration::ZERO) {
             crate::runtime::may_block();
         }
-        if let Some(told) = self.told() {
+        if let Some(told) = self.end_if_settled() {
             return Some(told);
         }
         let stage = self.at.ok()?;
         #[cfg(feature = "testing")]
-        if self.core.watch.as_ref().map_or(false, |watch| watch.wait(&self.core, stage, wait)) {
-            return self.told();
+        if self.core.watch.as_ref().map_or(false, |watch| watch.wait_for_stage(&self.core, stage, wait)) {
+            return self.end_if_settled();
         }
         let until = wait.and_then(|wait| Instant::now().checked_add(wait));
         let parked = Arc::new(Parked { thread: thread::current(), is_woken: AtomicBool::new(false) });
         let waker = Waker::from(Arc::clone(&parked));
         let mut waiting = self.clone();
-        let (mut context, mut helper, stands_in) = (Context::from_waker(&waker), Helper::new(&waker), StandIn::here());
+        let (mut context, mut helper, stands_in) = (Context::from_waker(&waker), Helper::new(&waker), StandIn::current());
         loop {
             if let Poll::Ready(told) = waiting.poll_value(&mut context) {
                 return Some(told);
@@ -322,53 +322,53 @@ impl<T> Stage<T> {
             crate::search::turn();
             // How long a function takes isn't known, so none is begun where the wait has to end at a moment.
             let may_help = until.is_none() && stands_in.may_help();
-            if may_help && helper.helps(&self.core, stage, stands_in.is_there()) {
+            if may_help && helper.help_stage(&self.core, stage, stands_in.is_there()) {
                 continue;
             }
-            let resting = (here() != CALLER).then(|| Resting::new(&stands_in));
+            let resting = (caller_number() != CALLER).then(|| Resting::new(&stands_in));
             let is_alone = stands_in.is_there() && resting.as_ref().map_or(false, |resting| !resting.is_stood_in);
-            if may_help && is_alone && helper.helps(&self.core, stage, false) {
+            if may_help && is_alone && helper.help_stage(&self.core, stage, false) {
                 continue;
             }
             if !stands_in.rest(|| parked.rest(until)) {
-                return self.told();
+                return self.end_if_settled();
             }
         }
     }
 
-    pub(crate) fn gave(self) -> Gave {
+    pub(crate) fn into_returned(self) -> Returned {
         match self.at {
-            Ok(number) => Gave::Stage(Arc::clone(&self.core), number),
-            Err(why) => Gave::Error(why.into()),
+            Ok(number) => Returned::Stage(Arc::clone(&self.core), number),
+            Err(why) => Returned::Error(why.into()),
         }
     }
 
     // Attaching.
 
-    pub(crate) fn behind<U>(self, form: Form, call: Call, made: Made) -> Stage<U> {
+    pub(crate) fn attach_behind<U>(self, form: WordForm, call: StageFn, made: Made) -> Stage<U> {
         let Stage { core, at, waits, .. } = self;
-        let at = behind(&core, at, form, call, made);
+        let at = attach_behind(&core, at, form, call, made);
         drop(waits);
-        Stage { core, at, waits: Waits(None), of: PhantomData }
+        Stage { core, at, waits: KeptWaker(None), of: PhantomData }
     }
 
-    fn behind_both<O: Send + Sync + 'static, U>(&self, form: Form, other: &Stage<O>, call: Call, made: Made) -> Stage<U> {
-        let other = self.at.map(|_| other.adopted(&self.request()));
+    fn attach_behind_both<O: Send + Sync + 'static, U>(&self, form: WordForm, other: &Stage<O>, call: StageFn, made: Made) -> Stage<U> {
+        let other = self.at.map(|_| other.adopt_into(&self.request()));
         let both = self.at.and_then(|first| Ok([first, other?.at?]));
-        let at = both.and_then(|of| self.core.attach(here(), form, &of, Some(call), made));
+        let at = both.and_then(|of| self.core.attach(caller_number(), form, &of, Some(call), made));
         let relay = other.ok().filter(|other| other.is_relay).and_then(|other| other.at.ok());
-        self.core.let_go(at, relay.into_iter().collect());
+        self.core.cancel_relays_with(at, relay.into_iter().collect());
         Stage::new(&self.core, at)
     }
 
-    fn composing<U>(&self, form: Form, call: Call, made: Made) -> Stage<U> {
-        Stage::new(&self.core, self.at.and_then(|number| self.core.attach_composing(here(), form, number, call, made)))
+    fn attach_composing<U>(&self, form: WordForm, call: StageFn, made: Made) -> Stage<U> {
+        Stage::new(&self.core, self.at.and_then(|number| self.core.attach_composing(caller_number(), form, number, call, made)))
     }
 }
 
 /// A stage of this form behind one.
-fn behind(core: &Arc<Core>, at: Result<u16, Refusal>, form: Form, call: Call, made: Made) -> Result<u16, Refusal> {
-    core.attach(here(), form, &[at?], Some(call), made)
+fn attach_behind(core: &Arc<Core>, at: Result<u16, Refusal>, form: WordForm, call: StageFn, made: Made) -> Result<u16, Refusal> {
+    core.attach(caller_number(), form, &[at?], Some(call), made)
 }
 
 /// What wakes a thread that waits.
@@ -421,7 +421,7 @@ impl<T: Send + Sync + 'static> Stage<T> {
         F: FnOnce(&T) -> U + Send + 'static,
         U: Send + Sync + 'static,
     {
-        self.behind(Form::Apply, Box::new(move |given| Gave::value(f(given.one()))), Made::by::<F>())
+        self.attach_behind(WordForm::Apply, Box::new(move |given| Returned::from_value(f(given.one()))), Made::of_function::<F>())
     }
 
     /// What the function gives of the value, or its error.
@@ -438,8 +438,8 @@ impl<T: Send + Sync + 'static> Stage<T> {
         U: Send + Sync + 'static,
         E: Into<BoxError>,
     {
-        let call = move |given: &Given| Gave::result(f(given.one()).map_err(|error| Error::of(error.into())));
-        self.behind(Form::Apply, Box::new(call), Made::by::<F>())
+        let call = move |given: &CallArgs| Returned::from_result(f(given.one()).map_err(|error| Error::from_boxed(error.into())));
+        self.attach_behind(WordForm::Apply, Box::new(call), Made::of_function::<F>())
     }
 
     /// What the future gives that the function makes of the value. A stage that is cancelled or times out drops it.
@@ -457,7 +457,7 @@ impl<T: Send + Sync + 'static> Stage<T> {
         U: Send + Sync + 'static,
         E: Into<BoxError>,
     {
-        self.behind(Form::Apply, Box::new(move |given| later(f(given.arc()))), Made::by::<F>())
+        self.attach_behind(WordForm::Apply, Box::new(move |given| await_future(f(given.arc()))), Made::of_function::<F>())
     }
 
     /// What the stage gives that the function makes of the value: a stage of this request or another. It takes two stages of the request.
@@ -474,7 +474,7 @@ impl<T: Send + Sync + 'static> Stage<T> {
         F: FnOnce(&T) -> Stage<U> + Send + 'static,
         U: Send + Sync + 'static,
     {
-        self.composing(Form::Compose, Box::new(move |given| f(given.one()).gave()), Made::by::<F>())
+        self.attach_composing(WordForm::Compose, Box::new(move |given| f(given.one()).into_returned()), Made::of_function::<F>())
     }
 
     /// What the function gives of both values. The other stage may be another request's, for which this one takes a stage more.
@@ -491,11 +491,11 @@ impl<T: Send + Sync + 'static> Stage<T> {
         O: Send + Sync + 'static,
         U: Send + Sync + 'static,
     {
-        let call = move |given: &Given| {
+        let call = move |given: &CallArgs| {
             let (first, second) = given.two();
-            Gave::value(f(first, second))
+            Returned::from_value(f(first, second))
         };
-        self.behind_both(Form::Combine, other, Box::new(call), Made::by::<F>())
+        self.attach_behind_both(WordForm::Combine, other, Box::new(call), Made::of_function::<F>())
     }
 
     /// What the function gives of the value that is there first. Where the first that is settled failed, so does this.
@@ -511,7 +511,7 @@ impl<T: Send + Sync + 'static> Stage<T> {
         F: FnOnce(&T) -> U + Send + 'static,
         U: Send + Sync + 'static,
     {
-        self.behind_both(Form::ApplyEither, other, Box::new(move |given| Gave::value(f(given.one()))), Made::by::<F>())
+        self.attach_behind_both(WordForm::ApplyEither, other, Box::new(move |given| Returned::from_value(f(given.one()))), Made::of_function::<F>())
     }
 
     /// What the function gives of the value or the error.
@@ -527,7 +527,11 @@ impl<T: Send + Sync + 'static> Stage<T> {
         F: FnOnce(Result<&T, &Error>) -> U + Send + 'static,
         U: Send + Sync + 'static,
     {
-        self.behind(Form::Handle, Box::new(move |given| Gave::value(f(given.got().map(value::of)))), Made::by::<F>())
+        self.attach_behind(
+            WordForm::Handle,
+            Box::new(move |given| Returned::from_value(f(given.outcome().map(value::downcast_ref)))),
+            Made::of_function::<F>(),
+        )
     }
 
     /// The same value or error, once the function was called with it. A panic of the function counts where there was a value.
@@ -542,11 +546,11 @@ impl<T: Send + Sync + 'static> Stage<T> {
     where
         F: FnOnce(Result<&T, &Error>) + Send + 'static,
     {
-        let call = move |given: &Given| {
-            f(given.got().map(value::of));
-            Gave::Value(Val::Nil)
+        let call = move |given: &CallArgs| {
+            f(given.outcome().map(value::downcast_ref));
+            Returned::Value(Val::Nil)
         };
-        self.behind(Form::WhenComplete, Box::new(call), Made::by::<F>())
+        self.attach_behind(WordForm::WhenComplete, Box::new(call), Made::of_function::<F>())
     }
 
     /// The value, or what the function gives of the error.
@@ -561,11 +565,11 @@ impl<T: Send + Sync + 'static> Stage<T> {
     where
         F: FnOnce(&Error) -> T + Send + 'static,
     {
-        let call = move |given: &Given| match given.got() {
-            Ok(value) => Gave::Value(value.clone()),
-            Err(error) => Gave::value(f(error)),
+        let call = move |given: &CallArgs| match given.outcome() {
+            Ok(value) => Returned::Value(value.clone()),
+            Err(error) => Returned::from_value(f(error)),
         };
-        self.behind(Form::Exceptionally, Box::new(call), Made::by::<F>())
+        self.attach_behind(WordForm::Exceptionally, Box::new(call), Made::of_function::<F>())
     }
 
     /// The value, or what the stage gives that the function makes of the error. It takes two stages of the request.
@@ -581,11 +585,11 @@ impl<T: Send + Sync + 'static> Stage<T> {
     where
         F: FnOnce(&Error) -> Stage<T> + Send + 'static,
     {
-        let call = move |given: &Given| match given.got() {
-            Ok(value) => Gave::Value(value.clone()),
-            Err(error) => f(error).gave(),
+        let call = move |given: &CallArgs| match given.outcome() {
+            Ok(value) => Returned::Value(value.clone()),
+            Err(error) => f(error).into_returned(),
         };
-        self.composing(Form::ExceptionallyCompose, Box::new(call), Made::by::<F>())
+        self.attach_composing(WordForm::ExceptionallyCompose, Box::new(call), Made::of_function::<F>())
     }
 
     // Who settles it.
@@ -607,10 +611,10 @@ impl<T: Send + Sync + 'static> Stage<T> {
             Ok(number) => number,
             Err(_) => return Err(value),
         };
-        match self.core.settle(here(), number, Ok(Val::of(value))) {
+        match self.core.settle(caller_number(), number, Ok(Val::new(value))) {
             Ok(()) => Ok(()),
             Err(back) => {
-                let back: Arc<T> = value::arc_of(back.unwrap_or_else(|_| unreachable!("a value was handed in")));
+                let back: Arc<T> = value::downcast_arc(back.unwrap_or_else(|_| unreachable!("a value was handed in")));
                 Err(Arc::try_unwrap(back).unwrap_or_else(|back| unreachable!("{} others have seen it", Arc::strong_count(&back))))
             }
         }
@@ -625,7 +629,7 @@ impl<T: Send + Sync + 'static> Stage<T> {
     /// ```
     pub fn complete_on_timeout(self, value: T, wait: Duration) -> Stage<T> {
         if let Ok(number) = self.at {
-            self.core.limit(number, wait, Some(Val::of(value)));
+            self.core.set_limit(number, wait, Some(Val::new(value)));
         }
         self
     }
@@ -639,7 +643,7 @@ impl<T: Send + Sync + 'static> Stage<T> {
     /// assert_eq!(*request.supply(|| 49).peek_arc().unwrap().unwrap(), 49);
     /// ```
     pub fn peek_arc(&self) -> Option<Result<Arc<T>, Error>> {
-        self.told().map(|told| told.map(value::arc_of))
+        self.end_if_settled().map(|told| told.map(value::downcast_arc))
     }
 
     /// Blocks the thread until it is settled, for values that can't be cloned, as [`wait`](Stage::wait) does.
@@ -658,7 +662,7 @@ impl<T: Send + Sync + 'static> Stage<T> {
     /// assert_eq!(request.supply(|| Large(49)).wait_arc().unwrap().0, 49);
     /// ```
     pub fn wait_arc(&self) -> Result<Arc<T>, Error> {
-        self.wait_value(None).unwrap_or(Err(Error::BadAnswer)).map(value::arc_of)
+        self.wait_value(None).unwrap_or(Err(Error::BadAnswer)).map(value::downcast_arc)
     }
 
     /// A future of the value behind an `Arc`, for values that can't be cloned.
@@ -683,7 +687,7 @@ impl<T: Clone + Send + Sync + 'static> Stage<T> {
     /// assert_eq!(request.supply(|| 49).peek().unwrap().unwrap(), 49);
     /// ```
     pub fn peek(&self) -> Option<Result<T, Error>> {
-        self.told().map(cloned)
+        self.end_if_settled().map(clone_value)
     }
 
     /// Blocks the thread until it is settled. Where a function calls this, its thread runs what the stage needs, and a pool starts a spare thread
@@ -703,7 +707,7 @@ impl<T: Clone + Send + Sync + 'static> Stage<T> {
     /// assert_eq!(request.supply(|| 49).wait().unwrap(), 49);
     /// ```
     pub fn wait(&self) -> Result<T, Error> {
-        self.wait_value(None).map_or(Err(Error::BadAnswer), cloned)
+        self.wait_value(None).map_or(Err(Error::BadAnswer), clone_value)
     }
 
     /// Blocks the thread until it is settled, but no longer than this: None where it isn't then. The stage goes on. The thread runs no function
@@ -720,19 +724,19 @@ impl<T: Clone + Send + Sync + 'static> Stage<T> {
     /// ```
     #[must_use = "None says that it isn't settled"]
     pub fn wait_timeout(&self, wait: Duration) -> Option<Result<T, Error>> {
-        self.wait_value(Some(wait)).map(cloned)
+        self.wait_value(Some(wait)).map(clone_value)
     }
 }
 
-fn cloned<T: Clone + 'static>(told: Result<Val, Error>) -> Result<T, Error> {
-    told.map(|value| value::of::<T>(&value).clone())
+fn clone_value<T: Clone + 'static>(told: Result<Val, Error>) -> Result<T, Error> {
+    told.map(|value| value::downcast_ref::<T>(&value).clone())
 }
 
 impl<T: Clone + Send + Sync + 'static> Future for Stage<T> {
     type Output = Result<T, Error>;
 
     fn poll(mut self: Pin<&mut Self>, cx: &mut Context<'_>) -> Poll<Self::Output> {
-        self.poll_value(cx).map(cloned)
+        self.poll_value(cx).map(clone_value)
     }
 }
 
@@ -752,7 +756,7 @@ impl<T: Send + Sync + 'static> Future for ArcOf<T> {
     type Output = Result<Arc<T>, Error>;
 
     fn poll(mut self: Pin<&mut Self>, cx: &mut Context<'_>) -> Poll<Self::Output> {
-        self.0.poll_value(cx).map(|told| told.map(value::arc_of))
+        self.0.poll_value(cx).map(|told| told.map(value::downcast_arc))
     }
 }
 
@@ -773,13 +777,13 @@ impl<T: Clone + Send + Sync + 'static> Future for CancelOnDrop<T> {
     type Output = Result<T, Error>;
 
     fn poll(mut self: Pin<&mut Self>, cx: &mut Context<'_>) -> Poll<Self::Output> {
-        self.0.poll_value(cx).map(cloned)
+        self.0.poll_value(cx).map(clone_value)
     }
 }
 
 impl<T> Drop for CancelOnDrop<T> {
     fn drop(&mut self) {
-        in_drop(|| {
+        run_in_drop(|| {
             self.0.cancel();
         });
     }
@@ -798,12 +802,12 @@ impl<T> fmt::Debug for Stage<T> {
             Err(why) => return write!(f, "Stage(refused: {why})"),
         };
         let inner = self.core.lock();
-        let (name, told, describe) = (escaped(&inner.name(number)), inner.told(number), inner.describe.clone());
+        let (name, told, describe) = (escape_text(&inner.name(number)), inner.end_of(number), inner.describe.clone());
         drop(inner);
         match told {
             None => write!(f, "Stage({number} {name}, pending)"),
             Some(Ok(_)) => write!(f, "Stage({number} {name}, value)"),
-            Some(Err(error)) => write!(f, "Stage({number} {name}, error: {})", escaped(&describe.tell(Err(&error)))),
+            Some(Err(error)) => write!(f, "Stage({number} {name}, error: {})", escape_text(&describe.tell(Err(&error)))),
         }
     }
 }
@@ -822,7 +826,7 @@ pub(crate) mod sealed {
 
     pub trait Sealed {
         /// The stage of this request that ends as this one.
-        fn adopted(&self, by: &Request) -> Adopted;
+        fn adopt_into(&self, by: &Request) -> Adopted;
     }
 }
 
@@ -837,7 +841,7 @@ pub(crate) mod sealed {
 pub trait AnyStage: sealed::Sealed {}
 
 impl<T: Send + Sync + 'static> sealed::Sealed for Stage<T> {
-    fn adopted(&self, by: &Request) -> sealed::Adopted {
+    fn adopt_into(&self, by: &Request) -> sealed::Adopted {
         let is_relay = !Arc::ptr_eq(&self.core, &by.0);
         sealed::Adopted { at: if is_relay { by.adopt(self).at } else { self.at }, is_relay }
     }

@@ -253,7 +253,7 @@ impl Clock for Tells {
         Duration::ZERO
     }
 
-    fn after(&self, _wait: Duration, _alarm: Alarm) {}
+    fn ring_after(&self, _wait: Duration, _alarm: Alarm) {}
 }
 
 impl Drop for Tells {

@@ -72,7 +72,7 @@ fn a_late_answer_is_dropped_without_the_lock() {
         reentered_gate.complete(1).unwrap();
         source.complete(2).unwrap();
         assert!(composed.wait().unwrap_err().is_cancelled());
-        assert!(reentered.history().comes_again());
+        assert!(reentered.history().is_reproducible());
     });
 }
 
@@ -160,7 +160,7 @@ fn a_function_settles_its_own_stage() {
                 (0, Ok(7)) | (1, Err(Error::Cancelled)) | (2, Err(Error::Failed(_))) => {}
                 (_, other) => panic!("{other:?}"),
             }
-            assert!(reentered.history().comes_again());
+            assert!(reentered.history().is_reproducible());
         });
     }
 }

@@ -152,7 +152,7 @@ fn it_has_the_histories_with_the_times_of_the_world() {
     let told = failure.histories[0].to_string();
     assert!(told.contains(" 2000.000 ms  clock times out 1 charge"), "{told}");
     assert_eq!((failure.account(0), failure.script(0)), (failure.histories[0].account(), failure.histories[0].script()));
-    assert!(failure.histories[0].comes_again());
+    assert!(failure.histories[0].is_reproducible());
 }
 
 #[test]
@@ -493,7 +493,7 @@ fn what_a_function_reads() {
     let reads: [fn(&Request, &Stage<()>); 3] = [
         |_, stage| assert!(stage.is_settled() || stage.peek().is_none()),
         |_, stage| assert!(stage.peek().map_or(true, |told| told.is_err())),
-        |request, _| assert!(request.history().comes_again()),
+        |request, _| assert!(request.history().is_reproducible()),
     ];
     // A history shows both promises.
     for (read, wanted) in reads.into_iter().zip([2, 2, 4]) {
