@@ -335,8 +335,7 @@ impl Core {
     pub(crate) fn limit(self: &Arc<Core>, stage: u16, wait: Duration, gives: Option<Val>) {
         #[cfg(feature = "testing")]
         self.watched(|watch| watch.limited(self, stage, wait));
-        let late = self.change(|inner, after| inner.limit(stage, wait, gives, after));
-        drop(late);
+        self.change(|inner, after| inner.limit(stage, wait, gives, after));
         // The request asks for an alarm only where it has none that comes first.
         try_again();
     }
