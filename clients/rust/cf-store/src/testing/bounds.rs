@@ -135,3 +135,27 @@ pub(super) const OF_READS: &[Answer] = &[Answer::Told, Answer::Silent];
 pub(super) const OF_WRITES: &[Answer] = &[Answer::Told, Answer::Lost, Answer::Unanswered, Answer::Silent, Answer::SilentStands];
 pub(super) const OF_PUTS: &[Answer] =
     &[Answer::Told, Answer::Lost, Answer::Unanswered, Answer::Late, Answer::Silent, Answer::SilentStands, Answer::SilentLate];
+
+#[cfg(test)]
+mod tests {
+    use super::*;
+
+    #[test]
+    fn what_has_gone_wrong_goes_wrong_once_less() {
+        let all = Bounds { lost: 2, unanswered: 2, late: 2, silent: 2, killed: 2, slow: 2 };
+        let left = [
+            (Answer::Told, all),
+            (Answer::Lost, all.lost(1)),
+            (Answer::Unanswered, all.unanswered(1)),
+            (Answer::Late, all.late(1)),
+            (Answer::Silent, all.silent(1)),
+            (Answer::SilentStands, all.silent(1)),
+            (Answer::SilentLate, all.silent(1).late(1)),
+        ];
+        for (answer, wanted) in left {
+            let mut bounds = all;
+            bounds.take(answer);
+            assert_eq!(bounds, wanted, "{answer:?}");
+        }
+    }
+}
