@@ -160,4 +160,17 @@ mod tests {
         aside.0.note_no_thread();
         assert_eq!((end.recv_timeout(Duration::from_secs(30)), told.load(Ordering::SeqCst)), (Ok(true), 7));
     }
+
+    /// Also where somebody waits for it at once.
+    #[test]
+    fn what_a_thread_can_tell_is_told_by_no_flush() {
+        let here = thread::current().id();
+        let aside = Aside::new(move |by: Arc<AtomicU32>| by.store(1 + u32::from(thread::current().id() == here), Ordering::SeqCst));
+        for _ in 0..20 {
+            let by = Arc::new(AtomicU32::new(0));
+            aside.tell(Arc::clone(&by));
+            assert!(aside.flush(Duration::from_secs(60)));
+            assert_eq!(by.load(Ordering::SeqCst), 1);
+        }
+    }
 }

@@ -464,6 +464,7 @@ impl Clock for HandClock {
 mod tests {
     use super::*;
     use crate::{Inline, Request};
+    use std::thread::ThreadId;
 
     /// The clock finds no alarms while those that nobody wants are left out. It looks again behind that.
     #[test]
@@ -493,5 +494,68 @@ mod tests {
         sweeps.join().unwrap();
         assert!(came.wait_timeout(Duration::from_secs(60)).expect("the alarm is rung").unwrap_err().is_timeout());
         assert!(!stage.is_settled());
+    }
+
+    /// Tells which thread drops it, and panics.
+    struct Ends(Arc<Mutex<Option<ThreadId>>>);
+
+    impl Drop for Ends {
+        fn drop(&mut self) {
+            *lock(&self.0) = Some(thread::current().id());
+            panic!("in a drop");
+        }
+    }
+
+    /// A request with an alarm, and which thread it ends on.
+    fn ends_badly(wait: Duration, is_wanted: bool) -> (Arc<Core>, Arc<Mutex<Option<ThreadId>>>) {
+        let (request, ended) = (Request::new("ends", Inline), Arc::default());
+        assert!(request.promise().complete(Ends(Arc::clone(&ended))).is_ok());
+        let late = request.promise::<i32>().or_timeout(wait);
+        assert!(is_wanted || late.cancel());
+        (Arc::clone(&request.0), ended)
+    }
+
+    /// Comes back once a sweep has so many of a request, and waits for its lock; or if another one was there before.
+    fn is_asked(core: &Arc<Core>, had: usize) {
+        let since = Instant::now();
+        while Arc::strong_count(core) == had && since.elapsed() < Duration::from_secs(2) {
+            thread::yield_now();
+        }
+        thread::sleep(Duration::from_millis(2));
+    }
+
+    /// A request ends while it is asked whether it wants its alarm.
+    #[test]
+    fn an_alarm_is_left_out_whose_request_ends_with_a_panic() {
+        for round in 0.. {
+            let wait = Duration::from_secs(4000 + round);
+            let (core, ended) = ends_badly(wait, true);
+            let held = core.lock();
+            let sweeps = thread::spawn(drop_unwanted);
+            is_asked(&core, 1);
+            drop(held);
+            swallow_panic(|| drop(core));
+            sweeps.join().unwrap();
+            if *lock(&ended) != Some(thread::current().id()) {
+                assert!(!ALARMS.lock().due().alarms.iter().any(|Reverse(rings)| rings.alarm.wait == wait), "it is kept");
+                return;
+            }
+        }
+    }
+
+    /// And one ends as its alarm is dropped, which is no longer wanted.
+    #[test]
+    fn a_sweep_goes_on_where_a_request_ends_with_a_panic() {
+        let (asked_last, (core, _)) = (Request::new("asked last", Inline), ends_badly(Duration::from_secs(3000), false));
+        let _late = asked_last.promise::<i32>().or_timeout(Duration::from_secs(3600));
+        let held = asked_last.0.lock();
+        let sweeps = thread::spawn(drop_unwanted);
+        is_asked(&asked_last.0, Arc::strong_count(&asked_last.0));
+        let last = core.lock();
+        drop(held);
+        is_asked(&core, 1);
+        drop(last);
+        swallow_panic(|| drop(core));
+        assert!(sweeps.join().is_ok());
     }
 }

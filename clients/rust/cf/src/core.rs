@@ -332,8 +332,7 @@ impl Core {
     pub(crate) fn set_limit(self: &Arc<Core>, stage: u16, wait: Duration, gives: Option<Val>) {
         #[cfg(feature = "testing")]
         self.tell_watch(|watch| watch.note_limit(self, stage, wait));
-        let late = self.change(|inner, after| inner.set_limit(stage, wait, gives, after));
-        drop(late);
+        self.change(|inner, after| inner.set_limit(stage, wait, gives, after));
         // The request asks for an alarm only where it has none that comes first.
         retry_ringer();
     }

@@ -209,4 +209,35 @@ mod tests {
         assert_eq!(waited.wait_timeout(LONG).expect("it is woken").unwrap(), 4);
         assert!(relays[0].cancel());
     }
+
+    /// A worker waits for a promise of another request, and asks its own for functions meanwhile.
+    #[test]
+    fn who_waits_no_more_is_forgotten_by_its_own_request() {
+        let [own, other] = ["own", "other"].map(|name| Request::new(name, Threads));
+        let (gate, asked) = (other.promise::<i32>(), [own.clone(), other.clone()]);
+        let waits = gate.clone();
+        let kept = own.supply(move || {
+            waits.wait().unwrap();
+            asked.iter().map(|request| request.0.lock().helpers.len()).collect::<Vec<_>>()
+        });
+        is_awaited(&own);
+        gate.complete(1).unwrap();
+        assert_eq!(kept.wait().unwrap(), [0, 0]);
+    }
+
+    /// One of two workers waits no more.
+    #[test]
+    fn who_still_waits_is_kept() {
+        let request = Request::new("shared", Threads);
+        let gates = [(); 2].map(|()| request.promise::<i32>());
+        let [one, other] = gates.clone().map(|gate| Request::new("waits", Threads).supply(move || gate.wait().unwrap()));
+        let kept = || request.0.lock().helpers.len();
+        while kept() < 2 {
+            thread::yield_now();
+        }
+        gates[0].complete(1).unwrap();
+        assert_eq!((one.wait().unwrap(), kept()), (1, 1));
+        gates[1].complete(2).unwrap();
+        assert_eq!((other.wait().unwrap(), kept()), (2, 0));
+    }
 }

@@ -217,4 +217,10 @@ mod tests {
             assert_eq!(Arc::strong_count(&alive), 1);
         });
     }
+
+    #[test]
+    fn as_many_tasks_as_asked_for_and_at_least_one() {
+        let runtime = tokio::runtime::Builder::new_current_thread().build().unwrap();
+        assert_eq!([0, 1, 2].map(|most| Tasks::new(runtime.handle().clone(), most).parallelism()), [1, 1, 2]);
+    }
 }

@@ -135,3 +135,27 @@ pub(super) const OF_READS: &[CallFate] = &[CallFate::Told, CallFate::Silent];
 pub(super) const OF_WRITES: &[CallFate] = &[CallFate::Told, CallFate::Lost, CallFate::Unanswered, CallFate::Silent, CallFate::SilentStands];
 pub(super) const OF_PUTS: &[CallFate] =
     &[CallFate::Told, CallFate::Lost, CallFate::Unanswered, CallFate::Late, CallFate::Silent, CallFate::SilentStands, CallFate::SilentLate];
+
+#[cfg(test)]
+mod tests {
+    use super::*;
+
+    #[test]
+    fn what_has_gone_wrong_goes_wrong_once_less() {
+        let all = Bounds { lost: 2, unanswered: 2, late: 2, silent: 2, killed: 2, slow: 2 };
+        let left = [
+            (CallFate::Told, all),
+            (CallFate::Lost, all.lost(1)),
+            (CallFate::Unanswered, all.unanswered(1)),
+            (CallFate::Late, all.late(1)),
+            (CallFate::Silent, all.silent(1)),
+            (CallFate::SilentStands, all.silent(1)),
+            (CallFate::SilentLate, all.silent(1).late(1)),
+        ];
+        for (answer, wanted) in left {
+            let mut bounds = all;
+            bounds.count_down(answer);
+            assert_eq!(bounds, wanted, "{answer:?}");
+        }
+    }
+}

@@ -146,3 +146,16 @@ impl Drop for Carriers {
         }
     }
 }
+
+#[cfg(test)]
+mod tests {
+    use super::*;
+
+    #[test]
+    fn a_thread_that_is_given_back_is_used_again() {
+        let mut carriers = Carriers::default();
+        let carrier = carriers.take();
+        carriers.give(Arc::clone(&carrier));
+        assert!(Arc::ptr_eq(&carrier, &carriers.take()));
+    }
+}

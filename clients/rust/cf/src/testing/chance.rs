@@ -112,3 +112,15 @@ impl Guide for Chance {
         Some(best)
     }
 }
+
+#[cfg(test)]
+mod tests {
+    use super::*;
+
+    /// So a seed draws the same orders everywhere.
+    #[test]
+    fn the_numbers_of_a_seed_are_those_of_splitmix() {
+        let mut dice = Dice::new(0);
+        assert_eq!([(); 3].map(|()| dice.roll()), [0xe220_a839_7b1d_cdaf, 0x6e78_9e6a_a1b9_65f4, 0x06c4_5d18_8009_454f]);
+    }
+}

@@ -233,7 +233,7 @@ impl Orders {
     fn in_turn(&self, runner: &mut Runner, report: &mut Report, until: Instant) {
         let (mut tree, at_first) = (Tree::new(runner), AT_FIRST.min(self.most));
         tree.run_some(runner, report, at_first, until, self.failures);
-        if report.whole || report.failed.len() >= self.failures || self.most <= at_first {
+        if report.whole {
             return;
         }
         let now = Instant::now();

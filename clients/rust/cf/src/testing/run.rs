@@ -504,7 +504,6 @@ impl Run {
             }
         }
         let mut state = self.lock();
-        state.is_closed = true;
         let settings = state.settings;
         let closed = std::mem::replace(&mut *state, State::new(settings));
         state.is_closed = true;
