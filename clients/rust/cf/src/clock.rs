@@ -1,4 +1,4 @@
-//! What time it is, and who rings when it is later.
+//! Clocks: the time, and alarms.
 use crate::core::Core;
 use crate::spawn::{catch_panic, run_in_drop, swallow_panic};
 use std::cmp::{self, Reverse};
@@ -10,7 +10,7 @@ use std::sync::{Arc, Condvar, Mutex, MutexGuard, PoisonError, Weak};
 use std::thread;
 use std::time::{Duration, Instant};
 
-/// A clock: times of histories and timeouts go by it. [`SystemClock`] is a computer's, [`HandClock`] is turned by tests.
+/// A clock, by which times of histories and timeouts go. [`SystemClock`] is the computer's; tests turn a [`HandClock`].
 ///
 /// ```
 /// use cf::{Alarm, Clock, Inline, Request, SystemClock};
@@ -32,22 +32,22 @@ use std::time::{Duration, Instant};
 /// assert!(reminder.promise::<u32>().or_timeout(Duration::from_millis(20)).wait().unwrap_err().is_timeout());
 /// ```
 pub trait Clock: Send + Sync + 'static {
-    /// How long it is since a moment of the clock's own. It never goes back. Where it panics, an event has the time of the one before it.
+    /// The time since a moment of the clock's own. It never goes back. If it panics, an event has the time of the one before it.
     fn now(&self) -> Duration;
 
-    /// Rings the alarm after a while. It must not ring it before it returns. A request asks for one alarm at a time, up to the first of its
-    /// timeouts, and for an earlier one where an earlier timeout comes; the one before isn't wanted any more then ([`Alarm::is_wanted`]).
+    /// Rings the alarm after `wait`, but not before it returns. A request asks for one alarm at a time, up to the first of its timeouts. If an earlier
+    /// timeout comes, it asks for an earlier alarm, and the one before isn't wanted any more ([`Alarm::is_wanted`]).
     fn ring_after(&self, wait: Duration, alarm: Alarm);
 
-    /// Whether it is the computer's own, which requests read by themselves.
+    /// Whether it is the computer's own, which requests read directly.
     #[doc(hidden)]
     fn is_system(&self) -> bool {
         false
     }
 }
 
-/// The next timeout of a request, which a [`Clock`] rings. It keeps no request alive. If one is dropped that is wanted, the stages of its request
-/// that have timeouts fail with [`Refusal::NoClock`](crate::Refusal::NoClock), since nothing rings for them any more.
+/// The alarm for a request's next timeout, which a [`Clock`] rings. It doesn't keep the request alive. If a wanted alarm is dropped, the stages with
+/// timeouts fail with [`Refusal::NoClock`](crate::Refusal::NoClock), since nothing rings for them any more.
 ///
 /// ```
 /// struct Stopped;
@@ -65,14 +65,14 @@ pub trait Clock: Send + Sync + 'static {
 /// ```
 pub struct Alarm {
     pub(crate) core: Weak<Core>,
-    /// Which alarm of its request it is.
+    /// The alarm's number in its request.
     pub(crate) number: u64,
     pub(crate) wait: Duration,
 }
 
 impl Alarm {
-    /// Lets it be that moment: the stages whose timeouts have come by then time out or get their values, unless they are settled. The request
-    /// asks its clock for the next alarm first, if there are later timeouts.
+    /// Rings: the open stages whose timeouts have come time out or get their values. If there are later timeouts, the request first asks its clock for
+    /// the next alarm.
     ///
     /// ```
     /// struct AtOnce;
@@ -93,12 +93,12 @@ impl Alarm {
         }
     }
 
-    /// Lets it be that this moment never comes.
+    /// Drops the alarm without failing its stages: its moment never comes.
     pub(crate) fn forget(mut self) {
         self.core = Weak::new();
     }
 
-    /// Whether a stage waits for it. A clock may leave aside alarms that nobody wants.
+    /// Whether a stage waits for it. A clock may drop alarms that aren't wanted.
     ///
     /// ```
     /// fn swept(alarms: &mut Vec<cf::Alarm>) {
@@ -124,9 +124,8 @@ impl fmt::Debug for Alarm {
     }
 }
 
-/// The computer's clock. Its alarms are rung by a thread, which is there from the first timeout on. Where what an alarm runs takes long, such as a
-/// function of an [`Inline`](crate::Inline) request, another thread rings the others. Where the system starts none, the next timeout that is asked
-/// for tries again.
+/// The computer's clock. A thread rings its alarms, from the first timeout on. If an alarm takes long, as by a function of an
+/// [`Inline`](crate::Inline) request, another thread rings the others. If the system refuses the thread, the next timeout tries again.
 ///
 /// ```
 /// use cf::{Clock, SystemClock};
@@ -166,7 +165,7 @@ impl Clock for SystemClock {
     }
 }
 
-/// The moment from which the system's clock counts.
+/// The moment at which the system's clock begins.
 fn first_moment() -> Instant {
     thread_local! {
         static BEGUN: Instant = first();
@@ -178,7 +177,7 @@ fn first_moment() -> Instant {
     BEGUN.try_with(|begun| *begun).unwrap_or_else(|_| first())
 }
 
-/// Starts the thread of the computer's clock, if the system has refused it before.
+/// Tries again to start the thread that rings, if the system has refused it.
 pub(crate) fn retry_ringer() {
     if ALARMS.is_refused.load(Ordering::Relaxed) {
         ALARMS.lock().start_ringer();
@@ -195,17 +194,17 @@ struct Alarms {
     rings: Condvar,
 }
 
-/// The alarms, and the two threads that see to them: the ringer, and one that takes its place where it is kept up.
+/// The alarms, and their two threads: the ringer, and a spare one that takes its place if an alarm takes long.
 struct Ringers {
     due: Option<Due>,
     has_ringer: bool,
     has_spare: bool,
-    /// The spare one looks by itself whether the ringer goes on.
+    /// The spare one watches whether the ringer goes on.
     watches: bool,
     /// The ringer's number: one that was kept up finds another.
     ringer: u64,
     is_ringing: bool,
-    /// How many alarms were rung.
+    /// The number of alarms that were rung.
     rung: u64,
 }
 
@@ -233,15 +232,15 @@ impl Ringers {
     }
 }
 
-/// Alarms, of which the first that rings is at hand.
+/// Alarms by their moments.
 struct Due {
     alarms: BinaryHeap<Reverse<DueAlarm>>,
     number: u64,
-    /// Above how many alarms those are left out whose stages need none any more.
+    /// The number of alarms above which unwanted ones are dropped.
     sweep: usize,
 }
 
-/// An alarm, and the moment at which it rings. Of one moment, the one rings first that came first.
+/// An alarm and its moment. Those of one moment ring in the order in which they came.
 struct DueAlarm {
     at: Duration,
     number: u64,
@@ -273,12 +272,12 @@ impl Due {
         Due { alarms: BinaryHeap::new(), number: 0, sweep: 64 }
     }
 
-    /// The moment of the first.
+    /// The moment of the first alarm.
     fn first_moment(&self) -> Option<Duration> {
         self.alarms.peek().map(|Reverse(first)| first.at)
     }
 
-    /// Whether the alarm is the first that rings now.
+    /// Adds an alarm, and says whether it is the first now.
     fn add(&mut self, at: Duration, alarm: Alarm) -> bool {
         let is_first = self.first_moment().map_or(true, |first| at < first);
         self.number += 1;
@@ -286,7 +285,7 @@ impl Due {
         is_first
     }
 
-    /// The first, if its moment has come, or how long that takes.
+    /// Takes the first alarm if its moment has come; otherwise gives the time until then.
     fn take_due(&mut self, now: Duration) -> Result<Alarm, Option<Duration>> {
         match self.first_moment() {
             Some(first) if first <= now => self.alarms.pop().map(|Reverse(first)| first.alarm).ok_or(None),
@@ -299,8 +298,7 @@ fn lock<T>(held: &Mutex<T>) -> MutexGuard<'_, T> {
     held.lock().unwrap_or_else(PoisonError::into_inner)
 }
 
-/// Leaves out alarms that nobody wants. They are asked and dropped without the lock, since a request may end with that; a `Drop` that panics
-/// takes no other alarm along.
+/// Drops unwanted alarms. It asks and drops them without the lock, since a request may end with that. A `Drop` that panics loses no other alarm.
 fn drop_unwanted() {
     let alarms = std::mem::take(&mut ALARMS.lock().due().alarms);
     let is_wanted = |alarm: &Alarm| catch_unwind(AssertUnwindSafe(|| alarm.is_wanted())).unwrap_or(false);
@@ -316,7 +314,7 @@ fn drop_unwanted() {
     }
 }
 
-/// Starts a thread of the clock, if the system does.
+/// Starts a thread of the clock, unless the system refuses it.
 fn start_thread(act: fn()) -> bool {
     thread::Builder::new().name("cf clock".into()).spawn(act).is_ok()
 }

@@ -31,7 +31,7 @@ use std::sync::Arc;
 pub struct Request(pub(crate) Arc<Core>);
 
 impl Request {
-    /// A request without stages, whose functions are run so: by a [`Pool`](crate::Pool), by [`Inline`](crate::Inline), by an `Arc` of any
+    /// Opens a request without stages, with an executor: by a [`Pool`](crate::Pool), by [`Inline`](crate::Inline), by an `Arc` of any
     /// [`Spawn`]. It takes about a microsecond.
     ///
     /// # Panics
@@ -47,7 +47,7 @@ impl Request {
         Request::with_clock(name, Arc::new(spawn), Arc::new(SystemClock))
     }
 
-    /// The same, whose times and timeouts go by this clock.
+    /// Opens a request whose times and timeouts go by this clock.
     ///
     /// # Panics
     ///
@@ -65,7 +65,7 @@ impl Request {
         Request::try_new(name, spawn, clock, ROOM).expect("a ledger for the request")
     }
 
-    /// The same with room for so many stages at first, 16 otherwise. More room is made as it is wanted, by doing all again; a request of known
+    /// Opens a request with room for this many stages at first, 16 otherwise. More room is made as it is wanted, by doing all again; a request of known
     /// size is quicker without that. A thread keeps machines of requests that ended on it, with the room that they have got, for the next ones:
     /// up to eight, for 512 stages together.
     ///
@@ -83,7 +83,7 @@ impl Request {
         Core::new(name.into(), spawn, clock, room).map(Request)
     }
 
-    /// Its name.
+    /// The request's name.
     ///
     /// ```
     /// assert_eq!(cf::Request::new("basket 3", cf::Inline).name(), "basket 3");
@@ -127,7 +127,7 @@ impl Request {
         self
     }
 
-    /// What the function gives.
+    /// Attaches a stage that calls the function.
     ///
     /// ```
     /// let basket = cf::Request::new("basket 3", cf::Inline);
@@ -142,7 +142,7 @@ impl Request {
         self.attach(WordForm::Supply, &[], Some(Box::new(move |_| Returned::from_value(f()))), Made::of_function::<F>())
     }
 
-    /// What the function gives, or its error.
+    /// Attaches a stage that calls the function, which may fail.
     ///
     /// ```
     /// let basket = cf::Request::new("basket 3", cf::Inline);
@@ -159,7 +159,7 @@ impl Request {
         self.attach(WordForm::Supply, &[], Some(call), Made::of_function::<F>())
     }
 
-    /// What the future gives, or its error. It is polled where functions run; a stage that is cancelled or times out drops it.
+    /// Attaches a stage that polls the future. It is polled where functions run; a stage that is cancelled or times out drops it.
     ///
     /// ```
     /// let basket = cf::Request::new("basket 3", cf::Inline);
@@ -175,7 +175,7 @@ impl Request {
         self.attach(WordForm::Supply, &[], Some(Box::new(move |_| await_future(future))), Made::of_function::<F>())
     }
 
-    /// What somebody completes it with, who has a clone of it.
+    /// Attaches a stage without a function, for any handle of it to complete.
     ///
     /// ```
     /// let basket = cf::Request::new("basket 3", cf::Inline);
@@ -260,7 +260,7 @@ impl Request {
         all
     }
 
-    /// Cancels all that isn't settled, the last stage first.
+    /// Cancels all open stages, the last one first.
     ///
     /// ```
     /// let basket = cf::Request::new("basket 3", cf::Inline);
@@ -300,13 +300,13 @@ impl Request {
         History::new(&self.0)
     }
 
-    /// Lets who watches it be told that somebody looks at all of its stages.
+    /// Tells a test's observer that all stages are looked at.
     fn tell_watch_of_look(&self) {
         #[cfg(feature = "testing")]
         self.0.tell_watch(|watch| watch.note_look(self.0.lock().slots.len()));
     }
 
-    /// A stage of this form behind all of these.
+    /// Attaches a stage of this form behind all of these.
     fn attach_gathering<T: Send + Sync + 'static>(&self, form: cf_graph::Form, row: Vec<Adopted>, made: Made) -> Stage<T> {
         let (_, root) = self.attach_root(form, &row, made);
         self.0.cancel_relays_with(root, relays_of(&row));

@@ -12,9 +12,9 @@
 //! - `Stage` is a handle: the request's `Core`, the stage's number or why there is none, and the place of this handle's
 //!   waker. Clones share the stage and have wakers of their own.
 //! - `Core` (core.rs) is the request: its executor, its clock, and one mutex.
-//! - `Inner` (inner.rs) stands under that mutex. It has the `Ledger` (the library's machine, and the `Record` of the moments of
+//! - `Inner` (inner.rs) stands under that mutex. It has the `Ledger` (the library's machine, and the `EventTimes` of the moments of
 //!   events), a `Slot` for each stage, `Extra`s for the few stages that have more: a future that is polled, relays; and the
-//!   `Limit`s of stages.
+//!   `StageLimit`s of stages.
 //! - A `Slot` (slot.rs) holds the stage's function until that is claimed, and then what the function gave: a value or an
 //!   error. It also holds what the machine told. A value's number in words is that of the stage that gave it, and so is an
 //!   error's; stages behind it hold the number alone.
@@ -66,13 +66,13 @@
 //!
 //! **Relays.** A stage of another request can't be a source. A *relay* takes its place: a source of this request that is
 //! settled as that stage is. `Core::feed_relay` hangs it there. That stage then keeps this request alive until either is settled; so
-//! a relay that was made for one stage alone is cancelled once that is settled (`let_go`). A composing stage has a relay right
+//! a relay that was made for one stage alone is cancelled once that is settled (`cancel_relays_with`). A composing stage has a relay right
 //! below it. Its finish links to the stage that its function gave, where that is a lower one of the request, and else to the
 //! relay.
 //!
 //! **Deadlines.** The machine keeps them, by moments in nanoseconds since the request began, and settles by the caller `CLOCK`
-//! what is due. A stage's `Limit`s say what it gets then: a value, or an error with the while that it had. The request asks its
-//! clock for one `Alarm` at a time, at the first deadline (`Awaited`), and for another where an earlier deadline comes.
+//! what is due. A stage's `StageLimit`s say what it gets then: a value, or an error with the while that it had. The request asks its
+//! clock for one `Alarm` at a time, at the first deadline (`AwaitedAlarm`), and for another where an earlier deadline comes.
 //! `Core::ring_alarm` lets time pass up to the alarm's moment, and asks for the next one. An alarm keeps no request alive. It is
 //! wanted until it is rung, another is asked for, or all stages that have deadlines are settled. One that is wanted and dropped
 //! lets these stages fail with `Refusal::NoClock`.
@@ -105,8 +105,8 @@ use std::task::{Context, Poll, Wake, Waker};
 use std::thread::{self, Thread};
 use std::time::{Duration, Instant};
 
-/// A stage: a handle, whose clones are the same stage. Dropping all of them doesn't cancel it ([`cancel_on_drop`](Stage::cancel_on_drop)
-/// does), since what hangs on it may need it.
+/// A stage. This is a handle, whose clones are the same stage. Dropping all handles doesn't cancel it, since other stages may depend on it;
+/// [`cancel_on_drop`](Stage::cancel_on_drop) does.
 ///
 /// It is a future of `Result<T, Error>`, which any runtime may poll, by many tasks at a time, and again once it was ready. What is attached
 /// takes the handle itself, as the methods of futures do: with `&self` the extension traits of the crate `futures`, where they are in scope,
@@ -126,7 +126,7 @@ pub struct Stage<T> {
     of: PhantomData<fn() -> T>,
 }
 
-/// Where the waker of a handle is kept, once that has waited: its request, its stage, and the place. It is forgotten with the handle.
+/// The place of a handle's waker, once the handle has waited: its request, its stage, and the index. The waker is forgotten with the handle.
 struct KeptWaker(Option<(Arc<Core>, u16, u32)>);
 
 impl KeptWaker {
@@ -152,7 +152,7 @@ impl<T> Stage<T> {
         Stage { core: Arc::clone(core), at, waits: KeptWaker(None), of: PhantomData }
     }
 
-    /// Its number in the request's history. A stage that was refused has none.
+    /// The stage's number in the request's history. A refused stage has none.
     ///
     /// ```
     /// let request = cf::Request::new("order 17", cf::Inline);
@@ -162,7 +162,7 @@ impl<T> Stage<T> {
         self.at.ok()
     }
 
-    /// Its request.
+    /// The stage's request.
     ///
     /// ```
     /// let request = cf::Request::new("order 17", cf::Inline);
@@ -172,7 +172,7 @@ impl<T> Stage<T> {
         Request(Arc::clone(&self.core))
     }
 
-    /// Gives it a name, by which histories speak of it. The stage itself is given back.
+    /// Names the stage in histories, and gives the stage back.
     ///
     /// ```
     /// let request = cf::Request::new("order 17", cf::Inline);
@@ -186,7 +186,7 @@ impl<T> Stage<T> {
         self
     }
 
-    /// Whether it has a value or an error.
+    /// Whether the stage has a value or an error.
     ///
     /// ```
     /// let request = cf::Request::new("order 17", cf::Inline);
@@ -197,7 +197,7 @@ impl<T> Stage<T> {
         self.at.map_or(true, |number| self.core.lock().slot(number).is_settled())
     }
 
-    /// Lets who watches the request be told that somebody reads the stage.
+    /// Tells a test's observer that the stage is read.
     #[inline]
     fn tell_watch_of_read(&self) {
         #[cfg(feature = "testing")]
@@ -212,8 +212,7 @@ impl<T> Stage<T> {
         }
     }
 
-    /// Settles it with an error, unless it is settled; whether it did. An [`Error::Cancelled`] cancels it, and an [`Error::TimedOut`] lets it time
-    /// out.
+    /// Fails the stage, unless it is settled. True if this call did. An [`Error::Cancelled`] cancels it, and an [`Error::TimedOut`] times it out.
     ///
     /// ```
     /// let request = cf::Request::new("order 17", cf::Inline);
@@ -225,8 +224,8 @@ impl<T> Stage<T> {
         self.at.map_or(false, |number| self.core.settle(caller_number(), number, Err(Error::from_boxed(error.into()))).is_ok())
     }
 
-    /// Cancels it, unless it is settled; whether it is cancelled then. A function that runs isn't stopped, its answer comes too late; a
-    /// future that is polled is dropped.
+    /// Cancels the stage, unless it is settled. True if it is cancelled then. A function that runs isn't stopped, and its answer comes too late; a future
+    /// is dropped.
     ///
     /// ```
     /// let request = cf::Request::new("order 17", cf::Inline);
@@ -238,7 +237,7 @@ impl<T> Stage<T> {
         self.at.map_or(false, |number| self.core.settle(caller_number(), number, Err(Error::Cancelled)).is_ok())
     }
 
-    /// Cancels the stage when this is dropped. It is a future as the stage is.
+    /// Gives a future of the stage that cancels it when dropped.
     ///
     /// ```
     /// let request = cf::Request::new("order 17", cf::Inline);
@@ -250,9 +249,8 @@ impl<T> Stage<T> {
         CancelOnDrop(self)
     }
 
-    /// Lets it fail with [`Error::TimedOut`], unless it is settled after this while, by the request's clock. The stage itself is given back, to be gone
-    /// on with. Of several limits of a stage the first that comes settles it. A function that runs goes on, and its answer comes too late; a future is
-    /// dropped.
+    /// Fails the stage with [`Error::TimedOut`] after `wait` by the request's clock, unless it is settled, and gives the stage back. Of several limits the
+    /// first that comes settles it. A function that runs goes on, and its answer comes too late; a future is dropped.
     ///
     /// ```
     /// use std::time::Duration;
@@ -267,8 +265,8 @@ impl<T> Stage<T> {
         self
     }
 
-    /// From which stage its error came: the number of the one whose function gave the error, or which was failed with it or timed out. None
-    /// where it has no error, or was cancelled.
+    /// The number of the stage from which the error came: its function returned the error, or it was failed or timed out. None without an error, and if
+    /// the stage was cancelled.
     ///
     /// ```
     /// let request = cf::Request::new("order 17", cf::Inline);
@@ -366,19 +364,19 @@ impl<T> Stage<T> {
     }
 }
 
-/// A stage of this form behind one.
+/// Attaches a stage of this form behind one.
 fn attach_behind(core: &Arc<Core>, at: Result<u16, Refusal>, form: WordForm, call: StageFn, made: Made) -> Result<u16, Refusal> {
     core.attach(caller_number(), form, &[at?], Some(call), made)
 }
 
-/// What wakes a thread that waits.
+/// The waker of a waiting thread.
 struct Parked {
     thread: Thread,
     is_woken: AtomicBool,
 }
 
 impl Parked {
-    /// Rests until it is woken, or up to a moment. Whether it is woken.
+    /// Parks until it is woken, or up to a moment. Says whether it was woken.
     fn rest(self: &Arc<Parked>, until: Option<Instant>) -> bool {
         while !self.is_woken.swap(false, Ordering::SeqCst) {
             #[cfg(test)]
@@ -409,7 +407,7 @@ impl Wake for Parked {
 }
 
 impl<T: Send + Sync + 'static> Stage<T> {
-    /// What the function gives of the value. Attaching takes about 0.1 µs, and the claim and the finish of a function 0.25.
+    /// Calls the function with the value. Attaching takes about 0.1 µs, and the claim and the finish of a function 0.25.
     ///
     /// ```
     /// let request = cf::Request::new("order 17", cf::Inline);
@@ -424,7 +422,7 @@ impl<T: Send + Sync + 'static> Stage<T> {
         self.attach_behind(WordForm::Apply, Box::new(move |given| Returned::from_value(f(given.one()))), Made::of_function::<F>())
     }
 
-    /// What the function gives of the value, or its error.
+    /// Calls the function, which may fail, with the value.
     ///
     /// ```
     /// let request = cf::Request::new("order 17", cf::Inline);
@@ -442,7 +440,7 @@ impl<T: Send + Sync + 'static> Stage<T> {
         self.attach_behind(WordForm::Apply, Box::new(call), Made::of_function::<F>())
     }
 
-    /// What the future gives that the function makes of the value. A stage that is cancelled or times out drops it.
+    /// Calls the function with the value, and polls the future that it returns. A stage that is cancelled or times out drops the future.
     ///
     /// ```
     /// let request = cf::Request::new("order 17", cf::Inline);
@@ -460,7 +458,7 @@ impl<T: Send + Sync + 'static> Stage<T> {
         self.attach_behind(WordForm::Apply, Box::new(move |given| await_future(f(given.arc()))), Made::of_function::<F>())
     }
 
-    /// What the stage gives that the function makes of the value: a stage of this request or another. It takes two stages of the request.
+    /// Calls the function with the value, and ends as the stage that it returns, which may be another request's. It takes two stages of the request.
     ///
     /// ```
     /// let request = cf::Request::new("order 17", cf::Inline);
@@ -477,7 +475,7 @@ impl<T: Send + Sync + 'static> Stage<T> {
         self.attach_composing(WordForm::Compose, Box::new(move |given| f(given.one()).into_returned()), Made::of_function::<F>())
     }
 
-    /// What the function gives of both values. The other stage may be another request's, for which this one takes a stage more.
+    /// Calls the function with both values. The other stage may be another request's, which takes one more stage of this request.
     ///
     /// ```
     /// let request = cf::Request::new("order 17", cf::Inline);
@@ -498,7 +496,7 @@ impl<T: Send + Sync + 'static> Stage<T> {
         self.attach_behind_both(WordForm::Combine, other, Box::new(call), Made::of_function::<F>())
     }
 
-    /// What the function gives of the value that is there first. Where the first that is settled failed, so does this.
+    /// Calls the function with the value of the stage that is settled first. If that failed, so does this.
     ///
     /// ```
     /// let request = cf::Request::new("order 17", cf::Inline);
@@ -514,7 +512,7 @@ impl<T: Send + Sync + 'static> Stage<T> {
         self.attach_behind_both(WordForm::ApplyEither, other, Box::new(move |given| Returned::from_value(f(given.one()))), Made::of_function::<F>())
     }
 
-    /// What the function gives of the value or the error.
+    /// Calls the function with the value or the error.
     ///
     /// ```
     /// let request = cf::Request::new("order 17", cf::Inline);
@@ -534,7 +532,7 @@ impl<T: Send + Sync + 'static> Stage<T> {
         )
     }
 
-    /// The same value or error, once the function was called with it. A panic of the function counts where there was a value.
+    /// Calls the function with the value or the error, and ends with the same. A panic of the function fails it if there was a value.
     ///
     /// ```
     /// let request = cf::Request::new("order 17", cf::Inline);
@@ -553,7 +551,7 @@ impl<T: Send + Sync + 'static> Stage<T> {
         self.attach_behind(WordForm::WhenComplete, Box::new(call), Made::of_function::<F>())
     }
 
-    /// The value, or what the function gives of the error.
+    /// Ends with the value, or calls the function with the error.
     ///
     /// ```
     /// let request = cf::Request::new("order 17", cf::Inline);
@@ -572,7 +570,7 @@ impl<T: Send + Sync + 'static> Stage<T> {
         self.attach_behind(WordForm::Exceptionally, Box::new(call), Made::of_function::<F>())
     }
 
-    /// The value, or what the stage gives that the function makes of the error. It takes two stages of the request.
+    /// Ends with the value, or calls the function with the error and ends as the stage that it returns. It takes two stages of the request.
     ///
     /// ```
     /// let request = cf::Request::new("order 17", cf::Inline);
@@ -592,13 +590,13 @@ impl<T: Send + Sync + 'static> Stage<T> {
         self.attach_composing(WordForm::ExceptionallyCompose, Box::new(call), Made::of_function::<F>())
     }
 
-    // Who settles it.
+    // Settling.
 
-    /// Settles it with a value, unless it is settled.
+    /// Completes the stage with a value, unless it is settled.
     ///
     /// # Errors
     ///
-    /// Where it is settled the value is given back.
+    /// The value, if the stage is settled already.
     ///
     /// ```
     /// let request = cf::Request::new("order 17", cf::Inline);
@@ -620,7 +618,7 @@ impl<T: Send + Sync + 'static> Stage<T> {
         }
     }
 
-    /// Gives it the value, unless it is settled after this while, by the request's clock. The stage itself is given back.
+    /// Completes the stage with the value after `wait` by the request's clock, unless it is settled, and gives the stage back.
     ///
     /// ```
     /// use std::time::Duration;
@@ -634,9 +632,9 @@ impl<T: Send + Sync + 'static> Stage<T> {
         self
     }
 
-    // What it holds.
+    // Reading.
 
-    /// What it holds at present, behind an `Arc`, if it is settled.
+    /// The result behind an `Arc`, if the stage is settled.
     ///
     /// ```
     /// let request = cf::Request::new("order 17", cf::Inline);
@@ -646,11 +644,11 @@ impl<T: Send + Sync + 'static> Stage<T> {
         self.end_if_settled().map(|told| told.map(value::downcast_arc))
     }
 
-    /// Blocks the thread until it is settled, for values that can't be cloned, as [`wait`](Stage::wait) does.
+    /// Blocks the thread until the stage is settled, as [`wait`](Stage::wait) does, for values that can't be cloned.
     ///
     /// # Errors
     ///
-    /// What the stage failed with.
+    /// The error of the stage.
     ///
     /// # Panics
     ///
@@ -665,7 +663,7 @@ impl<T: Send + Sync + 'static> Stage<T> {
         self.wait_value(None).unwrap_or(Err(Error::BadAnswer)).map(value::downcast_arc)
     }
 
-    /// A future of the value behind an `Arc`, for values that can't be cloned.
+    /// Gives a future of the value behind an `Arc`, for values that can't be cloned.
     ///
     /// ```
     /// struct Large(u32);
@@ -679,7 +677,7 @@ impl<T: Send + Sync + 'static> Stage<T> {
 }
 
 impl<T: Clone + Send + Sync + 'static> Stage<T> {
-    /// What it holds at present, if it is settled.
+    /// The result, if the stage is settled.
     ///
     /// ```
     /// let request = cf::Request::new("order 17", cf::Inline);
@@ -690,8 +688,8 @@ impl<T: Clone + Send + Sync + 'static> Stage<T> {
         self.end_if_settled().map(clone_value)
     }
 
-    /// Blocks the thread until it is settled. Where a function calls this, its thread runs what the stage needs, and a pool starts a spare thread
-    /// for the rest, so that a pool of one thread goes on.
+    /// Blocks the thread until the stage is settled. In a function, the thread meanwhile runs what the stage needs, and a pool starts a spare thread for
+    /// the rest, so that a pool of one thread goes on.
     ///
     /// # Errors
     ///
@@ -699,8 +697,8 @@ impl<T: Clone + Send + Sync + 'static> Stage<T> {
     ///
     /// # Panics
     ///
-    /// With the feature `tokio`, in an async task of tokio, as tokio's own calls do that block: await the stage there. Without the feature nobody
-    /// sees that it is one, and the task holds up a thread of its runtime.
+    /// With the feature `tokio`, in an async task of tokio, as tokio's own blocking calls do: await the stage there. Without the feature the task holds
+    /// up a thread of its runtime.
     ///
     /// ```
     /// let request = cf::Request::new("order 17", cf::Pool::new(1));
@@ -710,8 +708,8 @@ impl<T: Clone + Send + Sync + 'static> Stage<T> {
         self.wait_value(None).map_or(Err(Error::BadAnswer), clone_value)
     }
 
-    /// Blocks the thread until it is settled, but no longer than this: None where it isn't then. The stage goes on. The thread runs no function
-    /// meanwhile, since it can't know how long that would take.
+    /// Blocks the thread until the stage is settled, for `wait` at most. None if it isn't settled then; the stage goes on. The thread runs no function
+    /// meanwhile, since that could take longer.
     ///
     /// # Panics
     ///
@@ -740,7 +738,7 @@ impl<T: Clone + Send + Sync + 'static> Future for Stage<T> {
     }
 }
 
-/// A future of a stage's value behind an `Arc`: what [`Stage::arc`] gives.
+/// A future of a stage's value behind an `Arc`, made by [`Stage::arc`].
 ///
 /// ```
 /// struct Large(u32);
@@ -760,7 +758,7 @@ impl<T: Send + Sync + 'static> Future for ArcOf<T> {
     }
 }
 
-/// A stage that is cancelled when this is dropped: what [`Stage::cancel_on_drop`] gives.
+/// A future of a stage that cancels the stage when dropped, made by [`Stage::cancel_on_drop`].
 ///
 /// ```
 /// let request = cf::Request::new("order 17", cf::Inline);
@@ -820,17 +818,17 @@ pub(crate) mod sealed {
     pub struct Adopted {
         /// Its number in the request.
         pub at: Result<u16, Refusal>,
-        /// Whether it was made to stand for a stage of another request.
+        /// Whether it is a relay of another request's stage.
         pub is_relay: bool,
     }
 
     pub trait Sealed {
-        /// The stage of this request that ends as this one.
+        /// Gives the stage of the request `by` that ends as this one.
         fn adopt_into(&self, by: &Request) -> Adopted;
     }
 }
 
-/// A stage of any type: what [`Request::all_of`] takes.
+/// A stage of any type, for [`Request::all_of`].
 ///
 /// ```
 /// let request = cf::Request::new("order 17", cf::Inline);
