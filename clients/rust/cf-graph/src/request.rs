@@ -8,8 +8,9 @@ use crate::step::{step_out, taken_out, task_in, Stepped};
 use crate::values::*;
 use cf_sys as sys;
 
-/// One request of a service as a machine. It decides what to do for the request, and does none of it: it has no thread, no clock and no lock. Its host
-/// is the program that tells it what happened, and does what it says. It goes to any thread, and is in one call at a time, since each takes it by
+/// One request of a service as a machine. It decides what to do for the request, and does none of it: it has no thread, no clock and no lock. Its
+/// host is the program that tells it what happened, and does what it says. It goes to any thread, and is in one call at a time, since each takes it
+/// by
 /// `&mut`: threads share it behind a `Mutex`.
 ///
 /// Each call that can settle stages tells them: [`SettledStages`].
@@ -283,7 +284,8 @@ impl Request {
         told.tell(&mut self.0, |h, rows, room, n| unsafe { sys::cf_request_follow(h, relay, stage, rows, room, n) })
     }
 
-    /// Sets a moment by which a stage has to be settled: [`pass_time_to`](Request::pass_time_to) does this to it if it is open then. `NO_STAGE`, `NO_MEMORY`.
+    /// Sets a moment by which a stage has to be settled: [`pass_time_to`](Request::pass_time_to) does this to it if it is open then. `NO_STAGE`,
+    /// `NO_MEMORY`.
     pub fn set_deadline(&mut self, stage: u16, moment: u64, limit: Limit) -> Result<(), Refused> {
         let (kind, value) = limit_in(limit);
         // SAFETY: alone: `h` is this call's.
@@ -320,7 +322,8 @@ impl Request {
         Ok(if_there(next)?.map(|next| Deadline { stage: next.stage, moment: next.moment, limit: limit(next.kind, next.value) }))
     }
 
-    /// Refuses a lane that no caller runs any more: its ready stages fail with this code, and so do those that become ready by that. `NO_LANE`, `NO_MEMORY`.
+    /// Refuses a lane that no caller runs any more: its ready stages fail with this code, and so do those that become ready by that. `NO_LANE`,
+    /// `NO_MEMORY`.
     pub fn refuse_lane(&mut self, lane: u8, code: u32, told: &mut SettledStages) -> Result<(), Refused> {
         // SAFETY: alone, pointers: `h` and what is told to are this call's, and `rows` points to as many elements as said.
         told.tell(&mut self.0, |h, rows, room, n| unsafe { sys::cf_request_refuse(h, lane, code, rows, room, n) })

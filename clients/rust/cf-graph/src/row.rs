@@ -169,8 +169,8 @@ impl Row {
         if_there(self.handle.tell(|h, told| unsafe { sys::cf_row_abandon(h, session, from, code, told) }))
     }
 
-    /// The word that finishes a stage of this session's with its function's answer. None if the claim isn't open, or is another session's. If the stage
-    /// was settled since its claim, the finish is late, and only closes the claim.
+    /// The word that finishes a stage of this session's with its function's answer. None if the claim isn't open, or is another session's. If the
+    /// stage was settled since its claim, the finish is late, and only closes the claim.
     pub fn finish_word(&mut self, stage: u16, answer: Answer) -> Result<Option<u64>, Refused> {
         let task = task_in(Some((stage, answer)));
         // SAFETY: alone, pointers: `h` and what is told to are this call's, and `task` is a local.

@@ -60,7 +60,8 @@ impl Ends {
         Ends::telling(|what| what.full_text(), hook)
     }
 
-    /// The same, where `tells` says what histories tell of a value or an error, as for [`history_described_by`](crate::Request::history_described_by).
+    /// The same, where `tells` says what histories tell of a value or an error, as for
+    /// [`history_described_by`](crate::Request::history_described_by).
     pub fn telling(tells: impl Fn(HistoryItem<'_>) -> String + Send + Sync + 'static, hook: impl Fn(&History) + Send + Sync + 'static) -> Ends {
         Ends(Aside::new(move |ClosedRequest { service, opened, context }| {
             let name = opened.name.clone();

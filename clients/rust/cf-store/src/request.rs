@@ -68,8 +68,8 @@ pub(crate) struct LocalRequest {
     host: Arc<dyn Host>,
     store: Arc<dyn Store>,
     view: Arc<Mutex<RowView>>,
-    /// A lock for stores that let only one writer put during a transaction. A put takes it before the view, and a transactional function runs with it.
-    /// So other threads wait for this lock, and not in the store with the view, which the function's finish needs.
+    /// A lock for stores that let only one writer put during a transaction. A put takes it before the view, and a transactional function runs with
+    /// it. So other threads wait for this lock, and not in the store with the view, which the function's finish needs.
     writes: Option<Mutex<()>>,
     /// The number of publications. Waiting callers watch this, and never the view.
     shown: Mutex<u64>,
@@ -156,8 +156,8 @@ impl LocalRequest {
         }
     }
 
-    /// Reads a payload for a waiter, and says whether there is an answer. If the wait has a limit, a thread of its own reads it, since an engine doesn't
-    /// know the limit.
+    /// Reads a payload for a waiter, and says whether there is an answer. If the wait has a limit, a thread of its own reads it, since an engine
+    /// doesn't know the limit.
     fn read_payload(self: &Arc<LocalRequest>, place: usize, is_limited: bool) -> bool {
         if !is_limited || !self.host.has_threads() {
             return self.ask_payload(place);
@@ -335,7 +335,8 @@ impl Request {
         row.pop().ok_or_else(|| StoreError::Refused("a list of nothing needs no stage".into()))
     }
 
-    /// The stage of a step of the flow with which the request was begun. None if that was another flow: of another name, or different up to this step.
+    /// The stage of a step of the flow with which the request was begun. None if that was another flow: of another name, or different up to this
+    /// step.
     pub fn step(&self, step: Step) -> Option<Stage> {
         let has_step = self.inner.view().has_step(step);
         has_step.then(|| Stage::new(self, step.number()))
@@ -462,8 +463,8 @@ impl Request {
         })
     }
 
-    /// Puts words that attach stages, and gives the last one, which is of this form; or the one that an earlier try of this thread's composing function
-    /// has attached. Opens a closed request again.
+    /// Puts words that attach stages, and gives the last one, which is of this form; or the one that an earlier try of this thread's composing
+    /// function has attached. Opens a closed request again.
     fn attach_by_words(
         &self,
         form: Form,
@@ -582,7 +583,8 @@ impl Stage {
         self.attach_behind(Form::Handle, Of::One(self.number), function)
     }
 
-    /// Calls a registered function with the value, or null, and the [`Failed`], or null, and ends as this stage does, or with the function's own error.
+    /// Calls a registered function with the value, or null, and the [`Failed`], or null, and ends as this stage does, or with the function's own
+    /// error.
     pub fn when_done(&self, function: &str) -> Result<Stage, StoreError> {
         self.attach_behind(Form::WhenComplete, Of::One(self.number), function)
     }
@@ -648,8 +650,8 @@ impl Stage {
     /// Plans further tries, for the case that the process that runs this stage's function dies. The function may have done its work before, and does
     /// it once more with each try, unless it is transactional. It gives the last try, which passes on the value of an earlier one.
     ///
-    /// Of a stage that composes each try takes two stages. What an earlier try has attached isn't attached once more, if the function attaches the same
-    /// on its own thread: a stage of the same kind, name, function, arguments and sources.
+    /// Of a stage that composes each try takes two stages. What an earlier try has attached isn't attached once more, if the function attaches the
+    /// same on its own thread: a stage of the same kind, name, function, arguments and sources.
     pub fn again(&self, times: usize) -> Result<Stage, StoreError> {
         let composes = self.request.inner.view().stage_spec(self.number)?.to.is_some();
         let said =
@@ -753,8 +755,8 @@ impl Stage {
         })
     }
 
-    /// Waits until the stage is settled, also while the store doesn't answer, and gives its value. It holds its thread: within a task of tokio's call it
-    /// by `spawn_blocking`, as each call that asks the store.
+    /// Waits until the stage is settled, also while the store doesn't answer, and gives its value. It holds its thread: within a task of tokio's
+    /// call it by `spawn_blocking`, as each call that asks the store.
     ///
     /// # Errors
     ///

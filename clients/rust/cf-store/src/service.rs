@@ -769,9 +769,9 @@ impl ServiceCore {
         Ok(())
     }
 
-    /// Puts a finish, and with it the claim of the next stage, if there is one; what was claimed. While the store is away, or takes nothing, a finish is
-    /// put again and again: its function has run. That ends a minute after the service stops, and it is told then what is lost. A value that the store
-    /// refuses twice fails its stage, if the store takes something else meanwhile.
+    /// Puts a finish, and with it the claim of the next stage, if there is one; what was claimed. While the store is away, or takes nothing, a
+    /// finish is put again and again: its function has run. That ends a minute after the service stops, and it is told then what is lost. A value
+    /// that the store refuses twice fails its stage, if the store takes something else meanwhile.
     fn finish_and_claim(&self, inner: &Arc<LocalRequest>, ended: EndedStage) -> Result<Option<ClaimedTask>, StoreError> {
         let (mut chosen, mut refusals, mut refused) = (Vec::new(), 0, None);
         let done = loop {
@@ -941,8 +941,8 @@ impl ServiceCore {
         context::within(task.carried.clone(), || self.host.call_function(&task.name, &mut call))
     }
 
-    /// Runs a function in a transaction, with the word of its finish. If another word took the place meanwhile, or the connection is lost, it runs again,
-    /// unless the transaction stands. Gives a finish that is to be put behind the transaction.
+    /// Runs a function in a transaction, with the word of its finish. If another word took the place meanwhile, or the connection is lost, it runs
+    /// again, unless the transaction stands. Gives a finish that is to be put behind the transaction.
     fn run_in_transaction(self: &Arc<ServiceCore>, inner: &Arc<LocalRequest>, task: &ClaimedTask) -> Result<EndedStage, StoreError> {
         loop {
             let mut is_open = false;
@@ -968,8 +968,8 @@ impl ServiceCore {
         }
     }
 
-    /// Calls a function in a transaction, and puts its finish there. Reads first what others have put: if the stage isn't this session's any more, the
-    /// function isn't called.
+    /// Calls a function in a transaction, and puts its finish there. Reads first what others have put: if the stage isn't this session's any more,
+    /// the function isn't called.
     fn try_in_transaction(
         self: &Arc<ServiceCore>,
         inner: &Arc<LocalRequest>,

@@ -99,15 +99,15 @@ pub trait Store: Send + Sync {
         places.iter().map(|place| self.payload(name, number, *place)).collect()
     }
 
-    /// Tells the number of words of each open request that may have changed since a mark, and the next mark. Without a mark it tells all open requests
-    /// and no others. With a mark it may leave out one that was opened again, and may include a closed one that got words meanwhile.
+    /// Tells the number of words of each open request that may have changed since a mark, and the next mark. Without a mark it tells all open
+    /// requests and no others. With a mark it may leave out one that was opened again, and may include a closed one that got words meanwhile.
     fn news(&self, since: Option<Mark>) -> Result<(WordCounts, Mark), StoreError>;
 
     /// Waits until others may have put something since the last call, for `wait` at most. One thread at a time calls it.
     fn changed(&self, wait: Duration) -> Result<(), StoreError>;
 
-    /// Closes a request that has just `at` words, and forgets its timers. True if this call has closed it. A put that [opens](Put::opens) it takes that
-    /// back.
+    /// Closes a request that has just `at` words, and forgets its timers. True if this call has closed it. A put that [opens](Put::opens) it takes
+    /// that back.
     fn end(&self, name: &str, number: i64, at: usize) -> Result<bool, StoreError>;
 
     /// Counts a beat of a session: a sign of life.

@@ -35,8 +35,8 @@ pub trait Clock: Send + Sync + 'static {
     /// The time since a moment of the clock's own. It never goes back. If it panics, an event has the time of the one before it.
     fn now(&self) -> Duration;
 
-    /// Rings the alarm after `wait`, but not before it returns. A request asks for one alarm at a time, up to the first of its timeouts. If an earlier
-    /// timeout comes, it asks for an earlier alarm, and the one before isn't wanted any more ([`Alarm::is_wanted`]).
+    /// Rings the alarm after `wait`, but not before it returns. A request asks for one alarm at a time, up to the first of its timeouts. If an
+    /// earlier timeout comes, it asks for an earlier alarm, and the one before isn't wanted any more ([`Alarm::is_wanted`]).
     fn ring_after(&self, wait: Duration, alarm: Alarm);
 
     /// Whether it is the computer's own, which requests read directly.
@@ -71,8 +71,8 @@ pub struct Alarm {
 }
 
 impl Alarm {
-    /// Rings: the open stages whose timeouts have come time out or get their values. If there are later timeouts, the request first asks its clock for
-    /// the next alarm.
+    /// Rings: the open stages whose timeouts have come time out or get their values. If there are later timeouts, the request first asks its clock
+    /// for the next alarm.
     ///
     /// ```
     /// struct AtOnce;

@@ -190,8 +190,8 @@ impl Core {
         done
     }
 
-    /// Begins the job that a change asks for under the same hold of the lock, as [`Inline`](crate::Inline) would begin it at once. Then does what else
-    /// follows from the change.
+    /// Begins the job that a change asks for under the same hold of the lock, as [`Inline`](crate::Inline) would begin it at once. Then does what
+    /// else follows from the change.
     #[inline(never)]
     fn begin_inline(self: &Arc<Core>, mut behind: TellsOnDrop<'_>, mut inner: Hold<'_>) {
         let mut hands = Hands::empty();
@@ -209,7 +209,8 @@ impl Core {
         }
     }
 
-    /// Nanoseconds since the request began. The clock may be a user's, so it isn't asked under the lock. If it panics, the time of the call before holds.
+    /// Nanoseconds since the request began. The clock may be a user's, so it isn't asked under the lock. If it panics, the time of the call before
+    /// holds.
     #[inline]
     pub(crate) fn now(&self) -> u64 {
         #[cfg(feature = "testing")]
@@ -240,8 +241,8 @@ impl Core {
         self.change(|inner, after| inner.gather(who, form, of, made, after))
     }
 
-    /// Attaches a composing stage, and right below it a relay. A stage can only link to lower ones, and the stage that its function makes is higher or
-    /// another request's. The relay stands in for that.
+    /// Attaches a composing stage, and right below it a relay. A stage can only link to lower ones, and the stage that its function makes is higher
+    /// or another request's. The relay stands in for that.
     pub(crate) fn attach_composing(self: &Arc<Core>, who: u8, form: WordForm, of: u16, call: StageFn, made: Made) -> Result<u16, Refusal> {
         let call = carry_context(call);
         self.change(|inner, after| {

@@ -213,8 +213,8 @@ impl History {
     }
 
     /// What `cf_look check` judges and `cf_look page` shows, a line of JSON: the events, and what they were answered and what stages hold in the
-    /// end, both by the graph. [`is_reproducible`](History::is_reproducible) says whether stages showed the same. The members `name`, `names`, `times`
-    /// (nanoseconds), `lanes`, `values`, `errors` and `relays` are for people.
+    /// end, both by the graph. [`is_reproducible`](History::is_reproducible) says whether stages showed the same. The members `name`, `names`,
+    /// `times` (nanoseconds), `lanes`, `values`, `errors` and `relays` are for people.
     ///
     /// ```
     /// let shipment = cf::Request::new("shipment 9", cf::Inline);

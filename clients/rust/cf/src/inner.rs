@@ -640,8 +640,8 @@ impl Inner {
 
     // Working.
 
-    /// Does a worker's step: finishes the stage in its hands, if there is one, and claims the next ready one. Gives that one's function; its arguments
-    /// are in the hands.
+    /// Does a worker's step: finishes the stage in its hands, if there is one, and claims the next ready one. Gives that one's function; its
+    /// arguments are in the hands.
     #[inline(always)]
     pub(crate) fn step(&mut self, who: u8, hands: &mut Hands, after: &mut After) -> Option<StageFn> {
         if let Some(stage) = hands.task.stage() {
@@ -720,8 +720,8 @@ impl Inner {
         }
     }
 
-    /// Finds, among the open stages that a stage depends on, one for which a worker of the request's executor can do something; if there is none, what
-    /// the stage waits for.
+    /// Finds, among the open stages that a stage depends on, one for which a worker of the request's executor can do something; if there is none,
+    /// what the stage waits for.
     pub(crate) fn find_need(&mut self, stage: u16, is_own: bool) -> Needs {
         let mut needs = Needs::default();
         if self.slot(stage).is_settled() {
@@ -821,8 +821,8 @@ impl Inner {
         self.show_settled(after);
     }
 
-    /// Asks for one more job if more stages are ready than jobs are coming, and wakes the waiting workers. A job that begins asks for the next one, so
-    /// no caller wakes many.
+    /// Asks for one more job if more stages are ready than jobs are coming, and wakes the waiting workers. A job that begins asks for the next one,
+    /// so no caller wakes many.
     #[inline]
     pub(crate) fn hire(&mut self, core: &Core, begins: bool, after: &mut After) {
         let is_more = take(&mut self.is_more);
@@ -875,8 +875,8 @@ impl Inner {
     }
 }
 
-/// Panics, since the machine was refused memory for an event. It has changed nothing, and the caller holds nothing of a user's. The panic goes on once
-/// the lock is free.
+/// Panics, since the machine was refused memory for an event. It has changed nothing, and the caller holds nothing of a user's. The panic goes on
+/// once the lock is free.
 #[cold]
 fn panic_refused(why: Refused) -> ! {
     panic!("no memory for an event: {why}")

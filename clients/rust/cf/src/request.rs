@@ -65,8 +65,8 @@ impl Request {
         Request::try_new(name, spawn, clock, ROOM).expect("a ledger for the request")
     }
 
-    /// Opens a request with room for this many stages at first, 16 otherwise. More room is made as it is wanted, by doing all again; a request of known
-    /// size is quicker without that. A thread keeps machines of requests that ended on it, with the room that they have got, for the next ones:
+    /// Opens a request with room for this many stages at first, 16 otherwise. More room is made as it is wanted, by doing all again; a request of
+    /// known size is quicker without that. A thread keeps machines of requests that ended on it, with the room that they have got, for the next ones:
     /// up to eight, for 512 stages together.
     ///
     /// # Errors

@@ -141,8 +141,8 @@ pub trait Spawn: Send + Sync + 'static {
         1
     }
 
-    /// The executor's number. A function that waits for a stage lets its thread run what that stage needs, if that is to run on an executor of the same
-    /// number. Clones that share their threads must have one number.
+    /// The executor's number. A function that waits for a stage lets its thread run what that stage needs, if that is to run on an executor of the
+    /// same number. Clones that share their threads must have one number.
     ///
     /// ```
     /// use std::sync::Arc;
@@ -497,8 +497,8 @@ impl PoolState {
         is_started
     }
 
-    /// Finds a thread for each job that may run now, and starts one if too few are idle. Says whether an idle one is to be woken; an error if there is
-    /// no thread.
+    /// Finds a thread for each job that may run now, and starts one if too few are idle. Says whether an idle one is to be woken; an error if there
+    /// is no thread.
     fn hire(self: &Arc<PoolState>, queue: &mut Queue) -> Result<bool, ()> {
         let wanted = queue.jobs.len().min(self.most.saturating_sub(queue.running));
         if wanted > queue.idle && !self.start_thread(queue) && queue.running == 0 && queue.idle == 0 {

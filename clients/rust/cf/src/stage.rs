@@ -81,8 +81,8 @@
 //! there is none. Where there is none, the call gives a handle of a stage that has failed with `Refusal::Full`: its `at` is an
 //! error, and nothing was attached.
 //!
-//! **Which code calls a user's.** `Core::work` and `Core::help_by` (a stage's function), `Polling::poll` (a future), `Core::tell_all` (wakers, and the
-//! `Drop` of values, functions, errors and futures), `Core::spawn` (`Spawn::spawn`), `Core::now` and `Core::tell_all` (`Clock`),
+//! **Which code calls a user's.** `Core::work` and `Core::help_by` (a stage's function), `Polling::poll` (a future), `Core::tell_all` (wakers,
+//! and the `Drop` of values, functions, errors and futures), `Core::spawn` (`Spawn::spawn`), `Core::now` and `Core::tell_all` (`Clock`),
 //! `Core::poll` (cloning and dropping a waker), and histories and `Debug` (`Describe`, `Display` of errors).
 use crate::core::Core;
 use crate::describe::escape_text;
@@ -224,8 +224,8 @@ impl<T> Stage<T> {
         self.at.map_or(false, |number| self.core.settle(caller_number(), number, Err(Error::from_boxed(error.into()))).is_ok())
     }
 
-    /// Cancels the stage, unless it is settled. True if it is cancelled then. A function that runs isn't stopped, and its answer comes too late; a future
-    /// is dropped.
+    /// Cancels the stage, unless it is settled. True if it is cancelled then. A function that runs isn't stopped, and its answer comes too late; a
+    /// future is dropped.
     ///
     /// ```
     /// let request = cf::Request::new("order 17", cf::Inline);
@@ -249,8 +249,8 @@ impl<T> Stage<T> {
         CancelOnDrop(self)
     }
 
-    /// Fails the stage with [`Error::TimedOut`] after `wait` by the request's clock, unless it is settled, and gives the stage back. Of several limits the
-    /// first that comes settles it. A function that runs goes on, and its answer comes too late; a future is dropped.
+    /// Fails the stage with [`Error::TimedOut`] after `wait` by the request's clock, unless it is settled, and gives the stage back. Of several
+    /// limits the first that comes settles it. A function that runs goes on, and its answer comes too late; a future is dropped.
     ///
     /// ```
     /// use std::time::Duration;
@@ -265,8 +265,8 @@ impl<T> Stage<T> {
         self
     }
 
-    /// The number of the stage from which the error came: its function returned the error, or it was failed or timed out. None without an error, and if
-    /// the stage was cancelled.
+    /// The number of the stage from which the error came: its function returned the error, or it was failed or timed out. None without an error, and
+    /// if the stage was cancelled.
     ///
     /// ```
     /// let request = cf::Request::new("order 17", cf::Inline);
@@ -688,8 +688,8 @@ impl<T: Clone + Send + Sync + 'static> Stage<T> {
         self.end_if_settled().map(clone_value)
     }
 
-    /// Blocks the thread until the stage is settled. In a function, the thread meanwhile runs what the stage needs, and a pool starts a spare thread for
-    /// the rest, so that a pool of one thread goes on.
+    /// Blocks the thread until the stage is settled. In a function, the thread meanwhile runs what the stage needs, and a pool starts a spare thread
+    /// for the rest, so that a pool of one thread goes on.
     ///
     /// # Errors
     ///
@@ -697,8 +697,8 @@ impl<T: Clone + Send + Sync + 'static> Stage<T> {
     ///
     /// # Panics
     ///
-    /// With the feature `tokio`, in an async task of tokio, as tokio's own blocking calls do: await the stage there. Without the feature the task holds
-    /// up a thread of its runtime.
+    /// With the feature `tokio`, in an async task of tokio, as tokio's own blocking calls do: await the stage there. Without the feature the task
+    /// holds up a thread of its runtime.
     ///
     /// ```
     /// let request = cf::Request::new("order 17", cf::Pool::new(1));
@@ -708,8 +708,8 @@ impl<T: Clone + Send + Sync + 'static> Stage<T> {
         self.wait_value(None).map_or(Err(Error::BadAnswer), clone_value)
     }
 
-    /// Blocks the thread until the stage is settled, for `wait` at most. None if it isn't settled then; the stage goes on. The thread runs no function
-    /// meanwhile, since that could take longer.
+    /// Blocks the thread until the stage is settled, for `wait` at most. None if it isn't settled then; the stage goes on. The thread runs no
+    /// function meanwhile, since that could take longer.
     ///
     /// # Panics
     ///
