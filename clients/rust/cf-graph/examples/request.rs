@@ -77,7 +77,7 @@ fn is_done_again(plan: &mut Plan, mut closed: Closed) -> Result<bool, Refused> {
         again.apply(word)?;
     }
     let mut graph = closed.graph()?;
-    for stage in 0..graph.stages()? {
+    for stage in 0..graph.stage_count()? {
         if graph.outcome(stage)? != again.outcome(stage)? {
             return Ok(false);
         }

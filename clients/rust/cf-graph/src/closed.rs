@@ -49,12 +49,12 @@ pub struct Closed {
 }
 
 impl Closed {
-    pub(crate) fn of(handle: Handle, callers: u8) -> Closed {
+    pub(crate) fn with_handle(handle: Handle, callers: u8) -> Closed {
         Closed { handle, callers }
     }
 
     /// How many callers it had.
-    pub fn callers(&self) -> u8 {
+    pub fn caller_count(&self) -> u8 {
         self.callers
     }
 
@@ -68,7 +68,7 @@ impl Closed {
 
     /// The same events, read.
     pub fn events(&mut self) -> Result<Vec<Event>, Refused> {
-        self.words()?.into_iter().map(Event::of_word).collect()
+        self.words()?.into_iter().map(Event::from_word).collect()
     }
 
     /// What the caller of a number, which is one of its callers', did and saw, in its order.
@@ -90,7 +90,7 @@ impl Closed {
 fn record_out(record: sys::cf_record) -> Result<Record, Refused> {
     let place = record.place;
     if record.kind == 0 {
-        let event = Event::of_word(record.word)?;
+        let event = Event::from_word(record.word)?;
         return Ok(Record::Did { place, event, reply: reply_out(event.call, record.reply) });
     }
     let stage = record.stage;

@@ -3,7 +3,7 @@ use crate::closed::Closed;
 use crate::handle::Handle;
 use crate::plan::{function_in, Form, Sizes};
 use crate::refused::{if_there, Refused};
-use crate::step::{step_out, task_in, Step, Taken};
+use crate::step::{step_out, task_in, ClaimedStage, Stepped};
 use crate::values::*;
 use cf_sys as sys;
 use std::error::Error;
@@ -24,13 +24,13 @@ pub struct Caller {
 }
 
 /// The desk and the callers that were opened behind these handles.
-pub(crate) fn opened(sizes: Sizes, handles: Vec<sys::cf_handle>) -> (Desk, Vec<Caller>) {
+pub(crate) fn desk_and_callers(sizes: Sizes, handles: Vec<sys::cf_handle>) -> (Desk, Vec<Caller>) {
     let desk = Arc::new(sizes);
-    let callers = handles.into_iter().map(|handle| caller_of(Handle::of(handle), desk.clone())).collect();
+    let callers = handles.into_iter().map(|handle| caller_with_handle(Handle::owning(handle), desk.clone())).collect();
     (Desk(desk), callers)
 }
 
-fn caller_of(mut handle: Handle, desk: Arc<Sizes>) -> Caller {
+fn caller_with_handle(mut handle: Handle, desk: Arc<Sizes>) -> Caller {
     // SAFETY: alone, pointers: `h` and what is told to are this call's.
     let number = handle.tell(|h, told| unsafe { sys::cf_desk_caller(h, told) });
     let number = number.expect("a caller stands behind the handle");
@@ -63,7 +63,7 @@ impl Desk {
         }
         // SAFETY: alone: `h` is this call's.
         closing.call(|h| unsafe { sys::cf_close_end(h) }).expect("all callers were given back");
-        Ok(Closed::of(closing, numbers))
+        Ok(Closed::with_handle(closing, numbers))
     }
 
     fn cannot_close(&self, callers: &[Caller]) -> Option<Refused> {
@@ -151,7 +151,7 @@ impl Caller {
 
     /// Completes stages one after another, up to the first that is refused, and says how many were answered and why that one wasn't:
     /// `NO_STAGE`, `PASS_FULL`, `LOG_FULL`.
-    pub fn complete_many(&mut self, given: &[(u16, Value)]) -> (usize, Result<(), Refused>) {
+    pub fn complete_all(&mut self, given: &[(u16, Value)]) -> (usize, Result<(), Refused>) {
         let given: Vec<_> = given.iter().map(|&(stage, value)| sys::cf_given { stage, value: value_in(value) }).collect();
         let mut done = 0;
         let (first, n, told) = (given.as_ptr(), given.len(), &mut done);
@@ -164,11 +164,11 @@ impl Caller {
     /// ready then. How the finish went is told, where there was one, and what was claimed, if something is ready. `LOST` where another caller
     /// claimed or settled it first: ask again. `PASS_FULL` and `LOG_FULL`: without a word of the finish the stage is held as it was. `NO_STAGE` and `NOT_HELD`,
     /// where this caller has no open claim of the stage: nothing is changed then.
-    pub fn step(&mut self, held: Option<(u16, Answer)>) -> (Option<Finished>, Result<Option<Taken>, Refused>) {
+    pub fn step(&mut self, held: Option<(u16, Answer)>) -> (Option<Finished>, Result<Option<ClaimedStage>, Refused>) {
         let mut task = task_in(held);
         // SAFETY: alone, pointers: `h` and the task are this call's.
         let answer = self.handle.call(|h| unsafe { sys::cf_desk_next(h, &mut task) });
-        let Step { finished, taken } = step_out(held, &task);
+        let Stepped { finished, taken } = step_out(held, &task);
         match answer {
             Ok(()) => (finished, Ok(taken)),
             Err(Refused::NOTHING) => (finished, Ok(None)),
@@ -178,7 +178,7 @@ impl Caller {
     }
 
     /// What a stage is settled with, if it is, after a look at all that is there.
-    pub fn read(&mut self, stage: u16) -> Result<Option<Outcome>, Refused> {
+    pub fn read_outcome(&mut self, stage: u16) -> Result<Option<Outcome>, Refused> {
         // SAFETY: alone, pointers: `h` and what is told to are this call's.
         self.handle.tell(|h, told| unsafe { sys::cf_desk_read(h, stage, told) }).map(outcome_out)
     }
@@ -197,7 +197,7 @@ impl Caller {
     }
 
     /// The lowest stage that can be claimed, after a look that isn't recorded.
-    pub fn ready(&mut self) -> Result<Option<u16>, Refused> {
+    pub fn lowest_ready(&mut self) -> Result<Option<u16>, Refused> {
         // SAFETY: alone, pointers: `h` and what is told to are this call's.
         if_there(self.handle.tell(|h, told| unsafe { sys::cf_desk_ready(h, told) }))
     }
@@ -212,13 +212,13 @@ impl Caller {
     }
 
     /// How many events it has seen.
-    pub fn seen(&mut self) -> Result<u16, Refused> {
+    pub fn seen_count(&mut self) -> Result<u16, Refused> {
         // SAFETY: alone, pointers: `h` and what is told to are this call's.
         self.handle.tell(|h, told| unsafe { sys::cf_desk_seen(h, told) })
     }
 
     /// How many records it still takes.
-    pub fn left(&mut self) -> Result<u16, Refused> {
+    pub fn records_left(&mut self) -> Result<u16, Refused> {
         // SAFETY: alone, pointers: `h` and what is told to are this call's.
         self.handle.tell(|h, told| unsafe { sys::cf_desk_left(h, told) })
     }
@@ -238,7 +238,7 @@ impl Caller {
     /// them, until none is ready: how many. Where `function` panics its stage stays claimed.
     pub fn work(&mut self, mut function: impl FnMut(u16, Args) -> Answer) -> Result<u32, Refused> {
         let mut calls = 0;
-        while let Some(stage) = self.ready()? {
+        while let Some(stage) = self.lowest_ready()? {
             let number = self.function(stage)?;
             if let (Some(number), Claimed::Granted(args)) = (number, self.claim(stage)?) {
                 self.finish(stage, function(number, args))?;

@@ -1,6 +1,6 @@
 //! Changing calls as events, and the words of 64 bits that write them.
 use crate::plan::{form_out, function_in, Form};
-use crate::refused::{checked, done, Refused};
+use crate::refused::{check_library_once, ok_or_refused, Refused};
 use crate::values::*;
 use cf_sys as sys;
 
@@ -49,19 +49,19 @@ pub struct Event {
 impl Event {
     /// Its word. `NO_WORD` where its caller is above 63, a stage or a function above 4,095, or what it attaches doesn't fit its form.
     pub fn word(self) -> Result<u64, Refused> {
-        checked()?;
+        check_library_once()?;
         let mut word = 0;
         // SAFETY: this library, pointers: both are to locals.
-        done(unsafe { sys::cf_word_of_event(&event_in(self), &mut word) })?;
+        ok_or_refused(unsafe { sys::cf_word_of_event(&event_in(self), &mut word) })?;
         Ok(word)
     }
 
     /// The event of a word. `NO_WORD` where it is none's.
-    pub fn of_word(word: u64) -> Result<Event, Refused> {
-        checked()?;
+    pub fn from_word(word: u64) -> Result<Event, Refused> {
+        check_library_once()?;
         let mut event = sys::cf_event::default();
         // SAFETY: this library, pointers: both are to locals.
-        done(unsafe { sys::cf_event_of(word, &mut event) })?;
+        ok_or_refused(unsafe { sys::cf_event_of(word, &mut event) })?;
         Ok(event_out(event))
     }
 }

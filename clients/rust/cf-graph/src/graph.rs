@@ -3,7 +3,7 @@ use crate::event::{reply_out, Event};
 use crate::handle::Handle;
 use crate::plan::{function_in, Form, Plan};
 use crate::refused::{if_there, Refused};
-use crate::step::{step_out, task_in, Step};
+use crate::step::{step_out, task_in, Stepped};
 use crate::sweep::Sweep;
 use crate::values::*;
 use cf_sys as sys;
@@ -68,7 +68,7 @@ impl Graph {
     }
 
     /// What a stage gives at present, or `absent` where it isn't settled.
-    pub fn now(&mut self, stage: u16, absent: Value) -> Result<Now, Refused> {
+    pub fn value_now(&mut self, stage: u16, absent: Value) -> Result<Now, Refused> {
         // SAFETY: alone, pointers: `h` and what is told to are this call's.
         self.0.tell(|h, told| unsafe { sys::cf_get_now(h, stage, value_in(absent), told) }).map(now_out)
     }
@@ -86,20 +86,20 @@ impl Graph {
     }
 
     /// How many stages there are by now.
-    pub fn stages(&mut self) -> Result<u16, Refused> {
+    pub fn stage_count(&mut self) -> Result<u16, Refused> {
         // SAFETY: alone, pointers: `h` and what is told to are this call's.
         self.0.tell(|h, told| unsafe { sys::cf_stages(h, told) })
     }
 
     /// How many turns were taken since the graph was opened or last restarted.
-    pub fn turns(&mut self) -> Result<u64, Refused> {
+    pub fn turn_count(&mut self) -> Result<u64, Refused> {
         // SAFETY: alone, pointers: `h` and what is told to are this call's.
         self.0.tell(|h, told| unsafe { sys::cf_turns(h, told) })
     }
 
     /// Does the event of a word, and gives its reply.
     pub fn apply(&mut self, word: u64) -> Result<Reply, Refused> {
-        let event = Event::of_word(word)?;
+        let event = Event::from_word(word)?;
         // SAFETY: alone, pointers: `h` and what is told to are this call's.
         self.0.tell(|h, told| unsafe { sys::cf_apply(h, word, told) }).map(|reply| reply_out(event.call, reply))
     }
@@ -142,7 +142,7 @@ impl Graph {
     /// # Ok(())
     /// # }
     /// ```
-    pub fn step(&mut self, who: u8, held: Option<(u16, Answer)>) -> Result<Step, Refused> {
+    pub fn step(&mut self, who: u8, held: Option<(u16, Answer)>) -> Result<Stepped, Refused> {
         let mut task = task_in(held);
         // SAFETY: alone, pointers: `h` and the task are this call's.
         match self.0.call(|h| unsafe { sys::cf_next(h, who, &mut task) }) {
@@ -162,12 +162,12 @@ impl Graph {
     /// builder.stage(Form::Supply, &[], Some(7))?;
     /// builder.stage(Form::Supply, &[], Some(8))?;
     /// let mut graph = builder.build()?.graph(0)?;
-    /// let steps = graph.round(3, &[None, None, None])?;
+    /// let steps = graph.step_all(3, &[None, None, None])?;
     /// assert_eq!(steps.iter().map(|step| step.taken.map(|taken| taken.stage)).collect::<Vec<_>>(), [Some(0), Some(1), None]);
     /// # Ok(())
     /// # }
     /// ```
-    pub fn round(&mut self, who: u8, held: &[Option<(u16, Answer)>]) -> Result<Vec<Step>, Refused> {
+    pub fn step_all(&mut self, who: u8, held: &[Option<(u16, Answer)>]) -> Result<Vec<Stepped>, Refused> {
         let mut tasks: Vec<_> = held.iter().copied().map(task_in).collect();
         let (first, n) = (tasks.as_mut_ptr(), tasks.len());
         // SAFETY: alone, pointers: `h` is this call's, and `first` points to as many tasks as said.
@@ -179,7 +179,7 @@ impl Graph {
 
     /// Makes it a sweep, which takes no other call until it ends as the graph.
     pub fn sweep(self) -> Result<Sweep, Refused> {
-        Sweep::of(self)
+        Sweep::over(self)
     }
 
     /// Claims ready stages, the lowest first, calls `function` with the number of each stage's function and its arguments, and finishes

@@ -19,7 +19,7 @@
 //! and what the library allocates it frees itself.
 //!
 //! [`checked`]: crate::refused::checked
-use crate::refused::{done, Refused};
+use crate::refused::{ok_or_refused, Refused};
 use cf_sys as sys;
 
 /// Each call takes the handle by `&mut`, so that one call at a time has it; nothing copies it.
@@ -37,20 +37,20 @@ impl Handle {
     }
 
     /// Of a handle that nobody uses any more.
-    pub(crate) fn of(handle: sys::cf_handle) -> Handle {
+    pub(crate) fn owning(handle: sys::cf_handle) -> Handle {
         Handle(handle)
     }
 
     /// Makes a call on the handle, which answers a code.
     pub(crate) fn call(&mut self, call: impl FnOnce(*mut sys::cf_handle) -> u32) -> Result<(), Refused> {
-        done(call(&mut self.0))
+        ok_or_refused(call(&mut self.0))
     }
 
     /// Makes a call on the handle, which tells something where it isn't refused.
     #[inline]
     pub(crate) fn tell<T: Default>(&mut self, call: impl FnOnce(*mut sys::cf_handle, *mut T) -> u32) -> Result<T, Refused> {
         let mut told = T::default();
-        done(call(&mut self.0, &mut told))?;
+        ok_or_refused(call(&mut self.0, &mut told))?;
         Ok(told)
     }
 }

@@ -3,7 +3,7 @@ use crate::event::{reply_of_word, Event};
 use crate::handle::Handle;
 use crate::plan::Plan;
 use crate::refused::{if_there, Refused};
-use crate::step::{step_out, task_in, Step};
+use crate::step::{step_out, task_in, Stepped};
 use crate::values::*;
 use cf_sys as sys;
 
@@ -27,7 +27,7 @@ use cf_sys as sys;
 #[derive(Debug)]
 pub struct Ledger {
     handle: Handle,
-    /// What the last word changed.
+    /// The changes of the last word.
     changes: Changes,
 }
 
@@ -42,50 +42,50 @@ pub struct Changes {
 #[derive(Clone, Copy, PartialEq, Eq, Debug)]
 #[non_exhaustive]
 pub enum State {
-    /// It waits for its sources, or for whoever completes it.
+    /// It waits for its sources, or for a call that completes it.
     Pending,
     /// Its function can be claimed.
     Ready,
     /// Its function was claimed, and isn't finished.
     Claimed,
-    /// It takes over what this stage ends in.
+    /// It takes over the outcome of this stage.
     Linked(u16),
-    /// It has ended so.
+    /// It is settled with this outcome.
     Settled(Outcome),
 }
 
-/// What a stage is.
+/// The state of a stage, and its claim.
 #[derive(Clone, Copy, PartialEq, Eq, Debug)]
 pub struct Stage {
-    /// Where it stands.
+    /// The stage's state.
     pub state: State,
-    /// The caller whose claim of it is open, also once it was settled by another call.
+    /// The caller whose claim of it is open, also if another call has settled it.
     pub who: Option<u8>,
 }
 
-/// A stage that a word changed, and what it is now.
+/// A stage that a word changed.
 #[derive(Clone, Copy, PartialEq, Eq, Debug)]
 pub struct News {
-    /// Its number.
+    /// The stage's number.
     pub stage: u16,
-    /// What it is now.
+    /// The stage as it is now.
     pub now: Stage,
 }
 
-/// Why words make no ledger, and at which place, from 0 on, the first stands that can't be done.
+/// The reason why words make no ledger, and the first word that can't be done.
 #[derive(Clone, Copy, PartialEq, Eq, Debug)]
 pub struct Misfit {
     /// `NO_WORD`, `NO_STAGE`, `NO_ROOM`, or a refusal that speaks of no word.
     pub why: Refused,
-    /// The place of the word, where it is one's fault.
+    /// The place of the word, from 0 on, if one is at fault.
     pub place: Option<usize>,
 }
 
-/// How many changed stages there is room for at first. A word that changes more is asked about once more, and then there is room.
+/// The room for changed stages at first. A word that changes more is asked about once more, with more room.
 const NEWS: usize = 16;
 
 impl Changes {
-    /// How many they are.
+    /// The number of changed stages.
     #[inline]
     pub fn len(&self) -> usize {
         self.count
@@ -97,18 +97,18 @@ impl Changes {
         self.count == 0
     }
 
-    /// One of them, by its place among them.
+    /// The changed stage at an index.
     ///
     /// # Panics
     ///
-    /// Where there are no more than `at`.
+    /// If there are no more than `at`.
     #[inline]
     pub fn at(&self, at: usize) -> News {
         let news = &self.news[..self.count][at];
         News { stage: news.stage, now: stage_out(news.now) }
     }
 
-    /// All of them.
+    /// All changed stages.
     #[inline]
     pub fn iter(&self) -> impl ExactSizeIterator<Item = News> + '_ {
         self.news[..self.count].iter().map(|news| News { stage: news.stage, now: stage_out(news.now) })
@@ -132,13 +132,13 @@ impl Changes {
         answer
     }
 
-    /// Whether there was more to tell than room for it.
+    /// Whether there were more changes than room.
     #[inline]
-    pub(crate) fn misses(&self) -> bool {
+    pub(crate) fn has_untold(&self) -> bool {
         self.count > self.news.len()
     }
 
-    /// Asks for what the word at a place changed, where that was more than there was room for.
+    /// Asks for the changes of the word at a place, with more room.
     #[cold]
     pub(crate) fn tell_more(&mut self, handle: &mut Handle, place: usize) -> Result<(), Refused> {
         let mut stages = vec![0; self.count];
@@ -155,16 +155,16 @@ impl Changes {
 }
 
 impl Ledger {
-    /// A ledger of the plan in which nothing is written, with room for so many stages that are attached later. `ROOM`, `NO_MEMORY`.
+    /// Opens an empty ledger of the plan, with room for this many stages that are attached later. `ROOM`, `NO_MEMORY`.
     pub fn new(plan: &mut Plan, room: u16) -> Result<Ledger, Refused> {
         let mut handle = Handle::empty();
         // SAFETY: alone, apart: two handles, and both are this call's.
         plan.0.call(|plan| Refused::code_of(handle.call(|h| unsafe { sys::cf_ledger_new(plan, room, h) })))?;
-        Ok(Ledger::behind(handle))
+        Ok(Ledger::with_handle(handle))
     }
 
-    /// The same, in which these words are done and written, one after another.
-    pub fn of_words(plan: &mut Plan, room: u16, words: &[u64]) -> Result<Ledger, Misfit> {
+    /// Opens a ledger in which these words are done, one after another.
+    pub fn from_words(plan: &mut Plan, room: u16, words: &[u64]) -> Result<Ledger, Misfit> {
         let (mut handle, mut place) = (Handle::empty(), usize::MAX);
         let (first, n, at) = (words.as_ptr(), words.len(), &mut place);
         let made = plan.0.call(|plan| {
@@ -172,10 +172,10 @@ impl Ledger {
             Refused::code_of(handle.call(|h| unsafe { sys::cf_ledger_of(plan, room, first, n, h, at) }))
         });
         made.map_err(|why| Misfit { why, place: (place != usize::MAX).then_some(place) })?;
-        Ok(Ledger::behind(handle))
+        Ok(Ledger::with_handle(handle))
     }
 
-    fn behind(handle: Handle) -> Ledger {
+    fn with_handle(handle: Handle) -> Ledger {
         Ledger { handle, changes: Changes::default() }
     }
 
@@ -187,7 +187,7 @@ impl Ledger {
         apply(handle, word, changes)
     }
 
-    /// The same, which tells there what it changed.
+    /// Does the event of a word, and tells the changes in `changes`.
     #[inline]
     pub fn apply_telling(&mut self, word: u64, changes: &mut Changes) -> Result<Reply, Refused> {
         apply(&mut self.handle, word, changes)
@@ -201,8 +201,8 @@ impl Ledger {
     /// use cf_graph::{Answer, Args, Call, Changes, Event, Form, Ledger, Of, PlanBuilder, Value};
     /// # fn main() -> Result<(), cf_graph::Refused> {
     /// let mut ledger = Ledger::new(&mut PlanBuilder::new()?.build()?, 2)?;
-    /// ledger.act(Event { who: 0, call: Call::Attach(Form::Supply, Of::None, Some(0)) })?;
-    /// ledger.act(Event { who: 0, call: Call::Attach(Form::Apply, Of::One(0), Some(1)) })?;
+    /// ledger.apply_event(Event { who: 0, call: Call::Attach(Form::Supply, Of::None, Some(0)) })?;
+    /// ledger.apply_event(Event { who: 0, call: Call::Attach(Form::Apply, Of::One(0), Some(1)) })?;
     /// let mut changes = Changes::default();
     /// let first = ledger.step(3, None, 0, &mut changes)?.taken.unwrap();
     /// assert_eq!((first.stage, first.args), (0, Args::None));
@@ -213,7 +213,7 @@ impl Ledger {
     /// # }
     /// ```
     #[inline]
-    pub fn step(&mut self, who: u8, held: Option<(u16, Answer)>, from: u16, changes: &mut Changes) -> Result<Step, Refused> {
+    pub fn step(&mut self, who: u8, held: Option<(u16, Answer)>, from: u16, changes: &mut Changes) -> Result<Stepped, Refused> {
         let mut step = sys::cf_step { who, from, ..sys::cf_step::default() };
         let mut task = task_in(held);
         let told = (&mut step, &mut task);
@@ -222,7 +222,7 @@ impl Ledger {
             Ok(()) | Err(Refused::NOTHING) => {}
             Err(refused) => return Err(refused),
         }
-        if changes.misses() {
+        if changes.has_untold() {
             changes.tell_more(&mut self.handle, step.place)?;
         }
         Ok(step_out(held, &task))
@@ -238,7 +238,7 @@ impl Ledger {
         (done, answer)
     }
 
-    /// Starts again: no word is written then, and all of its room is free. `NO_MEMORY`.
+    /// Starts again without words, with all room free. `NO_MEMORY`.
     pub fn restart(&mut self) -> Result<(), Refused> {
         self.changes.count = 0;
         // SAFETY: alone: `h` is this call's.
@@ -251,22 +251,22 @@ impl Ledger {
         self.changes.iter()
     }
 
-    /// How many words there are.
-    pub fn count(&mut self) -> Result<usize, Refused> {
-        count(&mut self.handle)
+    /// The number of words.
+    pub fn word_count(&mut self) -> Result<usize, Refused> {
+        word_count(&mut self.handle)
     }
 
-    /// The words of all that was done, in their one order.
+    /// All words, in their one order.
     pub fn words(&mut self) -> Result<Vec<u64>, Refused> {
         words(&mut self.handle)
     }
 
     /// The lowest ready stage from this number on.
-    pub fn ready(&mut self, from: u16) -> Result<Option<u16>, Refused> {
-        ready(&mut self.handle, from)
+    pub fn lowest_ready(&mut self, from: u16) -> Result<Option<u16>, Refused> {
+        lowest_ready(&mut self.handle, from)
     }
 
-    /// What a stage is. `NO_STAGE`.
+    /// The state of a stage. `NO_STAGE`.
     pub fn stage(&mut self, number: u16) -> Result<Stage, Refused> {
         stage(&mut self.handle, number)
     }
@@ -277,19 +277,19 @@ impl Ledger {
         if_there(self.handle.tell(|h, told| unsafe { sys::cf_ledger_function(h, stage, told) }))
     }
 
-    /// How many stages there are by now.
-    pub fn stages(&mut self) -> Result<u16, Refused> {
-        stages(&mut self.handle)
+    /// The number of stages.
+    pub fn stage_count(&mut self) -> Result<u16, Refused> {
+        stage_count(&mut self.handle)
     }
 
-    /// Makes room for so many stages more, by doing all words again. `ROOM`, `NO_MEMORY`.
+    /// Makes room for `more` stages, by doing all words again. `ROOM`, `NO_MEMORY`.
     pub fn grow(&mut self, more: u16) -> Result<(), Refused> {
         // SAFETY: alone: `h` is this call's.
         self.handle.call(|h| unsafe { sys::cf_ledger_grow(h, more) })
     }
 
     /// Does an event, as [`apply`](Ledger::apply) does its word.
-    pub fn act(&mut self, event: Event) -> Result<Reply, Refused> {
+    pub fn apply_event(&mut self, event: Event) -> Result<Reply, Refused> {
         self.apply(event.word()?)
     }
 }
@@ -300,15 +300,15 @@ fn apply(handle: &mut Handle, word: u64, changes: &mut Changes) -> Result<Reply,
     let told = &mut reply;
     // SAFETY: alone, pointers: `h` and what is told to are this call's, and `news` points to as many elements as said.
     changes.tell(handle, |h, news, room, n| unsafe { sys::cf_ledger_apply(h, word, told, news, room, n) })?;
-    if changes.misses() {
-        let last = count(handle)? - 1;
+    if changes.has_untold() {
+        let last = word_count(handle)? - 1;
         changes.tell_more(handle, last)?;
     }
     Ok(reply_of_word(word, reply))
 }
 
 /// How many words there are.
-pub(crate) fn count(handle: &mut Handle) -> Result<usize, Refused> {
+pub(crate) fn word_count(handle: &mut Handle) -> Result<usize, Refused> {
     // SAFETY: alone, pointers: `h` and what is told to are this call's, and there is room for no word.
     handle.tell(|h, told| unsafe { sys::cf_ledger_words(h, 0, std::ptr::null_mut(), 0, told) })
 }
@@ -317,7 +317,7 @@ pub(crate) fn count(handle: &mut Handle) -> Result<usize, Refused> {
 
 /// The words of all that was done.
 pub(crate) fn words(handle: &mut Handle) -> Result<Vec<u64>, Refused> {
-    let mut words = vec![0; count(handle)?];
+    let mut words = vec![0; word_count(handle)?];
     let (first, room) = (words.as_mut_ptr(), words.len());
     // SAFETY: alone, pointers: `h` and what is told to are this call's, and `first` points to as many words as said.
     handle.tell(|h, told| unsafe { sys::cf_ledger_words(h, 0, first, room, told) })?;
@@ -325,7 +325,7 @@ pub(crate) fn words(handle: &mut Handle) -> Result<Vec<u64>, Refused> {
 }
 
 /// The lowest ready stage from this number on.
-pub(crate) fn ready(handle: &mut Handle, from: u16) -> Result<Option<u16>, Refused> {
+pub(crate) fn lowest_ready(handle: &mut Handle, from: u16) -> Result<Option<u16>, Refused> {
     // SAFETY: alone, pointers: `h` and what is told to are this call's.
     if_there(handle.tell(|h, told| unsafe { sys::cf_ledger_ready(h, from, told) }))
 }
@@ -337,7 +337,7 @@ pub(crate) fn stage(handle: &mut Handle, stage: u16) -> Result<Stage, Refused> {
 }
 
 /// How many stages there are by now.
-pub(crate) fn stages(handle: &mut Handle) -> Result<u16, Refused> {
+pub(crate) fn stage_count(handle: &mut Handle) -> Result<u16, Refused> {
     // SAFETY: alone, pointers: `h` and what is told to are this call's.
     handle.tell(|h, told| unsafe { sys::cf_ledger_stages(h, told) })
 }

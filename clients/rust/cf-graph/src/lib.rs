@@ -51,7 +51,7 @@
 //!
 //! ```compile_fail
 //! fn while_it_works(mut graph: cf_graph::Graph) {
-//!     let _ = graph.work(0, |_, _| cf_graph::Answer::Link(graph.stages().unwrap()));
+//!     let _ = graph.work(0, |_, _| cf_graph::Answer::Link(graph.stage_count().unwrap()));
 //! }
 //! ```
 //!
@@ -90,10 +90,10 @@ pub use graph::Graph;
 pub use ledger::{Changes, Ledger, Misfit, News, Stage, State};
 pub use plan::{Form, Limit, Plan, PlanBuilder, Sizes};
 pub use refused::Refused;
-pub use request::{Calls, Deadline, Request, RequestSizes, Task, Told};
+pub use request::{Calls, Deadline, Request, RequestSizes, SettledStages, Task};
 pub use row::{Entry, Row, RowOpening};
-pub use step::{Step, Taken};
+pub use step::{ClaimedStage, Stepped};
 pub use sweep::Sweep;
-pub use tale::{Said, Tale, Telling};
+pub use tale::{Label, Tale, TaleFormat};
 pub use text::{outcome_text, run_script, ScriptFault};
 pub use values::{Answer, Args, Cause, Claimed, Failure, Finished, Now, Outcome, Reply, Ticked, Value};

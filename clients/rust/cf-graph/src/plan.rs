@@ -1,8 +1,8 @@
 //! Plans, and how they are built.
-use crate::desk::{opened, Caller, Desk};
+use crate::desk::{desk_and_callers, Caller, Desk};
 use crate::graph::Graph;
 use crate::handle::Handle;
-use crate::refused::{checked, Refused};
+use crate::refused::{check_library_once, Refused};
 use crate::values::{value_in, Value};
 use cf_sys as sys;
 
@@ -95,7 +95,7 @@ pub struct PlanBuilder(Handle);
 impl PlanBuilder {
     /// An empty builder. `OTHER_LIBRARY` where the library isn't the one that this crate was written for, `NO_MEMORY`.
     pub fn new() -> Result<PlanBuilder, Refused> {
-        checked()?;
+        check_library_once()?;
         let mut handle = Handle::empty();
         // SAFETY: this library, alone: `h` is this call's.
         handle.call(|h| unsafe { sys::cf_builder_new(h, 0, 0) })?;
@@ -161,7 +161,7 @@ impl Plan {
                 unsafe { sys::cf_desk_open_with(plan, callers, n, &grown) }
             }
         })?;
-        Ok(opened(sizes, handles))
+        Ok(desk_and_callers(sizes, handles))
     }
 }
 

@@ -138,7 +138,7 @@ impl Refused {
     /// Its name, as the library has it: `NoStage`. Another library than this crate was written for isn't asked, and no code of the library has
     /// none.
     pub fn name(self) -> String {
-        if checked().is_err() {
+        if check_library_once().is_err() {
             return String::new();
         }
         // SAFETY: this library, pointers: `text` has `room` bytes, and `length` is a local of `told`.
@@ -160,17 +160,17 @@ impl Error for Refused {}
 
 /// Compares the library with the declarations, at the first call. `OTHER_LIBRARY`.
 #[inline]
-pub(crate) fn checked() -> Result<(), Refused> {
+pub(crate) fn check_library_once() -> Result<(), Refused> {
     if IS_CHECKED.load(Ordering::Relaxed) {
         return Ok(());
     }
-    check()
+    check_library()
 }
 
 static IS_CHECKED: AtomicBool = AtomicBool::new(false);
 
 #[cold]
-fn check() -> Result<(), Refused> {
+fn check_library() -> Result<(), Refused> {
     if cf_sys::mismatch().is_some() {
         return Err(Refused::OTHER_LIBRARY);
     }
@@ -179,7 +179,7 @@ fn check() -> Result<(), Refused> {
 }
 
 #[inline]
-pub(crate) fn done(code: u32) -> Result<(), Refused> {
+pub(crate) fn ok_or_refused(code: u32) -> Result<(), Refused> {
     if code == 0 {
         Ok(())
     } else {

@@ -1,31 +1,32 @@
-//! Requests: a ledger that also says what is to be done next, and tells each settled stage once.
+//! Requests: a ledger that also says what to do next, and tells each settled stage once.
 use crate::event::reply_of_word;
 use crate::handle::Handle;
 use crate::ledger::{self, Stage};
 use crate::plan::{limit_in, Form, Limit, Plan};
 use crate::refused::{if_there, Refused};
-use crate::step::{step_out, taken_out, task_in, Step};
+use crate::step::{step_out, taken_out, task_in, Stepped};
 use crate::values::*;
 use cf_sys as sys;
 
-/// One request of a service as a machine: it decides what a service has to decide for a request, and does none of it. It has no thread, no
-/// clock and no lock. The program that uses it is its host: it says what happened, and is told what is to be done. It goes to any thread, and is
-/// in one call at a time, since each takes it by `&mut`: threads share it behind a `Mutex`.
+/// One request of a service as a machine. It decides what to do for the request, and does none of it: it has no thread, no clock and no lock. Its
+/// host is the program that tells it what happened, and does what it says. It goes to any thread, and is in one call at a time, since each takes it
+/// by
+/// `&mut`: threads share it behind a `Mutex`.
 ///
-/// Each call that can settle stages tells them: [`Told`].
+/// Each call that can settle stages tells them: [`SettledStages`].
 ///
 /// ```
-/// use cf_graph::{Answer, Args, Call, Event, Form, Of, PlanBuilder, Request, RequestSizes, Told, Value};
+/// use cf_graph::{Answer, Args, Call, Event, Form, Of, PlanBuilder, Request, RequestSizes, SettledStages, Value};
 /// # fn main() -> Result<(), cf_graph::Refused> {
 /// let mut plan = PlanBuilder::new()?.build()?;
 /// let mut request = Request::new(&mut plan, RequestSizes { room: 2, lanes: 1, own: 63 }, &[])?;
-/// let mut told = Told::default();
+/// let mut told = SettledStages::default();
 /// request.apply(Event { who: 0, call: Call::Attach(Form::Supply, Of::None, Some(5)) }.word()?, 0, &mut told)?;
 /// request.apply(Event { who: 0, call: Call::Attach(Form::Apply, Of::One(0), Some(6)) }.word()?, 0, &mut told)?;
-/// assert_eq!(request.ready(0)?, 1);
-/// let first = request.next(3, 0, None, &mut told)?.taken.unwrap();
+/// assert_eq!(request.ready_count(0)?, 1);
+/// let first = request.claim_next(3, 0, None, &mut told)?.taken.unwrap();
 /// assert_eq!((first.stage, first.function, first.args), (0, 5, Args::None));
-/// let second = request.next(3, 0, Some((0, Answer::Give(Value::Int(7)))), &mut told)?.taken.unwrap();
+/// let second = request.claim_next(3, 0, Some((0, Answer::Give(Value::Int(7)))), &mut told)?.taken.unwrap();
 /// assert_eq!((second.stage, second.args), (1, Args::One(Value::Int(7))));
 /// assert_eq!(told.iter().map(|(stage, _)| stage).collect::<Vec<_>>(), [0]);
 /// # Ok(())
@@ -34,63 +35,63 @@ use cf_sys as sys;
 #[derive(Debug)]
 pub struct Request(Handle);
 
-/// What a request is opened with.
+/// The sizes of a request.
 #[derive(Clone, Copy, PartialEq, Eq, Debug)]
 pub struct RequestSizes {
-    /// How many stages may be attached later.
+    /// The room for stages that are attached later.
     pub room: u16,
-    /// How many lanes there are, 1 to 16: whoever runs a lane calls the functions of its stages.
+    /// The number of lanes, 1 to 16. The caller that runs a lane calls the functions of its stages.
     pub lanes: u8,
     /// The caller in whose name the request itself settles stages, 0 to 63.
     pub own: u8,
 }
 
-/// A moment by which a stage is to be settled, and what is done to it if it isn't.
+/// A moment by which a stage is to be settled, and the limit that settles it otherwise.
 #[derive(Clone, Copy, PartialEq, Eq, Debug)]
 pub struct Deadline {
     /// The stage's number.
     pub stage: u16,
     /// The moment, in a unit of your choice.
     pub moment: u64,
-    /// What is done to the stage.
+    /// The limit.
     pub limit: Limit,
 }
 
-/// The stages that a call told, with their outcomes. Each is told once, when it is settled, in the order of the events that settled them; those
-/// of one event rise. It keeps its room, so one serves the calls of many requests.
+/// The stages that a call settled, with their outcomes. Each is told once, in the order of the events that settled them; those of one event rise. It
+/// keeps its room, so one serves the calls of many requests.
 #[derive(Debug, Default)]
-pub struct Told(Vec<sys::cf_told>);
+pub struct SettledStages(Vec<sys::cf_told>);
 
-/// For how many stages there is room at first. What a call couldn't tell is asked for at once, and then there is room.
+/// The room for settled stages at first. The rest is asked for at once, with more room.
 const ROOM: usize = 16;
 
-impl Told {
-    /// How many they are.
+impl SettledStages {
+    /// The number of stages.
     #[inline]
     pub fn len(&self) -> usize {
         self.0.len()
     }
 
-    /// Whether none was told.
+    /// Whether no stage was settled.
     #[inline]
     pub fn is_empty(&self) -> bool {
         self.0.is_empty()
     }
 
-    /// One of them, by its place among them.
+    /// The stage at an index, and its outcome.
     ///
     /// # Panics
     ///
-    /// Where there are no more than `at`.
+    /// If there are no more than `at`.
     #[inline]
     pub fn at(&self, at: usize) -> (u16, Outcome) {
-        told_out(&self.0[at])
+        settled_stage_out(&self.0[at])
     }
 
-    /// All of them.
+    /// All stages and their outcomes.
     #[inline]
     pub fn iter(&self) -> impl ExactSizeIterator<Item = (u16, Outcome)> + '_ {
-        self.0.iter().map(told_out)
+        self.0.iter().map(settled_stage_out)
     }
 
     /// Makes a call that tells: where to, for how many there is room, and where it writes how many there were to tell. What there was no room
@@ -136,37 +137,37 @@ impl Told {
     }
 }
 
-/// What a caller of a lane has in its hands: the stage that it has claimed, what that one's function is to be called with, and then what it
-/// answered. One serves all steps of a caller: it holds nothing before the first, and what the step before has claimed then.
+/// A caller's claimed stage, the arguments of its function, and then its answer. One serves all steps of a caller. It is empty before the first step,
+/// and then holds what the last step claimed.
 #[derive(Debug, Default)]
 pub struct Task(sys::cf_task);
 
 impl Task {
-    /// The stage that is held, if one is.
+    /// The claimed stage, if there is one.
     #[inline]
     pub fn stage(&self) -> Option<u16> {
         (self.0.held != 0).then_some(self.0.stage)
     }
 
-    /// What the function of the stage that is held is to be called with.
+    /// The arguments of the claimed stage's function.
     #[inline]
     pub fn args(&self) -> Args {
         args_out(&self.0.args)
     }
 
-    /// Says what the function of the stage that is held answered. The next step finishes the stage with that.
+    /// Sets the function's answer, with which the next step finishes the stage.
     #[inline]
-    pub fn answer(&mut self, answer: Answer) {
+    pub fn set_answer(&mut self, answer: Answer) {
         self.0.answer = answer_in(answer);
     }
 
-    /// How the finish of the stage went that was held before the last step.
+    /// The result of the last step's finish.
     #[inline]
-    pub fn finished(&self) -> Finished {
+    pub fn last_finish(&self) -> Finished {
         finished_of(self.0.finished)
     }
 
-    /// Holds nothing any more: the stage is finished by another call.
+    /// Empties it, since another call finishes the stage.
     #[inline]
     pub fn clear(&mut self) {
         self.0.held = 0;
@@ -174,7 +175,7 @@ impl Task {
 }
 
 impl Request {
-    /// A request of the plan in which nothing is done, with the lanes of the plan's stages. Nothing follows, nothing is due, and the moment is
+    /// Opens a request of the plan, with the lanes of the plan's stages. Nothing follows, nothing is due, and the moment is
     /// 0. `LANES`, `NO_LANE`, `NO_WORD` where `own` is above 63, `ROOM`, `NO_MEMORY`.
     pub fn new(plan: &mut Plan, sizes: RequestSizes, lanes: &[u8]) -> Result<Request, Refused> {
         let sizes = sys::cf_request_sizes { room: sizes.room, lanes: sizes.lanes, own: sizes.own };
@@ -189,7 +190,7 @@ impl Request {
     /// Does the event of a word as a ledger does, and settles the stages that follow one that is settled now. A stage that it attaches is of this
     /// lane. `NO_LANE`, `NO_WORD`, `NO_STAGE`, `NO_ROOM`, `NO_MEMORY`: nothing is changed then.
     #[inline(always)]
-    pub fn apply(&mut self, word: u64, lane: u8, told: &mut Told) -> Result<Reply, Refused> {
+    pub fn apply(&mut self, word: u64, lane: u8, told: &mut SettledStages) -> Result<Reply, Refused> {
         let mut applied = sys::cf_applied::default();
         let to = &mut applied;
         told.tell(&mut self.0, |h, rows, room, n| {
@@ -208,10 +209,10 @@ impl Request {
     /// `who` is above 63, `NO_STAGE`, `NO_ROOM`, `NO_MEMORY`.
     ///
     /// ```
-    /// use cf_graph::{Call, Event, Form, Of, Outcome, PlanBuilder, Request, RequestSizes, Told, Value};
+    /// use cf_graph::{Call, Event, Form, Of, Outcome, PlanBuilder, Request, RequestSizes, SettledStages, Value};
     /// # fn main() -> Result<(), cf_graph::Refused> {
     /// let sizes = RequestSizes { room: 5, lanes: 1, own: 63 };
-    /// let (mut request, mut told) = (Request::new(&mut PlanBuilder::new()?.build()?, sizes, &[])?, Told::default());
+    /// let (mut request, mut told) = (Request::new(&mut PlanBuilder::new()?.build()?, sizes, &[])?, SettledStages::default());
     /// for _ in 0..3 {
     ///     request.apply(Event { who: 0, call: Call::Attach(Form::Source, Of::None, None) }.word()?, 0, &mut told)?;
     /// }
@@ -221,7 +222,7 @@ impl Request {
     /// # Ok(())
     /// # }
     /// ```
-    pub fn gather(&mut self, who: u8, form: Form, sources: &[u16], told: &mut Told) -> Result<u16, Refused> {
+    pub fn gather(&mut self, who: u8, form: Form, sources: &[u16], told: &mut SettledStages) -> Result<u16, Refused> {
         let mut step = sys::cf_request_gathering { who, form: form as u32, ..Default::default() };
         let (first, many, to) = (sources.as_ptr(), sources.len(), &mut step);
         told.tell(&mut self.0, |h, rows, room, n| {
@@ -237,7 +238,7 @@ impl Request {
     /// One step of a caller of a lane: finishes the stage that it holds with this answer, settles the stages that follow one that is settled now,
     /// and claims the lowest ready stage of the lane. `NO_LANE`, `NO_WORD` where `who` is above 63, `NO_STAGE`, `NOT_HELD`, `NO_MEMORY`: nothing is
     /// changed then.
-    pub fn next(&mut self, who: u8, lane: u8, held: Option<(u16, Answer)>, told: &mut Told) -> Result<Step, Refused> {
+    pub fn claim_next(&mut self, who: u8, lane: u8, held: Option<(u16, Answer)>, told: &mut SettledStages) -> Result<Stepped, Refused> {
         let mut task = Task(task_in(held));
         self.step(who, lane, &mut task, told)?;
         Ok(step_out(held, &task.0))
@@ -246,22 +247,22 @@ impl Request {
     /// The same, with what the caller has in its hands, and then has.
     ///
     /// ```
-    /// use cf_graph::{Answer, Call, Event, Finished, Form, Of, PlanBuilder, Request, RequestSizes, Task, Told, Value};
+    /// use cf_graph::{Answer, Call, Event, Finished, Form, Of, PlanBuilder, Request, RequestSizes, Task, SettledStages, Value};
     /// # fn main() -> Result<(), cf_graph::Refused> {
     /// let sizes = RequestSizes { room: 1, lanes: 1, own: 63 };
-    /// let (mut request, mut told) = (Request::new(&mut PlanBuilder::new()?.build()?, sizes, &[])?, Told::default());
+    /// let (mut request, mut told) = (Request::new(&mut PlanBuilder::new()?.build()?, sizes, &[])?, SettledStages::default());
     /// request.apply(Event { who: 0, call: Call::Attach(Form::Supply, Of::None, Some(0)) }.word()?, 0, &mut told)?;
     /// let mut task = Task::default();
     /// request.step(3, 0, &mut task, &mut told)?;
     /// assert_eq!(task.stage(), Some(0));
-    /// task.answer(Answer::Give(Value::Int(7)));
+    /// task.set_answer(Answer::Give(Value::Int(7)));
     /// request.step(3, 0, &mut task, &mut told)?;
-    /// assert_eq!((task.finished(), task.stage(), told.at(0).0), (Finished::Won, None, 0));
+    /// assert_eq!((task.last_finish(), task.stage(), told.at(0).0), (Finished::Won, None, 0));
     /// # Ok(())
     /// # }
     /// ```
     #[inline(always)]
-    pub fn step(&mut self, who: u8, lane: u8, task: &mut Task, told: &mut Told) -> Result<(), Refused> {
+    pub fn step(&mut self, who: u8, lane: u8, task: &mut Task, told: &mut SettledStages) -> Result<(), Refused> {
         let mut step = sys::cf_request_step { who, lane, told: 0 };
         let to = (&mut step, &mut task.0);
         let answer = told.tell(&mut self.0, |h, rows, room, n| {
@@ -278,36 +279,37 @@ impl Request {
     }
 
     /// From now on a stage ends as another stage of the request does, unless it is settled before. `NO_STAGE`, `NO_MEMORY`.
-    pub fn follow(&mut self, relay: u16, stage: u16, told: &mut Told) -> Result<(), Refused> {
+    pub fn follow(&mut self, relay: u16, stage: u16, told: &mut SettledStages) -> Result<(), Refused> {
         // SAFETY: alone, pointers: `h` and what is told to are this call's, and `rows` points to as many elements as said.
         told.tell(&mut self.0, |h, rows, room, n| unsafe { sys::cf_request_follow(h, relay, stage, rows, room, n) })
     }
 
-    /// Sets a moment by which a stage has to be settled: [`pass`](Request::pass) does this to it if it is open then. `NO_STAGE`, `NO_MEMORY`.
-    pub fn deadline(&mut self, stage: u16, moment: u64, limit: Limit) -> Result<(), Refused> {
+    /// Sets a moment by which a stage has to be settled: [`pass_time_to`](Request::pass_time_to) does this to it if it is open then. `NO_STAGE`,
+    /// `NO_MEMORY`.
+    pub fn set_deadline(&mut self, stage: u16, moment: u64, limit: Limit) -> Result<(), Refused> {
         let (kind, value) = limit_in(limit);
         // SAFETY: alone: `h` is this call's.
         self.0.call(|h| unsafe { sys::cf_request_deadline(h, stage, moment, kind, value) })
     }
 
-    /// Lets time pass up to a moment: all open stages whose deadline has come are settled, in the order of their moments, and those of one
+    /// Passes time to a moment: all open stages whose deadline has come are settled, in the order of their moments, and those of one
     /// moment in the order in which the deadlines were set. `PAST_MOMENT` where it is before the last one, `NO_MEMORY`.
     ///
     /// ```
-    /// use cf_graph::{Call, Cause, Event, Form, Limit, Of, Outcome, PlanBuilder, Request, RequestSizes, Told};
+    /// use cf_graph::{Call, Cause, Event, Form, Limit, Of, Outcome, PlanBuilder, Request, RequestSizes, SettledStages};
     /// # fn main() -> Result<(), cf_graph::Refused> {
     /// let sizes = RequestSizes { room: 1, lanes: 1, own: 63 };
-    /// let (mut request, mut told) = (Request::new(&mut PlanBuilder::new()?.build()?, sizes, &[])?, Told::default());
+    /// let (mut request, mut told) = (Request::new(&mut PlanBuilder::new()?.build()?, sizes, &[])?, SettledStages::default());
     /// request.apply(Event { who: 0, call: Call::Attach(Form::Source, Of::None, None) }.word()?, 0, &mut told)?;
-    /// request.deadline(0, 5_000, Limit::Timeout)?;
+    /// request.set_deadline(0, 5_000, Limit::Timeout)?;
     /// assert_eq!(request.next_deadline()?.map(|next| next.moment), Some(5_000));
-    /// request.pass(5_000, &mut told)?;
+    /// request.pass_time_to(5_000, &mut told)?;
     /// assert_eq!(told.at(0), (0, Outcome::Fault { cause: Cause::TimedOut, wrapped: false }));
     /// assert_eq!(request.next_deadline()?, None);
     /// # Ok(())
     /// # }
     /// ```
-    pub fn pass(&mut self, moment: u64, told: &mut Told) -> Result<(), Refused> {
+    pub fn pass_time_to(&mut self, moment: u64, told: &mut SettledStages) -> Result<(), Refused> {
         // SAFETY: alone, pointers: `h` and what is told to are this call's, and `rows` points to as many elements as said.
         told.tell(&mut self.0, |h, rows, room, n| unsafe { sys::cf_request_pass(h, moment, rows, room, n) })
     }
@@ -320,43 +322,44 @@ impl Request {
         Ok(if_there(next)?.map(|next| Deadline { stage: next.stage, moment: next.moment, limit: limit(next.kind, next.value) }))
     }
 
-    /// Nobody runs a lane any more: its ready stages fail with this code, and so do those that become ready by that. `NO_LANE`, `NO_MEMORY`.
-    pub fn refuse(&mut self, lane: u8, code: u32, told: &mut Told) -> Result<(), Refused> {
+    /// Refuses a lane that no caller runs any more: its ready stages fail with this code, and so do those that become ready by that. `NO_LANE`,
+    /// `NO_MEMORY`.
+    pub fn refuse_lane(&mut self, lane: u8, code: u32, told: &mut SettledStages) -> Result<(), Refused> {
         // SAFETY: alone, pointers: `h` and what is told to are this call's, and `rows` points to as many elements as said.
         told.tell(&mut self.0, |h, rows, room, n| unsafe { sys::cf_request_refuse(h, lane, code, rows, room, n) })
     }
 
     /// Cancels all stages that are open, from the lowest on, by words of a caller. `NO_WORD` where `who` is above 63, `NO_MEMORY`.
-    pub fn cancel_all(&mut self, who: u8, told: &mut Told) -> Result<(), Refused> {
+    pub fn cancel_all(&mut self, who: u8, told: &mut SettledStages) -> Result<(), Refused> {
         // SAFETY: alone, pointers: `h` and what is told to are this call's, and `rows` points to as many elements as said.
         told.tell(&mut self.0, |h, rows, room, n| unsafe { sys::cf_request_cancel_all(h, who, rows, room, n) })
     }
 
     /// Tells the stages that are settled and weren't told: those that were settled as it was opened or restarted.
-    pub fn told(&mut self, told: &mut Told) -> Result<(), Refused> {
+    pub fn tell_rest(&mut self, told: &mut SettledStages) -> Result<(), Refused> {
         // SAFETY: alone, pointers: `h` and what is told to are this call's, and `rows` points to as many elements as said.
         told.tell(&mut self.0, |h, rows, room, n| unsafe { sys::cf_request_told(h, rows, room, n) })
     }
 
-    /// How many stages of a lane are ready. `NO_LANE`.
+    /// The number of a lane's ready stages. `NO_LANE`.
     #[inline]
-    pub fn ready(&mut self, lane: u8) -> Result<u16, Refused> {
+    pub fn ready_count(&mut self, lane: u8) -> Result<u16, Refused> {
         // SAFETY: alone, pointers: `h` and what is told to are this call's.
         self.0.tell(|h, told| unsafe { sys::cf_request_ready(h, lane, told) })
     }
 
     /// Makes calls one after another, each as it is made alone, up to the first that is refused, and tells once. Its refusal where one is refused:
-    /// those before it are made then, [`done`](Calls::done) of them, and what they settled is told.
+    /// those before it are made then, [`done_count`](Calls::done_count) of them, and what they settled is told.
     ///
     /// ```
-    /// use cf_graph::{Answer, Call, Calls, Event, Form, Of, PlanBuilder, Reply, Request, RequestSizes, Told, Value};
+    /// use cf_graph::{Answer, Call, Calls, Event, Form, Of, PlanBuilder, Reply, Request, RequestSizes, SettledStages, Value};
     /// # fn main() -> Result<(), cf_graph::Refused> {
     /// let sizes = RequestSizes { room: 1, lanes: 1, own: 63 };
-    /// let (mut request, mut told) = (Request::new(&mut PlanBuilder::new()?.build()?, sizes, &[])?, Told::default());
+    /// let (mut request, mut told) = (Request::new(&mut PlanBuilder::new()?.build()?, sizes, &[])?, SettledStages::default());
     /// let mut calls = Calls::default();
     /// calls.apply(Event { who: 0, call: Call::Attach(Form::Supply, Of::None, Some(0)) }.word()?, 0);
-    /// calls.next(3, 0, None);
-    /// calls.next(3, 0, Some((0, Answer::Give(Value::Int(7)))));
+    /// calls.claim_next(3, 0, None);
+    /// calls.claim_next(3, 0, Some((0, Answer::Give(Value::Int(7)))));
     /// request.run(&mut calls, &mut told)?;
     /// assert_eq!(calls.reply(0), Reply::Attached(Some(0)));
     /// assert_eq!((calls.step(1).taken.unwrap().stage, calls.step(2).taken, told.at(0).0), (0, None, 0));
@@ -364,7 +367,7 @@ impl Request {
     /// # }
     /// ```
     #[inline]
-    pub fn run(&mut self, calls: &mut Calls, told: &mut Told) -> Result<(), Refused> {
+    pub fn run(&mut self, calls: &mut Calls, told: &mut SettledStages) -> Result<(), Refused> {
         let mut done = sys::cf_request_done::default();
         let (first, many, to) = (calls.rows.as_mut_ptr(), calls.rows.len(), &mut done);
         let answer = told.tell(&mut self.0, |h, rows, room, n| {
@@ -396,19 +399,19 @@ impl Request {
         ledger::words(&mut self.0)
     }
 
-    /// What a stage is. `NO_STAGE`.
+    /// The state of a stage. `NO_STAGE`.
     pub fn stage(&mut self, stage: u16) -> Result<Stage, Refused> {
         ledger::stage(&mut self.0, stage)
     }
 
-    /// How many stages there are by now.
-    pub fn stages(&mut self) -> Result<u16, Refused> {
-        ledger::stages(&mut self.0)
+    /// The number of stages.
+    pub fn stage_count(&mut self) -> Result<u16, Refused> {
+        ledger::stage_count(&mut self.0)
     }
 
     /// The lowest ready stage from this number on, of any lane.
     pub fn lowest_ready(&mut self, from: u16) -> Result<Option<u16>, Refused> {
-        ledger::ready(&mut self.0, from)
+        ledger::lowest_ready(&mut self.0, from)
     }
 }
 
@@ -420,20 +423,20 @@ pub struct Calls {
 }
 
 impl Calls {
-    /// Leaves out all of them.
+    /// Removes all calls.
     #[inline]
     pub fn clear(&mut self) {
         self.rows.clear();
         self.done = 0;
     }
 
-    /// How many they are.
+    /// The number of calls.
     #[inline]
     pub fn len(&self) -> usize {
         self.rows.len()
     }
 
-    /// Whether there is none.
+    /// Whether there are no calls.
     #[inline]
     pub fn is_empty(&self) -> bool {
         self.rows.is_empty()
@@ -445,9 +448,9 @@ impl Calls {
         self.add(sys::cf_request_call { call: sys::CF_DO_APPLY, word, lane, ..Default::default() });
     }
 
-    /// Adds a call of [`next`](Request::next).
+    /// Adds a call of [`claim_next`](Request::claim_next).
     #[inline(always)]
-    pub fn next(&mut self, who: u8, lane: u8, held: Option<(u16, Answer)>) {
+    pub fn claim_next(&mut self, who: u8, lane: u8, held: Option<(u16, Answer)>) {
         // This call looks at no code, so that it can say whether something was held.
         let code = u32::from(held.is_some());
         self.add(sys::cf_request_call { call: sys::CF_DO_NEXT, who, lane, code, task: task_in(held), ..Default::default() });
@@ -458,19 +461,19 @@ impl Calls {
         self.add(sys::cf_request_call { call: sys::CF_DO_FOLLOW, relay, stage, ..Default::default() });
     }
 
-    /// Adds a call of [`deadline`](Request::deadline).
-    pub fn deadline(&mut self, stage: u16, moment: u64, limit: Limit) {
+    /// Adds a call of [`set_deadline`](Request::set_deadline).
+    pub fn set_deadline(&mut self, stage: u16, moment: u64, limit: Limit) {
         let (kind, value) = limit_in(limit);
         self.add(sys::cf_request_call { call: sys::CF_DO_DEADLINE, stage, moment, kind, value, ..Default::default() });
     }
 
-    /// Adds a call of [`pass`](Request::pass).
-    pub fn pass(&mut self, moment: u64) {
+    /// Adds a call of [`pass_time_to`](Request::pass_time_to).
+    pub fn pass_time_to(&mut self, moment: u64) {
         self.add(sys::cf_request_call { call: sys::CF_DO_PASS, moment, ..Default::default() });
     }
 
-    /// Adds a call of [`refuse`](Request::refuse).
-    pub fn refuse(&mut self, lane: u8, code: u32) {
+    /// Adds a call of [`refuse_lane`](Request::refuse_lane).
+    pub fn refuse_lane(&mut self, lane: u8, code: u32) {
         self.add(sys::cf_request_call { call: sys::CF_DO_REFUSE, lane, code, ..Default::default() });
     }
 
@@ -484,13 +487,13 @@ impl Calls {
         self.rows.push(row);
     }
 
-    /// How many of them [`run`](Request::run) has made.
+    /// The number of calls that [`run`](Request::run) has made.
     #[inline]
-    pub fn done(&self) -> usize {
+    pub fn done_count(&self) -> usize {
         self.done
     }
 
-    /// What the word of the call at a place was answered.
+    /// The reply to the word of the call at an index.
     ///
     /// # Panics
     ///
@@ -502,22 +505,22 @@ impl Calls {
         reply_of_word(row.word, row.reply)
     }
 
-    /// What the step of the call at a place did.
+    /// The step of the call at an index.
     ///
     /// # Panics
     ///
     /// Where that wasn't made, or is no step.
     #[inline]
-    pub fn step(&self, at: usize) -> Step {
+    pub fn step(&self, at: usize) -> Stepped {
         let row = &self.rows[..self.done][at];
         assert_eq!(row.call, sys::CF_DO_NEXT, "the call is a step");
         let finished = (row.code != 0).then(|| finished_of(row.task.finished));
-        Step { finished, taken: taken_out(&row.task) }
+        Stepped { finished, taken: taken_out(&row.task) }
     }
 }
 
 #[inline]
-fn told_out(told: &sys::cf_told) -> (u16, Outcome) {
+fn settled_stage_out(told: &sys::cf_told) -> (u16, Outcome) {
     // A stage is told only once it has an outcome.
     (told.stage, settled_out(&told.outcome))
 }

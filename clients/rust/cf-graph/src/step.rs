@@ -4,16 +4,16 @@ use cf_sys as sys;
 
 /// What a step did: how the finish went, and what is to be done now.
 #[derive(Clone, Copy, PartialEq, Eq, Debug)]
-pub struct Step {
+pub struct Stepped {
     /// What the finish was answered, if the caller held something.
     pub finished: Option<Finished>,
     /// What it has claimed, if something was ready.
-    pub taken: Option<Taken>,
+    pub taken: Option<ClaimedStage>,
 }
 
 /// A stage that a step has claimed, the number of its function, and what that is to be called with.
 #[derive(Clone, Copy, PartialEq, Eq, Debug)]
-pub struct Taken {
+pub struct ClaimedStage {
     /// The stage's number.
     pub stage: u16,
     /// The number of its function.
@@ -33,12 +33,12 @@ pub(crate) fn task_in(held: Option<(u16, Answer)>) -> sys::cf_task {
 }
 
 #[inline]
-pub(crate) fn taken_out(task: &sys::cf_task) -> Option<Taken> {
-    (task.held != 0).then(|| Taken { stage: task.stage, function: task.function, args: args_out(&task.args) })
+pub(crate) fn taken_out(task: &sys::cf_task) -> Option<ClaimedStage> {
+    (task.held != 0).then(|| ClaimedStage { stage: task.stage, function: task.function, args: args_out(&task.args) })
 }
 
 /// What a step did that began with this in the caller's hands.
 #[inline]
-pub(crate) fn step_out(held: Option<(u16, Answer)>, task: &sys::cf_task) -> Step {
-    Step { finished: held.map(|_| finished_of(task.finished)), taken: taken_out(task) }
+pub(crate) fn step_out(held: Option<(u16, Answer)>, task: &sys::cf_task) -> Stepped {
+    Stepped { finished: held.map(|_| finished_of(task.finished)), taken: taken_out(task) }
 }

@@ -2,7 +2,7 @@
 use crate::graph::Graph;
 use crate::handle::Handle;
 use crate::refused::Refused;
-use crate::step::{taken_out, task_in, Taken};
+use crate::step::{taken_out, task_in, ClaimedStage};
 use crate::values::Answer;
 use cf_sys as sys;
 
@@ -21,7 +21,7 @@ use cf_sys as sys;
 ///     assert_eq!((taken.function, taken.args), (7, Args::One(Value::Int(20))));
 ///     held = Some((taken.stage, Answer::Give(Value::Int(21))));
 /// }
-/// let mut graph = sweep.end().expect("nothing is ready");
+/// let mut graph = sweep.into_graph().expect("nothing is ready");
 /// assert_eq!(graph.outcome(1)?, Some(cf_graph::Outcome::Value(Value::Int(21))));
 /// # Ok(())
 /// # }
@@ -31,7 +31,7 @@ pub struct Sweep(Handle);
 
 impl Sweep {
     /// The sweep over a graph.
-    pub(crate) fn of(mut graph: Graph) -> Result<Sweep, Refused> {
+    pub(crate) fn over(mut graph: Graph) -> Result<Sweep, Refused> {
         // SAFETY: alone: `h` is this call's.
         graph.0.call(|h| unsafe { sys::cf_sweep_begin(h) })?;
         Ok(Sweep(graph.0))
@@ -40,7 +40,7 @@ impl Sweep {
     /// Settles the stage at which the sweep stands by this answer, as if a caller had claimed and finished it, and goes on to the lowest ready
     /// one: None where none is, and all stages are behind it. `NOT_HELD` where the sweep stands at another stage than the one that is held, or
     /// at none: nothing is changed then.
-    pub fn step(&mut self, held: Option<(u16, Answer)>) -> Result<Option<Taken>, Refused> {
+    pub fn step(&mut self, held: Option<(u16, Answer)>) -> Result<Option<ClaimedStage>, Refused> {
         let mut task = task_in(held);
         // SAFETY: alone, pointers: `h` and the task are this call's.
         match self.0.call(|h| unsafe { sys::cf_sweep_next(h, &mut task) }) {
@@ -50,7 +50,7 @@ impl Sweep {
     }
 
     /// The graph, once all stages are behind the sweep. Until then the sweep is given back.
-    pub fn end(mut self) -> Result<Graph, Sweep> {
+    pub fn into_graph(mut self) -> Result<Graph, Sweep> {
         // SAFETY: alone: `h` is this call's.
         match self.0.call(|h| unsafe { sys::cf_sweep_end(h) }) {
             Ok(()) => Ok(Graph(self.0)),

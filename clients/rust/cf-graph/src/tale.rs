@@ -1,7 +1,7 @@
 //! What words did, told as texts.
 use crate::handle::Handle;
 use crate::plan::Plan;
-use crate::refused::{done, Refused};
+use crate::refused::{ok_or_refused, Refused};
 use crate::text::told;
 use cf_sys as sys;
 
@@ -9,7 +9,7 @@ use cf_sys as sys;
 #[derive(Clone, Copy, PartialEq, Eq, Debug)]
 #[repr(u32)]
 #[non_exhaustive]
-pub enum Said {
+pub enum Label {
     /// The name of the whole, which is one text.
     Name = sys::CF_SAY_NAME,
     /// The names of stages, by their numbers. An empty one leaves the stage that of its form.
@@ -26,7 +26,7 @@ pub enum Said {
 #[derive(Clone, Copy, PartialEq, Eq, Debug)]
 #[repr(u32)]
 #[non_exhaustive]
-pub enum Telling {
+pub enum TaleFormat {
     /// For people: a line for each event, and one for each stage that it settled.
     Lines = sys::CF_LINES,
     /// For a log: one line without its end.
@@ -42,15 +42,15 @@ pub enum Telling {
 /// What words did to a plan, to be told as texts: docs/FORMATS.md, "Histories in words". What they were answered is worked out anew.
 ///
 /// ```
-/// use cf_graph::{Call, Event, Form, PlanBuilder, Said, Tale, Telling, Value};
+/// use cf_graph::{Call, Event, Form, PlanBuilder, Label, Tale, TaleFormat, Value};
 /// # fn main() -> Result<(), cf_graph::Refused> {
 /// let mut builder = PlanBuilder::new()?;
 /// builder.stage(Form::Source, &[], None)?;
 /// let completes = Event { who: 0, call: Call::Complete(0, Value::Int(0)) }.word()?;
 /// let mut tale = Tale::new(&mut builder.build()?, 0, &[completes])?;
-/// tale.say(Said::Stages, ["price"])?;
-/// tale.say(Said::Values, ["49 euros"])?;
-/// let told = tale.text(Telling::Lines)?;
+/// tale.say(Label::Stages, ["price"])?;
+/// tale.say(Label::Values, ["49 euros"])?;
+/// let told = tale.text(TaleFormat::Lines)?;
 /// assert_eq!(told.lines().nth(1), Some("caller 0 completes 0 price with 49 euros"));
 /// # Ok(())
 /// # }
@@ -70,13 +70,13 @@ impl Tale {
     }
 
     /// Says when each event was done, in nanoseconds from any moment on. With fewer times than words none is told. `TOO_MANY`, `NO_MEMORY`.
-    pub fn times(&mut self, times: &[u64]) -> Result<(), Refused> {
+    pub fn set_times(&mut self, times: &[u64]) -> Result<(), Refused> {
         // SAFETY: alone, pointers: `h` is this call's, and `times` points to as many numbers as said.
         self.0.call(|h| unsafe { sys::cf_history_times(h, times.as_ptr(), times.len()) })
     }
 
     /// Says what things are called, or stand for, in place of what was said of them before. `TOO_MANY`, `NO_MEMORY`.
-    pub fn say<T: AsRef<str>>(&mut self, what: Said, texts: impl IntoIterator<Item = T>) -> Result<(), Refused> {
+    pub fn say<T: AsRef<str>>(&mut self, what: Label, texts: impl IntoIterator<Item = T>) -> Result<(), Refused> {
         let (mut all, mut ends) = (String::new(), Vec::new());
         for text in texts {
             all.push_str(text.as_ref());
@@ -88,12 +88,12 @@ impl Tale {
     }
 
     /// All of it as a text. `NO_MEMORY`.
-    pub fn text(&mut self, as_what: Telling) -> Result<String, Refused> {
+    pub fn text(&mut self, as_what: TaleFormat) -> Result<String, Refused> {
         let handle = &mut self.0;
         let (code, text) = told(|text, room, length| {
             // SAFETY: alone, pointers: `h` is this call's, `text` has `room` bytes, and `length` is a local of `told`.
             Refused::code_of(handle.call(|h| unsafe { sys::cf_history_text(h, as_what as u32, text, room, length) }))
         });
-        done(code).map(|()| text)
+        ok_or_refused(code).map(|()| text)
     }
 }

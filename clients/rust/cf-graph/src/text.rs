@@ -1,5 +1,5 @@
 //! Scripts and texts.
-use crate::refused::{checked, done, Refused};
+use crate::refused::{check_library_once, ok_or_refused, Refused};
 use crate::values::{outcome_in, Outcome};
 use cf_sys as sys;
 use std::error::Error;
@@ -28,10 +28,10 @@ impl Error for ScriptFault {}
 
 /// Runs a script, as `cf run` does, and gives its report.
 pub fn run_script(script: &[u8]) -> Result<String, ScriptFault> {
-    checked().map_err(ScriptFault::Refused)?;
+    check_library_once().map_err(ScriptFault::Refused)?;
     // SAFETY: this library, pointers: both texts are of as many bytes as said, and `length` is a local of `told`.
     let (code, text) = told(|report, room, length| unsafe { sys::cf_run_script(script.as_ptr(), script.len(), report, room, length) });
-    match done(code) {
+    match ok_or_refused(code) {
         Ok(()) => Ok(text),
         Err(Refused::BAD_SCRIPT) => Err(ScriptFault::Line(text.trim_end().to_string())),
         Err(refused) => Err(ScriptFault::Refused(refused)),
@@ -40,7 +40,7 @@ pub fn run_script(script: &[u8]) -> Result<String, ScriptFault> {
 
 /// The text of an outcome, as reports have it. Of another library than this crate was written for it is that refusal's.
 pub fn outcome_text(outcome: Option<Outcome>) -> String {
-    if let Err(refused) = checked() {
+    if let Err(refused) = check_library_once() {
         return refused.to_string();
     }
     // SAFETY: this library, pointers: `text` has `room` bytes, and `length` is a local of `told`.

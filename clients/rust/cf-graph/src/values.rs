@@ -50,6 +50,7 @@ pub enum Outcome {
 
 /// What a stage's function is called with.
 #[derive(Clone, Copy, PartialEq, Eq, Debug)]
+#[non_exhaustive]
 pub enum Args {
     /// Nothing, as a `Supply`.
     None,
@@ -63,6 +64,7 @@ pub enum Args {
 
 /// What a stage's function answers.
 #[derive(Clone, Copy, PartialEq, Eq, Debug)]
+#[non_exhaustive]
 pub enum Answer {
     /// A value. Forms that give none, such as `Accept`, end as nil; a `WhenComplete` ends as its source.
     Give(Value),

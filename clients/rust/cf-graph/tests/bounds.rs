@@ -22,7 +22,7 @@ fn numbers_and_lengths_are_never_cut() {
     let mut wide_plan = wide_builder.build().unwrap();
     assert_eq!(wide_plan.graph(u16::MAX).err(), Some(Refused::ROOM));
     assert_eq!(Ledger::new(&mut wide_plan, u16::MAX).err(), Some(Refused::ROOM));
-    assert_eq!(Ledger::of_words(&mut wide_plan, u16::MAX, &[]).err().map(|misfit| misfit.place), Some(None));
+    assert_eq!(Ledger::from_words(&mut wide_plan, u16::MAX, &[]).err().map(|misfit| misfit.place), Some(None));
 
     let mut wide_graph = wide_plan.graph(0).unwrap();
     for stage in [2, 4_095, 4_096, u16::MAX] {
@@ -33,9 +33,9 @@ fn numbers_and_lengths_are_never_cut() {
     assert_eq!(wide_graph.attach(Form::AllOf, &vec![0; (1 << 16) + 2], None), Err(Refused::WRONG_SOURCE_COUNT));
     assert_eq!(wide_graph.restart_with(&[(0, Value::Int(i32::MIN)); 70_000]), Ok(()));
     assert_eq!(wide_graph.tick(u32::MAX), Ok(Ticked::Fired(0)));
-    let steps = wide_graph.round(u8::MAX, &vec![None; 70_000]).unwrap();
+    let steps = wide_graph.step_all(u8::MAX, &vec![None; 70_000]).unwrap();
     assert_eq!(steps.len(), 70_000);
-    assert_eq!(steps[0].taken, Some(Taken { stage: 1, function: u16::MAX, args: Args::One(Value::Int(i32::MIN)) }));
+    assert_eq!(steps[0].taken, Some(ClaimedStage { stage: 1, function: u16::MAX, args: Args::One(Value::Int(i32::MIN)) }));
     assert!(steps[1..].iter().all(|step| step.taken.is_none()));
 
     for (sizes, why) in
@@ -44,19 +44,19 @@ fn numbers_and_lengths_are_never_cut() {
         assert_eq!(wide_plan.desk(sizes).err(), Some(why), "{sizes:?}");
     }
     let (_desk, mut callers) = wide_plan.desk(sizes(1, 10, 10)).unwrap();
-    assert_eq!(callers[0].complete_many(&[(0, Value::Nil); 70_000]), (10, Err(Refused::PASS_FULL)));
+    assert_eq!(callers[0].complete_all(&[(0, Value::Nil); 70_000]), (10, Err(Refused::PASS_FULL)));
     let (_desk, mut callers) = wide_plan.desk(sizes(1, 10, 10)).unwrap();
     callers[0].complete(0, Value::Nil).unwrap();
     assert_eq!(callers[0].join(0, u32::MAX), Ok(Now::Value(Value::Nil)));
 
     let late = vec![completes(0, 1); 70_000];
-    let mut wide_ledger = Ledger::of_words(&mut wide_plan, 0, &late).unwrap();
-    assert_eq!(wide_ledger.count(), Ok(70_000));
+    let mut wide_ledger = Ledger::from_words(&mut wide_plan, 0, &late).unwrap();
+    assert_eq!(wide_ledger.word_count(), Ok(70_000));
     assert_eq!(wide_ledger.words().unwrap(), late);
     assert_eq!(wide_ledger.apply_all(&late), (70_000, Ok(())));
     assert_eq!(wide_ledger.grow(u16::MAX), Err(Refused::ROOM));
-    assert_eq!((wide_ledger.ready(u16::MAX), wide_ledger.stage(u16::MAX).err()), (Ok(None), Some(Refused::NO_STAGE)));
-    assert_eq!(Event::of_word(u64::MAX), Err(Refused::NO_WORD));
+    assert_eq!((wide_ledger.lowest_ready(u16::MAX), wide_ledger.stage(u16::MAX).err()), (Ok(None), Some(Refused::NO_STAGE)));
+    assert_eq!(Event::from_word(u64::MAX), Err(Refused::NO_WORD));
 }
 
 /// More changes than there was room for, also for rows of changes that another ledger has used.
@@ -97,10 +97,10 @@ fn calls_take_little_stack() {
         wide_graph.fail(0, 1).unwrap();
         let (desk, mut callers) = row.desk(sizes(2, 9, 9)).unwrap();
         callers[0].cancel(0).unwrap();
-        callers[1].read(4_000).unwrap();
+        callers[1].read_outcome(4_000).unwrap();
         assert_eq!(desk.close(callers).unwrap().words().unwrap().len(), 1);
         let mut wide_ledger = Ledger::new(&mut row, 0).unwrap();
-        wide_ledger.act(Event { who: 0, call: Call::Cancel(0) }).unwrap();
+        wide_ledger.apply_event(Event { who: 0, call: Call::Cancel(0) }).unwrap();
         assert_eq!(wide_ledger.news().len(), 4_001);
     };
     thread::Builder::new().stack_size(1 << 18).spawn(does).unwrap().join().unwrap();

@@ -39,7 +39,7 @@ fn desks_are_shared_and_callers_sent() {
 #[test]
 fn a_closed_desk_has_all_that_was_told() {
     let (desk, mut desk_callers) = desk_plan().desk(sizes(2, 100, 100)).unwrap();
-    desk_callers[1].read(0).unwrap();
+    desk_callers[1].read_outcome(0).unwrap();
     desk_callers[0].complete(0, Value::Int(7)).unwrap();
     desk_callers[1].claim(1).unwrap();
     desk_callers[1].read_now(0, Value::Nil).unwrap();
@@ -82,7 +82,7 @@ fn works(mut desk_caller: Caller, sum: u16) -> (Caller, u32) {
     desk_caller.complete(0, Value::Int(1)).unwrap();
     loop {
         calls += desk_caller.work(called).unwrap();
-        if desk_caller.left().unwrap() > 1_000 && desk_caller.join(sum, 100).unwrap() == Now::Value(Value::Int(401)) {
+        if desk_caller.records_left().unwrap() > 1_000 && desk_caller.join(sum, 100).unwrap() == Now::Value(Value::Int(401)) {
             return (desk_caller, calls);
         }
         thread::yield_now();
@@ -160,6 +160,6 @@ fn callers_that_change_places_close_no_desk() {
     }
     let refused = desk.close(others).unwrap_err();
     assert_eq!(refused.why, Refused::OTHER_DESK);
-    assert_eq!(refused.desk.close(desk_callers).unwrap().callers(), 2);
-    assert_eq!(other.close(refused.callers).unwrap().callers(), 2);
+    assert_eq!(refused.desk.close(desk_callers).unwrap().caller_count(), 2);
+    assert_eq!(other.close(refused.callers).unwrap().caller_count(), 2);
 }

@@ -33,7 +33,7 @@ fn graph(room: u16) -> Graph {
 #[test]
 fn a_value_is_taken_over() {
     let mut graph = graph(0);
-    assert_eq!(graph.now(0, Value::Int(-1)), Ok(Now::Absent(Value::Int(-1))));
+    assert_eq!(graph.value_now(0, Value::Int(-1)), Ok(Now::Absent(Value::Int(-1))));
     assert_eq!(graph.lowest_ready(), Ok(None));
     assert_eq!(graph.claim(7, 1), Ok(Claimed::NotReady));
     assert_eq!(graph.complete(0, Value::Int(i32::MIN)), Ok(true));
@@ -49,8 +49,8 @@ fn a_value_is_taken_over() {
     assert_eq!(graph.claim(7, 4), Ok(Claimed::Granted(Args::Got(Outcome::Value(Value::Nil)))));
     assert_eq!(graph.cancel(4), Ok(true));
     assert_eq!(graph.finish(7, 4, Answer::Throw(1)), Ok(Finished::Late));
-    assert_eq!(graph.now(4, Value::Nil), Ok(Now::Cancellation));
-    assert_eq!(graph.now(1, Value::Int(1)), Ok(Now::Value(Value::Nil)));
+    assert_eq!(graph.value_now(4, Value::Nil), Ok(Now::Cancellation));
+    assert_eq!(graph.value_now(1, Value::Int(1)), Ok(Now::Value(Value::Nil)));
 }
 
 #[test]
@@ -59,7 +59,7 @@ fn a_fault_is_wrapped_where_it_is_taken_over() {
     assert_eq!(graph.fail(0, 4_000_000_000), Ok(true));
     assert_eq!(graph.outcome(0), Ok(Some(THROWN)));
     assert_eq!(graph.outcome(1), Ok(Some(TAKEN_OVER)));
-    assert_eq!(graph.now(1, Value::Nil), Ok(Now::Completion(Cause::Thrown(4_000_000_000))));
+    assert_eq!(graph.value_now(1, Value::Nil), Ok(Now::Completion(Cause::Thrown(4_000_000_000))));
     assert_eq!(graph.claim(0, 4), Ok(Claimed::Granted(Args::Got(TAKEN_OVER))));
     assert_eq!(graph.outcome(4), Ok(None));
 }
@@ -75,12 +75,12 @@ fn a_failure_has_its_cause() {
         assert_eq!(graph.claim(0, 4), Ok(Claimed::Granted(Args::Got(fault(cause, true)))));
         assert_eq!(graph.fail_as(4, failure), Ok(true));
         assert_eq!(graph.finish(0, 4, Answer::Give(Value::Nil)), Ok(Finished::Late));
-        assert_eq!(graph.now(4, Value::Nil), Ok(Now::Completion(cause)));
+        assert_eq!(graph.value_now(4, Value::Nil), Ok(Now::Completion(cause)));
         assert_eq!(graph.fail_as(9, failure), Err(Refused::NO_STAGE));
         // The same by its word.
         let event = Event { who: 63, call: Call::FailAs(2, failure) };
         let mut ledger = Ledger::new(&mut plan(), 0).unwrap();
-        assert_eq!((graph.apply(event.word().unwrap()), ledger.act(event)), (Ok(Reply::Flag(true)), Ok(Reply::Flag(true))));
+        assert_eq!((graph.apply(event.word().unwrap()), ledger.apply_event(event)), (Ok(Reply::Flag(true)), Ok(Reply::Flag(true))));
         assert_eq!(ledger.stage(2).unwrap().state, State::Settled(fault(cause, false)));
     }
 }
@@ -94,9 +94,9 @@ fn limits_fire_and_links_settle() {
     assert_eq!(graph.outcome(3), Ok(None));
     assert_eq!(graph.complete(0, Value::Int(6)), Ok(true));
     assert_eq!(graph.outcome(3), Ok(Some(Outcome::Value(Value::Int(6)))));
-    assert!(graph.turns().unwrap() > 0);
+    assert!(graph.turn_count().unwrap() > 0);
     assert_eq!(graph.restart(), Ok(()));
-    assert_eq!(graph.turns(), Ok(0));
+    assert_eq!(graph.turn_count(), Ok(0));
     assert_eq!(graph.tick(10), Ok(Ticked::Fired(1)));
     assert_eq!(graph.tick(9), Ok(Ticked::Past));
     assert_eq!(graph.outcome(2), Ok(Some(fault(Cause::TimedOut, false))));
@@ -116,7 +116,7 @@ fn stages_are_attached_while_there_is_room() {
     assert_eq!(graph.attach(Form::Apply, &[0], None), Err(Refused::BAD_ATTACH));
     assert_eq!(graph.attach(Form::AnyOf, &[0, 1], None), Ok(Some(5)));
     assert_eq!(graph.attach(Form::AnyOf, &[0, 1], None), Ok(None));
-    assert_eq!(graph.stages(), Ok(6));
+    assert_eq!(graph.stage_count(), Ok(6));
     assert_eq!(graph.complete(0, Value::Int(2)), Ok(true));
     assert_eq!(graph.outcome(5), Ok(Some(Outcome::Value(Value::Int(2)))));
     assert_eq!(graph.restart(), Ok(()));
@@ -126,35 +126,35 @@ fn stages_are_attached_while_there_is_room() {
 #[test]
 fn a_caller_goes_step_by_step() {
     let mut graph = graph(0);
-    assert_eq!(graph.step(7, None), Ok(Step { finished: None, taken: None }));
+    assert_eq!(graph.step(7, None), Ok(Stepped { finished: None, taken: None }));
     assert_eq!(graph.complete(0, Value::Int(5)), Ok(true));
-    let first = Taken { stage: 1, function: 65_535, args: Args::One(Value::Int(5)) };
-    assert_eq!(graph.step(7, None), Ok(Step { finished: None, taken: Some(first) }));
+    let first = ClaimedStage { stage: 1, function: 65_535, args: Args::One(Value::Int(5)) };
+    assert_eq!(graph.step(7, None), Ok(Stepped { finished: None, taken: Some(first) }));
     assert_eq!(graph.step(8, Some((1, Answer::Throw(1)))), Err(Refused::NOT_HELD));
     assert_eq!(graph.step(7, Some((9, Answer::Throw(1)))), Err(Refused::NO_STAGE));
     assert_eq!(graph.cancel(1), Ok(true));
-    let second = Taken { stage: 4, function: 2, args: Args::Got(fault(Cause::Cancelled, false)) };
+    let second = ClaimedStage { stage: 4, function: 2, args: Args::Got(fault(Cause::Cancelled, false)) };
     let step = graph.step(7, Some((1, Answer::Throw(1))));
-    assert_eq!(step, Ok(Step { finished: Some(Finished::Late), taken: Some(second) }));
+    assert_eq!(step, Ok(Stepped { finished: Some(Finished::Late), taken: Some(second) }));
     let step = graph.step(7, Some((4, Answer::Give(Value::Int(6)))));
-    assert_eq!(step, Ok(Step { finished: Some(Finished::Won), taken: None }));
+    assert_eq!(step, Ok(Stepped { finished: Some(Finished::Won), taken: None }));
     assert_eq!(graph.outcome(4), Ok(Some(Outcome::Value(Value::Int(6)))));
 }
 
 #[test]
 fn a_caller_goes_round_with_several_tasks() {
     let mut graph = graph(0);
-    assert_eq!(graph.round(7, &[]), Ok(vec![]));
+    assert_eq!(graph.step_all(7, &[]), Ok(vec![]));
     assert_eq!((graph.complete(0, Value::Int(5)), graph.complete(2, Value::Nil)), (Ok(true), Ok(true)));
-    let none = Step { finished: None, taken: None };
-    let steps = graph.round(7, &[None, None, None]).unwrap();
+    let none = Stepped { finished: None, taken: None };
+    let steps = graph.step_all(7, &[None, None, None]).unwrap();
     assert_eq!(steps.iter().map(|step| step.taken.map(|taken| taken.stage)).collect::<Vec<_>>(), [Some(1), Some(3), None]);
     let (one, three) = (Some((1, Answer::Give(Value::Int(6)))), Some((3, Answer::Link(0))));
-    assert_eq!(graph.round(7, &[one, Some((4, Answer::Throw(1)))]), Err(Refused::NOT_HELD));
-    let last = Taken { stage: 4, function: 2, args: Args::Got(Outcome::Value(Value::Int(6))) };
-    let won = Step { finished: Some(Finished::Won), ..none };
-    let again = Step { finished: Some(Finished::NotYours), ..none };
-    assert_eq!(graph.round(7, &[one, three, one]), Ok(vec![Step { taken: Some(last), ..won }, won, again]));
+    assert_eq!(graph.step_all(7, &[one, Some((4, Answer::Throw(1)))]), Err(Refused::NOT_HELD));
+    let last = ClaimedStage { stage: 4, function: 2, args: Args::Got(Outcome::Value(Value::Int(6))) };
+    let won = Stepped { finished: Some(Finished::Won), ..none };
+    let again = Stepped { finished: Some(Finished::NotYours), ..none };
+    assert_eq!(graph.step_all(7, &[one, three, one]), Ok(vec![Stepped { taken: Some(last), ..won }, won, again]));
     assert_eq!(graph.outcome(3), Ok(Some(Outcome::Value(Value::Int(5)))));
 }
 
@@ -162,14 +162,14 @@ fn a_caller_goes_round_with_several_tasks() {
 fn a_sweep_calls_all_functions() {
     let mut graph = graph(0);
     assert_eq!(graph.complete(0, Value::Int(5)), Ok(true));
-    let mut sweep = graph.sweep().unwrap().end().expect_err("a stage is ready");
+    let mut sweep = graph.sweep().unwrap().into_graph().expect_err("a stage is ready");
     assert_eq!(sweep.step(Some((1, Answer::Throw(1)))), Err(Refused::NOT_HELD));
-    assert_eq!(sweep.step(None), Ok(Some(Taken { stage: 1, function: 65_535, args: Args::One(Value::Int(5)) })));
+    assert_eq!(sweep.step(None), Ok(Some(ClaimedStage { stage: 1, function: 65_535, args: Args::One(Value::Int(5)) })));
     assert_eq!(sweep.step(None), Err(Refused::NOT_HELD));
-    let last = Taken { stage: 4, function: 2, args: Args::Got(Outcome::Value(Value::Int(6))) };
+    let last = ClaimedStage { stage: 4, function: 2, args: Args::Got(Outcome::Value(Value::Int(6))) };
     assert_eq!(sweep.step(Some((1, Answer::Give(Value::Int(6))))), Ok(Some(last)));
     assert_eq!(sweep.step(Some((4, Answer::Give(Value::Nil)))), Ok(None));
-    let mut graph = sweep.end().unwrap();
+    let mut graph = sweep.into_graph().unwrap();
     assert_eq!(graph.outcome(4), Ok(Some(Outcome::Value(Value::Nil))));
     assert_eq!((Refused::NOT_OVER.name(), Refused::LOST.name()), ("NotOver".into(), "Lost".into()));
 }

@@ -26,7 +26,7 @@ unsafe extern "C" fn cf_layout(name: *const c_char) -> usize {
 
 fn refuses_all() {
     assert_eq!(PlanBuilder::new().err(), Some(Refused::OTHER_LIBRARY));
-    assert_eq!(Event::of_word(7 << 56), Err(Refused::OTHER_LIBRARY));
+    assert_eq!(Event::from_word(7 << 56), Err(Refused::OTHER_LIBRARY));
     assert_eq!(Event { who: 0, call: Call::Cancel(0) }.word(), Err(Refused::OTHER_LIBRARY));
     assert_eq!(run_script(b"[]"), Err(ScriptFault::Refused(Refused::OTHER_LIBRARY)));
     assert_eq!(outcome_text(None), "the library isn't the one that this crate was written for");

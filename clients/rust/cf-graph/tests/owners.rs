@@ -27,7 +27,7 @@ fn owners_go_to_threads_and_are_never_two() {
     macro_rules! owners {
         ($($owner:ty)*) => { $(goes::<$owner>(); <$owner as IsNoClone<_>>::stands();)* };
     }
-    owners!(PlanBuilder Plan Graph Sweep Ledger Changes Request Told Task Calls Tale Desk Caller Closed NotClosed);
+    owners!(PlanBuilder Plan Graph Sweep Ledger Changes Request SettledStages Task Calls Tale Desk Caller Closed NotClosed);
     <cf_sys::cf_handle as IsNoClone<_>>::stands();
 }
 
@@ -74,7 +74,7 @@ fn functions_use_other_owners() {
         other.complete(0, Value::Nil).unwrap();
         let mut inside = 0;
         owned_callers[1].complete(0, Value::Int(0)).unwrap();
-        owned_callers[0].ready().unwrap();
+        owned_callers[0].lowest_ready().unwrap();
         other
             .work(2, |_, args| {
                 inside += 1;
@@ -105,7 +105,7 @@ fn owners_are_forgotten() {
     let refused = owned_desk.close(owned_callers).unwrap_err();
     assert_eq!(refused.why, Refused::NOT_ALL);
     let NotClosed { desk: owned_desk, callers: mut owned_callers, .. } = refused;
-    assert_eq!(owned_callers[0].read(0), given(3));
+    assert_eq!(owned_callers[0].read_outcome(0), given(3));
     forgotten(owned_desk);
     drop(owned_callers);
 
@@ -139,10 +139,10 @@ fn owners_change_places() {
     let held = second.step(None).unwrap().unwrap();
     swap(&mut first, &mut second);
     assert_eq!(first.step(Some((held.stage, one_more(held.args)))), Ok(None));
-    let mut short = first.end().unwrap();
+    let mut short = first.into_graph().unwrap();
     assert_eq!(short.outcome(1), given(2));
     assert_eq!(second.step(None), Ok(None));
-    let mut long = replace(&mut short, second.end().unwrap());
+    let mut long = replace(&mut short, second.into_graph().unwrap());
     swap(&mut short, &mut long);
     // What the third caller took before the sweep is its own yet.
     assert_eq!(long.finish(3, 2, Answer::Give(Value::Int(12))), Ok(Finished::Won));
@@ -151,7 +151,7 @@ fn owners_change_places() {
     let (mut one, mut two) = (Ledger::new(&mut owned_plan, 2).unwrap(), Ledger::new(&mut owned_plan, 2).unwrap());
     one.apply(completes(0, 5)).unwrap();
     swap(&mut one, &mut two);
-    assert_eq!((one.count(), two.count()), (Ok(0), Ok(1)));
+    assert_eq!((one.word_count(), two.word_count()), (Ok(0), Ok(1)));
     assert_eq!((one.news().len(), two.news().len()), (0, 2));
 }
 
@@ -232,18 +232,18 @@ fn owners_are_whole_after_refusals() {
         assert_eq!(owned_graph.attach(Form::Apply, &[0], None), Err(Refused::BAD_ATTACH));
         assert_eq!(owned_graph.finish(0, u16::MAX, Answer::Link(u16::MAX)), Err(Refused::NO_STAGE));
         assert_eq!(owned_graph.step(0, Some((1, Answer::Throw(0)))), Err(Refused::NOT_HELD));
-        assert_eq!(owned_graph.round(0, &[None, Some((1, Answer::Throw(0)))]), Err(Refused::NOT_HELD));
+        assert_eq!(owned_graph.step_all(0, &[None, Some((1, Answer::Throw(0)))]), Err(Refused::NOT_HELD));
         assert_eq!(owned_graph.apply(1), Err(Refused::NO_WORD));
     }
     owned_graph.complete(0, Value::Int(1)).unwrap();
     let mut sweep = owned_graph.sweep().unwrap();
     for _ in 0..3 {
-        sweep = sweep.end().unwrap_err();
+        sweep = sweep.into_graph().unwrap_err();
         assert_eq!(sweep.step(Some((0, Answer::Throw(0)))), Err(Refused::NOT_HELD));
     }
     assert_eq!(sweep.step(None).unwrap().unwrap().stage, 1);
     assert_eq!(sweep.step(Some((1, Answer::Give(Value::Int(2))))), Ok(None));
-    assert_eq!(sweep.end().unwrap().outcome(1), given(2));
+    assert_eq!(sweep.into_graph().unwrap().outcome(1), given(2));
 
     let mut owned_ledger = Ledger::new(&mut owned_plan, 0).unwrap();
     let mut changes = Changes::default();
@@ -253,7 +253,7 @@ fn owners_are_whole_after_refusals() {
         assert_eq!(owned_ledger.step(1, Some((1, Answer::Throw(0))), 0, &mut changes), Err(Refused::NOT_HELD));
         assert_eq!(owned_ledger.apply_all(&[0]), (0, Err(Refused::NO_WORD)));
     }
-    assert_eq!(owned_ledger.count(), Ok(0));
+    assert_eq!(owned_ledger.word_count(), Ok(0));
 
     let (mut owned_desk, mut owned_callers) = owned_plan.desk(sizes(2, 1, 1)).unwrap();
     assert_eq!(owned_callers[0].complete(0, Value::Int(5)), Ok(true));
@@ -261,7 +261,7 @@ fn owners_are_whole_after_refusals() {
     for _ in 0..3 {
         let refused = owned_desk.close(owned_callers).unwrap_err();
         (owned_desk, owned_callers) = (refused.desk, refused.callers);
-        assert_eq!(owned_callers[0].read(0), Err(Refused::PASS_FULL));
+        assert_eq!(owned_callers[0].read_outcome(0), Err(Refused::PASS_FULL));
     }
     owned_callers.push(kept);
     assert_eq!(owned_callers[1].complete(0, Value::Nil), Err(Refused::LOG_FULL));

@@ -4,9 +4,9 @@ use cf_graph::*;
 const OWN: u8 = 63;
 
 /// A request of no plan with two lanes.
-fn request(room: u16) -> (Request, Told) {
+fn request(room: u16) -> (Request, SettledStages) {
     let mut nothing = PlanBuilder::new().unwrap().build().unwrap();
-    (Request::new(&mut nothing, RequestSizes { room, lanes: 2, own: OWN }, &[]).unwrap(), Told::default())
+    (Request::new(&mut nothing, RequestSizes { room, lanes: 2, own: OWN }, &[]).unwrap(), SettledStages::default())
 }
 
 fn word(call: Call) -> u64 {
@@ -30,7 +30,7 @@ fn fault(cause: Cause, wrapped: bool) -> Outcome {
 }
 
 /// So many sources, each of which may be settled by itself.
-fn sources(count: u16) -> (Request, Told) {
+fn sources(count: u16) -> (Request, SettledStages) {
     let (mut request, mut told) = request(count);
     for number in 0..count {
         assert_eq!(request.apply(source(), 0, &mut told), Ok(Reply::Attached(Some(number))));
@@ -45,17 +45,17 @@ fn each_lane_has_its_stages() {
     request.apply(source(), 0, &mut told).unwrap();
     request.apply(apply(0, 7), 1, &mut told).unwrap();
     request.apply(apply(0, 8), 0, &mut told).unwrap();
-    assert_eq!((request.ready(0), request.ready(1)), (Ok(0), Ok(0)));
+    assert_eq!((request.ready_count(0), request.ready_count(1)), (Ok(0), Ok(0)));
     request.apply(word(Call::Complete(0, Value::Int(3))), 0, &mut told).unwrap();
     assert_eq!(told.iter().collect::<Vec<_>>(), [(0, int(3))]);
-    assert_eq!((request.ready(0), request.ready(1), request.lowest_ready(2)), (Ok(1), Ok(1), Ok(Some(2))));
-    let step = request.next(4, 1, None, &mut told).unwrap();
-    assert_eq!(step, Step { finished: None, taken: Some(Taken { stage: 1, function: 7, args: Args::One(Value::Int(3)) }) });
-    let step = request.next(4, 1, Some((1, Answer::Give(Value::Nil))), &mut told).unwrap();
-    assert_eq!(step, Step { finished: Some(Finished::Won), taken: None });
+    assert_eq!((request.ready_count(0), request.ready_count(1), request.lowest_ready(2)), (Ok(1), Ok(1), Ok(Some(2))));
+    let step = request.claim_next(4, 1, None, &mut told).unwrap();
+    assert_eq!(step, Stepped { finished: None, taken: Some(ClaimedStage { stage: 1, function: 7, args: Args::One(Value::Int(3)) }) });
+    let step = request.claim_next(4, 1, Some((1, Answer::Give(Value::Nil))), &mut told).unwrap();
+    assert_eq!(step, Stepped { finished: Some(Finished::Won), taken: None });
     assert_eq!(told.at(0), (1, Outcome::Value(Value::Nil)));
     assert_eq!(request.stage(2).unwrap(), Stage { state: State::Ready, who: None });
-    assert_eq!(request.stages(), Ok(3));
+    assert_eq!(request.stage_count(), Ok(3));
 }
 
 /// More than there was room for are told all the same, each once and in its order.
@@ -71,7 +71,7 @@ fn many_are_told_at_once() {
     for (at, (stage, outcome)) in told.iter().enumerate() {
         assert_eq!((usize::from(stage), outcome), (at, fault(Cause::Thrown(9), at > 0)));
     }
-    request.told(&mut told).unwrap();
+    request.tell_rest(&mut told).unwrap();
     assert!(told.is_empty());
 }
 
@@ -92,7 +92,7 @@ fn relays_end_as_what_they_follow() {
     request.follow(5, 2, &mut told).unwrap();
     assert_eq!(told.iter().collect::<Vec<_>>(), [(5, fault(Cause::BadAnswer, false))]);
     let last = *request.words().unwrap().last().unwrap();
-    assert_eq!(Event::of_word(last), Ok(Event { who: OWN, call: Call::FailAs(5, Failure::BadAnswer) }));
+    assert_eq!(Event::from_word(last), Ok(Event { who: OWN, call: Call::FailAs(5, Failure::BadAnswer) }));
 }
 
 /// A row of stages is attached, each of which joins one more, or none is.
@@ -105,8 +105,8 @@ fn any_number_of_stages_is_gathered() {
     assert_eq!((request.gather(9, Form::AllOf, &[0, 1, 2, 1], &mut told), told.len()), (Ok(6), 0));
     let words = request.words().unwrap();
     let attaches = |of| Ok(Event { who: 9, call: Call::Attach(Form::AllOf, of, None) });
-    assert_eq!(Event::of_word(words[4]), attaches(Of::Two(0, 1)));
-    assert_eq!((words.len(), Event::of_word(words[6])), (7, attaches(Of::Two(5, 1))));
+    assert_eq!(Event::from_word(words[4]), attaches(Of::Two(0, 1)));
+    assert_eq!((words.len(), Event::from_word(words[6])), (7, attaches(Of::Two(5, 1))));
     assert_eq!(request.gather(0, Form::AnyOf, &[3], &mut told), Ok(7));
     for (form, who, of, why) in [
         (Form::Combine, 0, &[0, 1][..], Refused::NO_SUCH_NUMBER),
@@ -114,35 +114,35 @@ fn any_number_of_stages_is_gathered() {
         (Form::AllOf, 0, &[0, 10], Refused::NO_STAGE),
         (Form::AllOf, 0, &[0, 1, 2, 3], Refused::NO_ROOM),
     ] {
-        assert_eq!((request.gather(who, form, of, &mut told), request.stages()), (Err(why), Ok(8)));
+        assert_eq!((request.gather(who, form, of, &mut told), request.stage_count()), (Err(why), Ok(8)));
     }
     for (stage, settles) in [(1, vec![1]), (0, vec![0, 4]), (3, vec![3, 7]), (2, vec![2, 5, 6])] {
         request.apply(word(Call::Complete(stage, Value::Int(1))), 0, &mut told).unwrap();
         assert_eq!(told.iter().map(|(stage, _)| stage).collect::<Vec<_>>(), settles);
     }
     assert_eq!((request.gather(0, Form::AnyOf, &[6, 0, 3], &mut told), told.at(1)), (Ok(9), (9, Outcome::Value(Value::Nil))));
-    assert_eq!((request.gather(0, Form::AllOf, &[], &mut told), request.stages()), (Err(Refused::NO_ROOM), Ok(10)));
+    assert_eq!((request.gather(0, Form::AllOf, &[], &mut told), request.stage_count()), (Err(Refused::NO_ROOM), Ok(10)));
 }
 
 /// Deadlines come in the order of their moments, and those of one moment in the order in which they were set.
 #[test]
 fn deadlines_come_in_their_order() {
     let (mut request, mut told) = sources(4);
-    request.deadline(0, 30, Limit::Timeout).unwrap();
-    request.deadline(1, 10, Limit::Give(Value::Int(8))).unwrap();
-    request.deadline(3, 20, Limit::Timeout).unwrap();
-    request.deadline(2, 20, Limit::Timeout).unwrap();
+    request.set_deadline(0, 30, Limit::Timeout).unwrap();
+    request.set_deadline(1, 10, Limit::Give(Value::Int(8))).unwrap();
+    request.set_deadline(3, 20, Limit::Timeout).unwrap();
+    request.set_deadline(2, 20, Limit::Timeout).unwrap();
     let first = Deadline { stage: 1, moment: 10, limit: Limit::Give(Value::Int(8)) };
     assert_eq!(request.next_deadline(), Ok(Some(first)));
     request.apply(word(Call::Complete(1, Value::Nil)), 0, &mut told).unwrap();
     assert_eq!(request.next_deadline(), Ok(Some(Deadline { stage: 3, moment: 20, limit: Limit::Timeout })));
-    request.pass(19, &mut told).unwrap();
+    request.pass_time_to(19, &mut told).unwrap();
     assert!(told.is_empty());
-    request.pass(100, &mut told).unwrap();
+    request.pass_time_to(100, &mut told).unwrap();
     let late = fault(Cause::TimedOut, false);
     assert_eq!(told.iter().collect::<Vec<_>>(), [(3, late), (2, late), (0, late)]);
     assert_eq!(request.next_deadline(), Ok(None));
-    assert_eq!(request.pass(99, &mut told), Err(Refused::PAST_MOMENT));
+    assert_eq!(request.pass_time_to(99, &mut told), Err(Refused::PAST_MOMENT));
 }
 
 #[test]
@@ -151,9 +151,9 @@ fn a_lane_that_nobody_runs_is_refused() {
     request.apply(word(Call::Attach(Form::Supply, Of::None, Some(0))), 1, &mut told).unwrap();
     request.apply(word(Call::Attach(Form::Supply, Of::None, Some(1))), 0, &mut told).unwrap();
     request.apply(word(Call::Attach(Form::Exceptionally, Of::One(0), Some(2))), 1, &mut told).unwrap();
-    request.refuse(1, 77, &mut told).unwrap();
+    request.refuse_lane(1, 77, &mut told).unwrap();
     assert_eq!(told.iter().collect::<Vec<_>>(), [(0, fault(Cause::Thrown(77), false)), (2, fault(Cause::Thrown(77), false))]);
-    assert_eq!((request.ready(0), request.ready(1)), (Ok(1), Ok(0)));
+    assert_eq!((request.ready_count(0), request.ready_count(1)), (Ok(1), Ok(0)));
 }
 
 #[test]
@@ -164,9 +164,9 @@ fn all_is_cancelled_and_begins_again() {
     let cancelled = fault(Cause::Cancelled, false);
     assert_eq!(told.iter().collect::<Vec<_>>(), [(0, cancelled), (2, cancelled)]);
     let words = request.words().unwrap();
-    assert_eq!(Event::of_word(words[words.len() - 1]), Ok(Event { who: 5, call: Call::Cancel(2) }));
+    assert_eq!(Event::from_word(words[words.len() - 1]), Ok(Event { who: 5, call: Call::Cancel(2) }));
     request.restart().unwrap();
-    assert_eq!((request.words(), request.stages()), (Ok(vec![]), Ok(0)));
+    assert_eq!((request.words(), request.stage_count()), (Ok(vec![]), Ok(0)));
     request.apply(source(), 0, &mut told).unwrap();
     assert!(told.is_empty());
 }
@@ -180,23 +180,23 @@ fn calls_are_made_in_one() {
     calls.apply(source(), 0);
     calls.follow(1, 0);
     calls.apply(apply(1, 4), 1);
-    calls.deadline(0, 6, Limit::Give(Value::Int(2)));
-    calls.pass(6);
-    calls.next(3, 1, None);
-    calls.next(3, 1, Some((2, Answer::Throw(1))));
+    calls.set_deadline(0, 6, Limit::Give(Value::Int(2)));
+    calls.pass_time_to(6);
+    calls.claim_next(3, 1, None);
+    calls.claim_next(3, 1, Some((2, Answer::Throw(1))));
     assert_eq!(request.run(&mut calls, &mut told), Ok(()));
-    assert_eq!((calls.done(), calls.reply(1)), (8, Reply::Attached(Some(1))));
-    assert_eq!(calls.step(6), Step { finished: None, taken: Some(Taken { stage: 2, function: 4, args: Args::One(Value::Int(2)) }) });
-    assert_eq!(calls.step(7), Step { finished: Some(Finished::Won), taken: None });
+    assert_eq!((calls.done_count(), calls.reply(1)), (8, Reply::Attached(Some(1))));
+    assert_eq!(calls.step(6), Stepped { finished: None, taken: Some(ClaimedStage { stage: 2, function: 4, args: Args::One(Value::Int(2)) }) });
+    assert_eq!(calls.step(7), Stepped { finished: Some(Finished::Won), taken: None });
     assert_eq!(told.iter().collect::<Vec<_>>(), [(0, int(2)), (1, int(2)), (2, fault(Cause::Thrown(1), true))]);
     calls.clear();
     calls.apply(source(), 0);
-    calls.refuse(1, 5);
+    calls.refuse_lane(1, 5);
     calls.cancel_all(1);
     calls.apply(source(), 2);
-    calls.pass(7);
+    calls.pass_time_to(7);
     assert_eq!(request.run(&mut calls, &mut told), Err(Refused::NO_LANE));
-    assert_eq!((calls.done(), calls.len()), (3, 5));
+    assert_eq!((calls.done_count(), calls.len()), (3, 5));
     assert_eq!(told.iter().collect::<Vec<_>>(), [(3, fault(Cause::Cancelled, false))]);
     calls.clear();
     assert_eq!((request.run(&mut calls, &mut told), calls.is_empty(), told.is_empty()), (Ok(()), true, true));
@@ -209,14 +209,14 @@ fn a_request_grows() {
     request.apply(source(), 0, &mut told).unwrap();
     request.apply(source(), 0, &mut told).unwrap();
     request.follow(1, 0, &mut told).unwrap();
-    request.deadline(0, 9, Limit::Timeout).unwrap();
+    request.set_deadline(0, 9, Limit::Timeout).unwrap();
     assert_eq!(request.apply(source(), 0, &mut told), Err(Refused::NO_ROOM));
     request.grow().unwrap();
     for number in 2..18 {
         assert_eq!(request.apply(source(), 0, &mut told), Ok(Reply::Attached(Some(number))));
     }
     assert_eq!(request.apply(source(), 0, &mut told), Err(Refused::NO_ROOM));
-    request.pass(9, &mut told).unwrap();
+    request.pass_time_to(9, &mut told).unwrap();
     let late = fault(Cause::TimedOut, false);
     assert_eq!(told.iter().collect::<Vec<_>>(), [(0, late), (1, late)]);
     let mut full = sources(4_096).0;
@@ -237,13 +237,13 @@ fn what_cannot_be_done_is_refused() {
     assert_eq!(request.apply(source(), 2, &mut told), Err(Refused::NO_LANE));
     assert_eq!(request.apply(u64::MAX, 0, &mut told), Err(Refused::NO_WORD));
     assert_eq!(request.apply(word(Call::Cancel(1)), 0, &mut told), Err(Refused::NO_STAGE));
-    assert_eq!(request.next(64, 0, None, &mut told), Err(Refused::NO_WORD));
-    assert_eq!(request.next(1, 2, None, &mut told), Err(Refused::NO_LANE));
-    assert_eq!(request.next(1, 0, Some((0, Answer::Throw(1))), &mut told), Err(Refused::NOT_HELD));
-    assert_eq!(request.next(1, 0, Some((1, Answer::Throw(1))), &mut told), Err(Refused::NO_STAGE));
+    assert_eq!(request.claim_next(64, 0, None, &mut told), Err(Refused::NO_WORD));
+    assert_eq!(request.claim_next(1, 2, None, &mut told), Err(Refused::NO_LANE));
+    assert_eq!(request.claim_next(1, 0, Some((0, Answer::Throw(1))), &mut told), Err(Refused::NOT_HELD));
+    assert_eq!(request.claim_next(1, 0, Some((1, Answer::Throw(1))), &mut told), Err(Refused::NO_STAGE));
     assert_eq!((request.follow(0, 1, &mut told), request.follow(1, 0, &mut told)), (Err(Refused::NO_STAGE), Err(Refused::NO_STAGE)));
-    assert_eq!(request.deadline(1, 5, Limit::Timeout), Err(Refused::NO_STAGE));
-    assert_eq!((request.refuse(2, 1, &mut told), request.ready(2)), (Err(Refused::NO_LANE), Err(Refused::NO_LANE)));
+    assert_eq!(request.set_deadline(1, 5, Limit::Timeout), Err(Refused::NO_STAGE));
+    assert_eq!((request.refuse_lane(2, 1, &mut told), request.ready_count(2)), (Err(Refused::NO_LANE), Err(Refused::NO_LANE)));
     assert_eq!((request.cancel_all(64, &mut told), request.stage(1)), (Err(Refused::NO_WORD), Err(Refused::NO_STAGE)));
     assert_eq!(request.words(), words);
 }

@@ -29,10 +29,15 @@ const FORMS: [(&str, Form); 19] = [
     ("anyOf", Form::AnyOf),
     ("exceptionallyCompose", Form::ExceptionallyCompose),
 ];
-const SAID: [(&str, Said); 5] =
-    [("name", Said::Name), ("stages", Said::Stages), ("callers", Said::Callers), ("values", Said::Values), ("errors", Said::Errors)];
-const TELLINGS: [(&str, Telling); 5] =
-    [("lines", Telling::Lines), ("line", Telling::Line), ("account", Telling::Account), ("script", Telling::Script), ("report", Telling::Report)];
+const SAID: [(&str, Label); 5] =
+    [("name", Label::Name), ("stages", Label::Stages), ("callers", Label::Callers), ("values", Label::Values), ("errors", Label::Errors)];
+const TELLINGS: [(&str, TaleFormat); 5] = [
+    ("lines", TaleFormat::Lines),
+    ("line", TaleFormat::Line),
+    ("account", TaleFormat::Account),
+    ("script", TaleFormat::Script),
+    ("report", TaleFormat::Report),
+];
 
 impl Json {
     fn get(&self, name: &str) -> Option<&Json> {
@@ -72,7 +77,7 @@ impl Json {
 fn cases() -> Option<Json> {
     let beside = Path::new(env!("CARGO_MANIFEST_DIR")).join("../../../conformance/requests/told.json");
     let path = std::env::var_os("CF_TOLD").map_or(beside, Into::into);
-    Some(Json::of(&std::fs::read_to_string(path).ok()?))
+    Some(Json::parse(&std::fs::read_to_string(path).ok()?))
 }
 
 /// The plan of a case. The function of a stage has the number of the stage.
@@ -101,7 +106,7 @@ fn cases_of_all_languages_are_told() {
     for case in cases.list() {
         let words: Vec<u64> = case.at("words").list().iter().map(|word| word.text().parse().unwrap()).collect();
         let mut tale = Tale::new(&mut plan_of(case), case.at("room").number() as u16, &words).unwrap();
-        tale.times(&case.at("times").list().iter().map(Json::number).collect::<Vec<_>>()).unwrap();
+        tale.set_times(&case.at("times").list().iter().map(Json::number).collect::<Vec<_>>()).unwrap();
         for (name, what) in SAID {
             tale.say(what, case.at("said").at(name).list().iter().map(Json::text)).unwrap();
         }
@@ -122,26 +127,26 @@ fn texts_of_all_lengths_are_told_whole() {
     for length in [30, 4_095, 4_096, 4_097, 70_000] {
         let name = "n".repeat((length - rest.len()) % 2) + &"é".repeat((length - rest.len()) / 2);
         let mut tale = Tale::new(&mut row(0), 0, &[]).unwrap();
-        tale.say(Said::Name, [&name]).unwrap();
-        let lines = tale.text(Telling::Lines).unwrap();
+        tale.say(Label::Name, [&name]).unwrap();
+        let lines = tale.text(TaleFormat::Lines).unwrap();
         assert!(lines.len() == length && lines == name + rest, "{length}");
     }
     let words: Vec<u64> = (0..300).map(|number| completes(0, number)).collect();
-    let lines = Tale::new(&mut row(0), 0, &words).unwrap().text(Telling::Lines).unwrap();
+    let lines = Tale::new(&mut row(0), 0, &words).unwrap().text(TaleFormat::Lines).unwrap();
     assert_eq!((lines.lines().count(), lines.lines().last()), (302, Some("caller 0 completes 0 source with 299: too late")));
 }
 
 #[test]
 fn what_is_said_last_is_told() {
     let mut tale = Tale::new(&mut row(0), 0, &[completes(0, 1)]).unwrap();
-    let told = |tale: &mut Tale| tale.text(Telling::Lines).unwrap().lines().nth(1).unwrap().to_owned();
-    tale.say(Said::Values, ["no", "one"]).unwrap();
-    tale.say(Said::Callers, [String::from("Ada")]).unwrap();
-    tale.times(&[5]).unwrap();
+    let told = |tale: &mut Tale| tale.text(TaleFormat::Lines).unwrap().lines().nth(1).unwrap().to_owned();
+    tale.say(Label::Values, ["no", "one"]).unwrap();
+    tale.say(Label::Callers, [String::from("Ada")]).unwrap();
+    tale.set_times(&[5]).unwrap();
     assert_eq!(told(&mut tale), "    0.000 ms  Ada completes 0 source with one");
-    tale.say(Said::Values, ["no", "1"]).unwrap();
-    tale.say(Said::Callers, [""; 0]).unwrap();
-    tale.times(&[]).unwrap();
+    tale.say(Label::Values, ["no", "1"]).unwrap();
+    tale.say(Label::Callers, [""; 0]).unwrap();
+    tale.set_times(&[]).unwrap();
     assert_eq!(told(&mut tale), "caller 0 completes 0 source with 1");
 }
 
@@ -152,9 +157,9 @@ fn what_does_not_fit_is_refused() {
     assert_eq!(Tale::new(&mut row(0), 0, &[word, u64::MAX]).err(), Some(Refused::NO_WORD));
     assert_eq!(Tale::new(&mut row(0), 0, &[word, completes(1, 1)]).err(), Some(Refused::NO_STAGE));
     let mut tale = Tale::new(&mut row(0), 0, &[word]).unwrap();
-    assert_eq!(tale.times(&[1, 2]), Err(Refused::TOO_MANY));
-    assert_eq!(tale.say(Said::Name, ["a", "b"]), Err(Refused::TOO_MANY));
-    assert_eq!(tale.say(Said::Stages, vec![""; 4_097]), Err(Refused::TOO_MANY));
-    assert_eq!(tale.say(Said::Callers, vec![""; 65]), Err(Refused::TOO_MANY));
-    assert_eq!(tale.text(Telling::Line).unwrap(), "a history: 1 event, 1 stage; 0 failed; 0 open");
+    assert_eq!(tale.set_times(&[1, 2]), Err(Refused::TOO_MANY));
+    assert_eq!(tale.say(Label::Name, ["a", "b"]), Err(Refused::TOO_MANY));
+    assert_eq!(tale.say(Label::Stages, vec![""; 4_097]), Err(Refused::TOO_MANY));
+    assert_eq!(tale.say(Label::Callers, vec![""; 65]), Err(Refused::TOO_MANY));
+    assert_eq!(tale.text(TaleFormat::Line).unwrap(), "a history: 1 event, 1 stage; 0 failed; 0 open");
 }

@@ -25,12 +25,12 @@ fn words_are_read_as_they_are_written() {
     ];
     for call in calls {
         let event = Event { who: 63, call };
-        assert_eq!(Event::of_word(event.word().unwrap()), Ok(event));
+        assert_eq!(Event::from_word(event.word().unwrap()), Ok(event));
     }
     for (who, call) in [(64, Call::Claim(0)), (0, Call::Claim(4_096)), (0, Call::Attach(Form::Apply, Of::One(0), None))] {
         assert_eq!(Event { who, call }.word(), Err(Refused::NO_WORD));
     }
-    assert_eq!(Event::of_word(0), Err(Refused::NO_WORD));
+    assert_eq!(Event::from_word(0), Err(Refused::NO_WORD));
     assert_eq!(desk_plan().graph(0).unwrap().apply(0), Err(Refused::NO_WORD));
 }
 

@@ -7,7 +7,7 @@
 //!
 //! With SPOILT it is a worker that the judge has to find: `twice` calls a function twice for one claim, `gives` gives another value, `puts` says that
 //! words stand that it never put, `answers` says the contrary of what a call was answered, `shows` shows another value of a stage.
-use cf_store::{Entry, Error, Failed, Functions, Mark, News, Opened, Options, Put, Request, SQLite, Service, Stage, Store, StoreError, Timer};
+use cf_store::{Entry, Error, Failed, Functions, Mark, Opened, Options, Put, Request, SQLite, Service, Stage, Store, StoreError, Timer, WordCounts};
 use serde_json::{json, Value};
 use std::collections::{BTreeMap, BTreeSet, HashMap, HashSet};
 use std::fs::{self, File};
@@ -145,7 +145,7 @@ impl Store for Noted {
         self.0.payload(name, number, place)
     }
 
-    fn news(&self, since: Option<Mark>) -> Result<(News, Mark), StoreError> {
+    fn news(&self, since: Option<Mark>) -> Result<(WordCounts, Mark), StoreError> {
         self.0.news(since)
     }
 

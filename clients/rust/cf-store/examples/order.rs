@@ -26,8 +26,7 @@ fn main() -> Result<(), Box<dyn std::error::Error>> {
     let paid = flow.again(charged, 1); // a further try, if the process of the first one dies
 
     let functions = Functions::new().with("reserve", 1, reserve).with("charge", 1, charge);
-    let mut options = Options::default();
-    options.lease = Duration::from_secs(2); // a process that is silent for so long counts as dead
+    let options = Options::default().lease(Duration::from_secs(2)); // a process that is silent for so long counts as dead
     let service = Service::with(SQLite::open(env::args().nth(1).unwrap())?, functions, options)?;
     let request = service.start(&flow, "order 17", &[json!({"number": 17})])?;
     println!("{}", request.step(paid).unwrap().wait::<Value>()?);

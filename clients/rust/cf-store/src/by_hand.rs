@@ -2,12 +2,12 @@
 use crate::error::{Error, StoreError};
 use crate::flow::Flow;
 use crate::functions::Functions;
-use crate::host::{Host, Machine};
+use crate::host::{Host, RealHost};
 use crate::request::{Request, Stage};
-use crate::service::{Job, Looks, Options, Service, Shared};
-use crate::store::{Mark, News, Opened, Put, Store, Timer};
+use crate::service::{Options, PumpState, Service, ServiceCore, ServiceJob};
+use crate::store::{Mark, Opened, Put, Store, Timer, WordCounts};
 use crate::testing::Memory;
-use crate::view::{View, Wanted};
+use crate::view::{RowView, WantedWord};
 use cf_graph::{Answer, Call, Entry, Event};
 use std::collections::{BTreeMap, VecDeque};
 use std::sync::atomic::{AtomicBool, AtomicU32, Ordering::SeqCst};
@@ -21,11 +21,11 @@ const LONG: Duration = Duration::from_secs(20);
 
 /// A moment that moves by hand.
 #[derive(Clone)]
-struct Clock(Arc<Mutex<Instant>>);
+struct TestClock(Arc<Mutex<Instant>>);
 
-impl Clock {
-    fn new() -> Clock {
-        Clock(Arc::new(Mutex::new(Instant::now())))
+impl TestClock {
+    fn new() -> TestClock {
+        TestClock(Arc::new(Mutex::new(Instant::now())))
     }
 
     fn now(&self) -> Instant {
@@ -39,9 +39,9 @@ impl Clock {
 
 /// A machine without threads: what they were to do waits for the test.
 struct ByHand {
-    clock: Clock,
+    clock: TestClock,
     session: u64,
-    jobs: Mutex<VecDeque<Job>>,
+    jobs: Mutex<VecDeque<ServiceJob>>,
     /// What was told that can't be done.
     told: Mutex<Vec<String>>,
 }
@@ -55,7 +55,7 @@ impl Host for ByHand {
         self.clock.pass(wait);
     }
 
-    fn number(&self, _bits: u32) -> u64 {
+    fn random_bits(&self, _bits: u32) -> u64 {
         self.session
     }
 
@@ -63,12 +63,12 @@ impl Host for ByHand {
         false
     }
 
-    fn takes(&self, job: Job) -> Option<Job> {
+    fn take_job(&self, job: ServiceJob) -> Option<ServiceJob> {
         self.jobs.lock().unwrap().push_back(job);
         None
     }
 
-    fn warns(&self, _tells: fn(&str), _request: &str, text: &str) {
+    fn warn(&self, _tells: fn(&str), _request: &str, text: &str) {
         self.told.lock().unwrap().push(text.to_owned());
     }
 }
@@ -88,12 +88,12 @@ impl Host for Hurried {
 }
 
 /// Is told of each call of a store, with what it puts, and may answer in its place; of a put behind it, too, as `appended`.
-type Called = Arc<dyn Fn(&'static str, &[Entry]) -> Result<(), StoreError> + Send + Sync>;
+type OnCall = Arc<dyn Fn(&'static str, &[Entry]) -> Result<(), StoreError> + Send + Sync>;
 
 /// A store in memory that tells of its calls.
-struct Told {
+struct TellingStore {
     memory: Arc<Memory>,
-    called: Called,
+    called: OnCall,
 }
 
 macro_rules! told {
@@ -105,13 +105,13 @@ macro_rules! told {
     )*};
 }
 
-impl Store for Told {
+impl Store for TellingStore {
     told! {
         fn open(name: &str, plan: &str) -> Opened;
         fn find(name: &str) -> Option<Opened>;
         fn read(name: &str, number: i64, at: usize) -> Vec<Entry>;
         fn payload(name: &str, number: i64, place: usize) -> Option<Vec<u8>>;
-        fn news(since: Option<Mark>) -> (News, Mark);
+        fn news(since: Option<Mark>) -> (WordCounts, Mark);
         fn changed(wait: Duration) -> ();
         fn end(name: &str, number: i64, at: usize) -> bool;
         fn beat(session: u64) -> ();
@@ -133,19 +133,19 @@ impl Store for Told {
 }
 
 /// A service with its machine.
-struct Process {
+struct TestProcess {
     service: Service,
     host: Arc<ByHand>,
-    looks: Mutex<Looks>,
+    looks: Mutex<PumpState>,
 }
 
-impl Process {
-    fn new(memory: &Arc<Memory>, clock: &Clock, session: u64, threads: usize, functions: Functions, called: Called) -> Process {
+impl TestProcess {
+    fn new(memory: &Arc<Memory>, clock: &TestClock, session: u64, threads: usize, functions: Functions, called: OnCall) -> TestProcess {
         let host = Arc::new(ByHand { clock: clock.clone(), session, jobs: Mutex::default(), told: Mutex::default() });
-        let store = Arc::new(Told { memory: Arc::clone(memory), called });
+        let store = Arc::new(TellingStore { memory: Arc::clone(memory), called });
         let options = Options { threads, lease: LEASE, takes_all: true, warns: |_| {}, ..Options::default() };
         let service = Service::hosted(store, functions, options, Arc::clone(&host) as Arc<dyn Host>).unwrap();
-        Process { service, host, looks: Mutex::new(Looks::new(clock.now())) }
+        TestProcess { service, host, looks: Mutex::new(PumpState::new(clock.now())) }
     }
 
     /// A turn of its pump, and what its threads do then.
@@ -155,7 +155,7 @@ impl Process {
     }
 
     fn look(&self) {
-        self.service.shared.round(&mut self.looks.lock().unwrap()).unwrap();
+        self.service.shared.pump_round(&mut self.looks.lock().unwrap()).unwrap();
     }
 
     fn work(&self) {
@@ -166,14 +166,14 @@ impl Process {
     }
 }
 
-fn silent() -> Called {
+fn silent() -> OnCall {
     Arc::new(|_, _| Ok(()))
 }
 
 #[test]
 fn who_starts_over_many_requests_beats() {
-    let (memory, clock) = (Arc::new(Memory::default()), Clock::new());
-    let plan = Flow::default().text(&Functions::new()).unwrap();
+    let (memory, clock) = (Arc::new(Memory::default()), TestClock::new());
+    let plan = Flow::default().plan_text(&Functions::new()).unwrap();
     for number in 0..40 {
         memory.open(&format!("request {number}"), &plan).unwrap();
     }
@@ -192,7 +192,7 @@ fn who_starts_over_many_requests_beats() {
         }
         Ok(())
     };
-    let process = Process::new(&memory, &clock, 1, 1, Functions::new(), Arc::new(called));
+    let process = TestProcess::new(&memory, &clock, 1, 1, Functions::new(), Arc::new(called));
     let began = clock.now();
     process.turn();
     assert!(clock.now() - began >= Duration::from_secs(40), "each row was read, which took a second");
@@ -201,12 +201,12 @@ fn who_starts_over_many_requests_beats() {
 
 #[test]
 fn a_new_word_is_a_sign_of_life() {
-    let (memory, clock) = (Arc::new(Memory::default()), Clock::new());
-    let watches = Process::new(&memory, &clock, 1, 0, Functions::new(), silent());
-    let works = Process::new(&memory, &clock, 2, 1, Functions::new(), silent());
+    let (memory, clock) = (Arc::new(Memory::default()), TestClock::new());
+    let watches = TestProcess::new(&memory, &clock, 1, 0, Functions::new(), silent());
+    let works = TestProcess::new(&memory, &clock, 2, 1, Functions::new(), silent());
     let request = works.service.request("r").unwrap();
     let stage = request.supply("cf.gather", &[1.into()]).unwrap();
-    request.inner.act(|_| Ok(vec![Wanted { call: Call::Claim(stage.number()), payload: None }])).unwrap();
+    request.inner.put_words(|_| Ok(vec![WantedWord { call: Call::Claim(stage.number()), payload: None }])).unwrap();
     watches.turn();
     for _ in 0..10 {
         clock.pass(LEASE / 4);
@@ -225,8 +225,8 @@ fn a_new_word_is_a_sign_of_life() {
 
 #[test]
 fn who_was_taken_for_gone_claims_nothing_before_it_has_beaten() {
-    let (memory, clock) = (Arc::new(Memory::default()), Clock::new());
-    let watches = Arc::new(Process::new(&memory, &clock, 1, 0, Functions::new(), silent()));
+    let (memory, clock) = (Arc::new(Memory::default()), TestClock::new());
+    let watches = Arc::new(TestProcess::new(&memory, &clock, 1, 0, Functions::new(), silent()));
     let calls = Arc::new(AtomicU32::new(0));
     let (counted, watcher, ticks) = (Arc::clone(&calls), Arc::clone(&watches), clock.clone());
     // while it is called at first its process stands still, and the other one doesn't
@@ -237,7 +237,7 @@ fn who_was_taken_for_gone_claims_nothing_before_it_has_beaten() {
         }
         Ok::<_, String>(7)
     };
-    let works = Process::new(&memory, &clock, 2, 1, Functions::new().with("slow", 1, slow), silent());
+    let works = TestProcess::new(&memory, &clock, 2, 1, Functions::new().with("slow", 1, slow), silent());
     works.turn();
     let last = works.service.request("r").unwrap().supply("slow", &[]).unwrap().again(8).unwrap();
     watches.turn();
@@ -262,13 +262,13 @@ fn who_stops_beats_until_its_functions_have_ended() {
         go.lock().unwrap().recv_timeout(LONG).map(|()| 7)
     };
     let options = Options { lease: Duration::from_millis(50), ..Options::default() };
-    let store = Arc::new(Told { memory: Arc::default(), called: Arc::new(called) });
-    let service = Service::hosted(store, Functions::new().with("slow", 1, slow), options, Arc::new(Machine)).unwrap();
+    let store = Arc::new(TellingStore { memory: Arc::default(), called: Arc::new(called) });
+    let service = Service::hosted(store, Functions::new().with("slow", 1, slow), options, Arc::new(RealHost)).unwrap();
     let shared = Arc::clone(&service.shared);
     service.request("r").unwrap().supply("slow", &[]).unwrap();
     begins.recv_timeout(LONG).unwrap();
     let stops = thread::spawn(move || drop(service));
-    while !shared.is_over() {
+    while !shared.is_stopping() {
         thread::yield_now();
     }
     beaten.try_iter().for_each(drop);
@@ -281,9 +281,9 @@ fn who_stops_beats_until_its_functions_have_ended() {
 
 #[test]
 fn a_further_try_takes_what_an_earlier_one_has_attached() {
-    let (memory, clock) = (Arc::new(Memory::default()), Clock::new());
-    let watches = Arc::new(Process::new(&memory, &clock, 1, 0, Functions::new(), silent()));
-    let functions = |stops: Option<Arc<Process>>| {
+    let (memory, clock) = (Arc::new(Memory::default()), TestClock::new());
+    let watches = Arc::new(TestProcess::new(&memory, &clock, 1, 0, Functions::new(), silent()));
+    let functions = |stops: Option<Arc<TestProcess>>| {
         let ticks = clock.clone();
         let loads = move |request: &Request, number: i64| {
             let loaded = request.supply("inc", &[number.into()])?;
@@ -295,7 +295,7 @@ fn a_further_try_takes_what_an_earlier_one_has_attached() {
         };
         Functions::new().with("inc", 1, |number: i64| Ok::<_, String>(number + 1)).composing("loads", 1, loads)
     };
-    let stops = Process::new(&memory, &clock, 2, 1, functions(Some(Arc::clone(&watches))), silent());
+    let stops = TestProcess::new(&memory, &clock, 2, 1, functions(Some(Arc::clone(&watches))), silent());
     let request = stops.service.request("r").unwrap();
     let number = request.promise("number").unwrap();
     let last = number.compose("loads").unwrap().again(2).unwrap();
@@ -304,7 +304,7 @@ fn a_further_try_takes_what_an_earlier_one_has_attached() {
     watches.turn();
     stops.work();
     assert_eq!(names(&request, "inc"), 1, "it was taken for gone, and attaches nothing any more");
-    let works = Process::new(&memory, &clock, 3, 1, functions(None), silent());
+    let works = TestProcess::new(&memory, &clock, 3, 1, functions(None), silent());
     works.turn();
     let request = works.service.open("r").unwrap();
     works.work();
@@ -326,7 +326,7 @@ fn a_value_that_is_refused_for_a_while_is_not_lost() {
     for (refusals, takes_beats, wanted) in rows {
         let left = AtomicU32::new(refusals);
         let called = move |call: &str, entries: &[Entry]| {
-            let finishes = |entry: &Entry| matches!(Event::of_word(entry.word).unwrap().call, Call::Finish(..));
+            let finishes = |entry: &Entry| matches!(Event::from_word(entry.word).unwrap().call, Call::Finish(..));
             let is_refused = match call {
                 "append" => entries.iter().any(finishes) && left.fetch_update(SeqCst, SeqCst, |left| left.checked_sub(1)).is_ok(),
                 "beat" => !takes_beats && left.load(SeqCst) > 0,
@@ -338,7 +338,7 @@ fn a_value_that_is_refused_for_a_while_is_not_lost() {
             Ok(())
         };
         let functions = Functions::new().with("seven", 1, || Ok::<_, String>(7));
-        let process = Process::new(&Arc::default(), &Clock::new(), 1, 1, functions, Arc::new(called));
+        let process = TestProcess::new(&Arc::default(), &TestClock::new(), 1, 1, functions, Arc::new(called));
         let stage = process.service.request("r").unwrap().supply("seven", &[]).unwrap();
         process.work();
         let told = stage.peek::<i64>().map_err(|error| match error {
@@ -364,11 +364,11 @@ fn who_stops_puts_a_value_for_a_minute() {
         (refused, 59, 10_000, false),
     ];
     for (answer, stops, ends, is_kept) in rows {
-        let (clock, shared) = (Clock::new(), Arc::new(Mutex::new(None::<Arc<Shared>>)));
+        let (clock, shared) = (TestClock::new(), Arc::new(Mutex::new(None::<Arc<ServiceCore>>)));
         let (time, its, begun) = (clock.clone(), Arc::clone(&shared), Mutex::new(None));
         let said = answer.clone();
         let called = move |call: &str, entries: &[Entry]| {
-            let finishes = |entry: &Entry| matches!(Event::of_word(entry.word).unwrap().call, Call::Finish(..));
+            let finishes = |entry: &Entry| matches!(Event::from_word(entry.word).unwrap().call, Call::Finish(..));
             let is_its = call == "append" && entries.iter().any(finishes);
             let (now, mut begun) = (time.now(), begun.lock().unwrap());
             if !is_its && (call != "beat" || begun.is_none()) {
@@ -377,7 +377,7 @@ fn who_stops_puts_a_value_for_a_minute() {
             let stop = *begun.get_or_insert(now) + stops * SECOND;
             let its = its.lock().unwrap();
             let its = its.as_ref().unwrap();
-            if now >= stop && !its.is_over() {
+            if now >= stop && !its.is_stopping() {
                 its.stop();
             }
             if now < stop + ends * SECOND {
@@ -386,14 +386,14 @@ fn who_stops_puts_a_value_for_a_minute() {
             Ok(())
         };
         let memory = Arc::new(Memory::default());
-        let process = Process::new(&memory, &clock, 1, 1, Functions::new().with("seven", 1, || Ok::<_, String>(7)), Arc::new(called));
+        let process = TestProcess::new(&memory, &clock, 1, 1, Functions::new().with("seven", 1, || Ok::<_, String>(7)), Arc::new(called));
         *shared.lock().unwrap() = Some(Arc::clone(&process.service.shared));
         process.service.request("r").unwrap().supply("seven", &[]).unwrap();
         let began = clock.now();
         process.work();
         let took = clock.now() - began;
         assert!(took <= (stops + 150) * SECOND, "{answer} at {stops}, and it ends {took:?} later");
-        let other = Process::new(&memory, &clock, 2, 0, Functions::new(), silent());
+        let other = TestProcess::new(&memory, &clock, 2, 0, Functions::new(), silent());
         let stands = other.service.open("r").unwrap().stage(0).unwrap().peek::<i64>();
         assert_eq!(stands, Ok(is_kept.then_some(7)), "{answer} at {stops} until {ends}");
         let lost = "request \"r\": stage 0: what its function came to is lost: ";
@@ -418,7 +418,7 @@ fn a_word_that_may_stand_is_not_told_as_refused() {
                 _ => Ok(()),
             }
         };
-        let process = Process::new(&Arc::default(), &Clock::new(), 1, 0, Functions::new(), Arc::new(called));
+        let process = TestProcess::new(&Arc::default(), &TestClock::new(), 1, 0, Functions::new(), Arc::new(called));
         let stage = process.service.request("r").unwrap().promise("p").unwrap();
         is_on.store(true, SeqCst);
         let told = stage.complete(&7);
@@ -427,18 +427,18 @@ fn a_word_that_may_stand_is_not_told_as_refused() {
             None => assert_eq!(told, Err(StoreError::Unknown("it can only be read".into()))),
         }
     }
-    let refuses = |call: &str, entries: &[Entry]| match Event::of_word(entries.first().map_or(0, |it| it.word)).map(|it| it.call) {
+    let refuses = |call: &str, entries: &[Entry]| match Event::from_word(entries.first().map_or(0, |it| it.word)).map(|it| it.call) {
         Ok(Call::Complete(..)) if call == "append" => Err(StoreError::Refused("it is too large".into())),
         _ => Ok(()),
     };
-    let process = Process::new(&Arc::default(), &Clock::new(), 1, 0, Functions::new(), Arc::new(refuses));
+    let process = TestProcess::new(&Arc::default(), &TestClock::new(), 1, 0, Functions::new(), Arc::new(refuses));
     let stage = process.service.request("r").unwrap().promise("p").unwrap();
     assert_eq!(stage.complete(&7), Err(StoreError::Refused("it is too large".into())), "what is refused at once doesn't stand");
 }
 
 /// A flow's request whose one stage is open, and the service that has begun it.
-fn begun(memory: &Arc<Memory>, clock: &Clock, called: Called) -> (Stage, Process) {
-    let process = Process::new(memory, clock, 1, 0, Functions::new(), called);
+fn begun(memory: &Arc<Memory>, clock: &TestClock, called: OnCall) -> (Stage, TestProcess) {
+    let process = TestProcess::new(memory, clock, 1, 0, Functions::new(), called);
     let mut flow = Flow::new("one");
     let step = flow.promise("p");
     let stage = process.service.start(&flow, "r", &[]).unwrap().step(step).unwrap();
@@ -447,8 +447,8 @@ fn begun(memory: &Arc<Memory>, clock: &Clock, called: Called) -> (Stage, Process
 }
 
 /// Completes that stage in another process, which closes the request.
-fn completed_elsewhere(memory: &Arc<Memory>, clock: &Clock) {
-    let other = Process::new(memory, clock, 2, 0, Functions::new(), silent());
+fn completed_elsewhere(memory: &Arc<Memory>, clock: &TestClock) {
+    let other = TestProcess::new(memory, clock, 2, 0, Functions::new(), silent());
     assert!(other.service.open("r").unwrap().stage(0).unwrap().complete(&7).unwrap());
     other.work();
     assert!(!memory.is_open("r"));
@@ -456,7 +456,7 @@ fn completed_elsewhere(memory: &Arc<Memory>, clock: &Clock) {
 
 #[test]
 fn who_waits_is_told_of_the_last_word_of_a_request_that_was_closed() {
-    let (memory, clock) = (Arc::new(Memory::default()), Clock::new());
+    let (memory, clock) = (Arc::new(Memory::default()), TestClock::new());
     let (stage, process) = begun(&memory, &clock, silent());
     completed_elsewhere(&memory, &clock);
     process.look();
@@ -468,7 +468,7 @@ fn who_waits_is_told_of_the_last_word_of_a_request_that_was_closed() {
     process.work();
     assert_eq!(stage.peek(), Ok(Some(7)));
     // and again, once it was let go
-    let other = Process::new(&memory, &clock, 3, 0, Functions::new(), silent());
+    let other = TestProcess::new(&memory, &clock, 3, 0, Functions::new(), silent());
     let late = other.service.open("r").unwrap().promise("late").unwrap();
     process.turn();
     let waits = process.service.open("r").unwrap().stage(1).unwrap();
@@ -488,9 +488,9 @@ fn who_waits_is_told_of_the_last_word_of_a_request_that_was_closed() {
 
 #[test]
 fn what_others_have_put_is_read_when_asked_for() {
-    let (memory, clock) = (Arc::new(Memory::default()), Clock::new());
+    let (memory, clock) = (Arc::new(Memory::default()), TestClock::new());
     let (stage, _process) = begun(&memory, &clock, silent());
-    let other = Process::new(&memory, &clock, 2, 0, Functions::new(), silent());
+    let other = TestProcess::new(&memory, &clock, 2, 0, Functions::new(), silent());
     other.service.open("r").unwrap().promise("late").unwrap();
     assert!(stage.request.stage(1).is_none());
     stage.request.refresh().unwrap();
@@ -499,25 +499,25 @@ fn what_others_have_put_is_read_when_asked_for() {
 
 #[test]
 fn a_request_that_goes_on_as_it_is_let_go() {
-    let (memory, clock) = (Arc::new(Memory::default()), Clock::new());
+    let (memory, clock) = (Arc::new(Memory::default()), TestClock::new());
     let (stage, process) = begun(&memory, &clock, silent());
     completed_elsewhere(&memory, &clock);
     process.look(); // it sees that the request is closed
     stage.request.promise("late").unwrap();
     drop(stage);
     process.work();
-    assert!(process.service.shared.kept_as("r").is_some(), "it goes on with what was opened again meanwhile");
-    let (memory, clock) = (Arc::new(Memory::default()), Clock::new());
+    assert!(process.service.shared.request_as_kept("r").is_some(), "it goes on with what was opened again meanwhile");
+    let (memory, clock) = (Arc::new(Memory::default()), TestClock::new());
     let (stage, process) = begun(&memory, &clock, silent());
     completed_elsewhere(&memory, &clock);
     process.turn();
     drop(stage);
-    assert!(process.service.shared.kept_as("r").is_none(), "it forgets what is closed");
+    assert!(process.service.shared.request_as_kept("r").is_none(), "it forgets what is closed");
 }
 
 #[test]
 fn an_attach_that_the_store_is_silent_about() {
-    let (memory, clock) = (Arc::new(Memory::default()), Clock::new());
+    let (memory, clock) = (Arc::new(Memory::default()), TestClock::new());
     let is_silent = Arc::new(AtomicBool::new(false));
     let says = Arc::clone(&is_silent);
     let called = move |call: &str, _: &[Entry]| {
@@ -532,7 +532,7 @@ fn an_attach_that_the_store_is_silent_about() {
     is_silent.store(true, SeqCst);
     assert_eq!(stage.request.promise("late").map(|_| ()), Err(StoreError::Unknown("silent".into())));
     drop(stage);
-    assert_eq!(process.service.shared.goes_on_with().len(), 1, "it may stand, so the service works on it");
+    assert_eq!(process.service.shared.open_requests().len(), 1, "it may stand, so the service works on it");
     is_silent.store(false, SeqCst);
     process.turn();
     let late = process.service.open("r").unwrap().stage(1).unwrap();
@@ -540,12 +540,12 @@ fn an_attach_that_the_store_is_silent_about() {
 }
 
 /// A stage of a service with threads, which another one has completed with 7, and that service. Its store is told of calls.
-fn completed(called: Called) -> (Stage, Service) {
+fn completed(called: OnCall) -> (Stage, Service) {
     let memory = Arc::new(Memory::default());
-    let other = Process::new(&memory, &Clock::new(), 1, 0, Functions::new(), silent());
+    let other = TestProcess::new(&memory, &TestClock::new(), 1, 0, Functions::new(), silent());
     assert!(other.service.request("r").unwrap().promise("p").unwrap().complete(&7).unwrap());
     let options = Options { threads: 1, warns: |_| {}, ..Options::default() };
-    let service = Service::hosted(Arc::new(Told { memory, called }), Functions::new(), options, Arc::new(Hurried::default())).unwrap();
+    let service = Service::hosted(Arc::new(TellingStore { memory, called }), Functions::new(), options, Arc::new(Hurried::default())).unwrap();
     (service.open("r").unwrap().stage(0).unwrap(), service)
 }
 
@@ -609,8 +609,8 @@ fn a_wait_keeps_its_limit_whoever_hangs() {
 
 #[test]
 fn a_put_whose_answer_was_lost_is_told_what_it_did_and_no_more() {
-    let (memory, clock) = (Arc::new(Memory::default()), Clock::new());
-    let other = Process::new(&memory, &clock, 2, 0, Functions::new(), silent());
+    let (memory, clock) = (Arc::new(Memory::default()), TestClock::new());
+    let other = TestProcess::new(&memory, &clock, 2, 0, Functions::new(), silent());
     let is_lost = Arc::new(AtomicBool::new(false));
     let loses = Arc::clone(&is_lost);
     let called = move |call: &str, _: &[Entry]| {
@@ -620,7 +620,7 @@ fn a_put_whose_answer_was_lost_is_told_what_it_did_and_no_more() {
         }
         Ok(())
     };
-    let process = Process::new(&memory, &clock, 1, 0, Functions::new(), Arc::new(called));
+    let process = TestProcess::new(&memory, &clock, 1, 0, Functions::new(), Arc::new(called));
     let request = process.service.request("r").unwrap();
     is_lost.store(true, SeqCst);
     let own = request.promise("own").unwrap();
@@ -630,10 +630,10 @@ fn a_put_whose_answer_was_lost_is_told_what_it_did_and_no_more() {
 
 #[test]
 fn a_stage_whose_function_runs_is_abandoned_and_not_cancelled() {
-    let process = Process::new(&Arc::default(), &Clock::new(), 1, 0, Functions::new(), silent());
+    let process = TestProcess::new(&Arc::default(), &TestClock::new(), 1, 0, Functions::new(), silent());
     let request = process.service.request("r").unwrap();
     let stage = request.supply("cf.gather", &[1.into()]).unwrap();
-    request.inner.act(|_| Ok(vec![Wanted { call: Call::Claim(stage.number()), payload: None }])).unwrap();
+    request.inner.put_words(|_| Ok(vec![WantedWord { call: Call::Claim(stage.number()), payload: None }])).unwrap();
     assert_eq!(stage.cancel(), Ok(false));
     assert_eq!(stage.abandon(), Ok(true));
     assert_eq!(stage.peek::<i64>(), Err(Error::Cancelled));
@@ -642,16 +642,16 @@ fn a_stage_whose_function_runs_is_abandoned_and_not_cancelled() {
 #[test]
 fn a_stage_that_ends_as_one_that_is_not_there() {
     let functions = Functions::new().composing("gives", 1, |request: &Request, _: i64| request.promise("p"));
-    let process = Process::new(&Arc::default(), &Clock::new(), 1, 0, functions, silent());
+    let process = TestProcess::new(&Arc::default(), &TestClock::new(), 1, 0, functions, silent());
     let request = process.service.request("r").unwrap();
     let number = request.promise("number").unwrap();
     let stage = number.compose("gives").unwrap();
     assert!(number.complete(&1).unwrap());
     let (composes, promise) = (stage.number(), stage.number() - 1);
-    request.inner.act(|_| Ok(vec![Wanted { call: Call::Claim(composes), payload: None }])).unwrap();
+    request.inner.put_words(|_| Ok(vec![WantedWord { call: Call::Claim(composes), payload: None }])).unwrap();
     let said = format!("{{\"stage\":{}}}", composes + 1).into_bytes();
-    let links = |view: &mut View| Ok(view.finish(composes, Answer::Link(promise), Some(said.clone()))?.into_iter().collect());
-    request.inner.act(links).unwrap();
+    let links = |view: &mut RowView| Ok(view.finish_word(composes, Answer::Link(promise), Some(said.clone()))?.into_iter().collect());
+    request.inner.put_words(links).unwrap();
     process.turn();
     assert!(matches!(stage.peek::<i64>(), Err(Error::Store(StoreError::Broken { .. }))), "the row names a stage that isn't there");
 }
@@ -668,8 +668,8 @@ fn what_goes_wrong_in_a_look_is_told() {
         TOLD.fetch_add(u32::from(text == "the store doesn't answer: no answer"), SeqCst);
     };
     let options = Options { warns: tells, ..Options::default() };
-    let store = Arc::new(Told { memory: Arc::default(), called: Arc::new(called) });
-    let _service = Service::hosted(store, Functions::new(), options, Arc::new(Machine)).unwrap();
+    let store = Arc::new(TellingStore { memory: Arc::default(), called: Arc::new(called) });
+    let _service = Service::hosted(store, Functions::new(), options, Arc::new(RealHost)).unwrap();
     let until = Instant::now() + LONG;
     while TOLD.load(SeqCst) == 0 {
         assert!(Instant::now() < until);

@@ -48,6 +48,6 @@ pub fn within<T>(context: Map<String, Value>, act: impl FnOnce() -> T) -> T {
 }
 
 /// What is said of it in a row, where there is something.
-pub(crate) fn captured() -> Option<Map<String, Value>> {
+pub(crate) fn capture() -> Option<Map<String, Value>> {
     Some(context()).filter(|it| !it.is_empty())
 }

@@ -1,7 +1,7 @@
 //! Who is told of requests that were closed: a function, on a thread of its own.
 use crate::context::within;
-use crate::history::{History, What};
-use crate::service::Shared;
+use crate::history::{History, HistoryItem};
+use crate::service::ServiceCore;
 use crate::store::Opened;
 use cf::Aside;
 use serde_json::{Map, Value as Json};
@@ -30,8 +30,7 @@ use std::time::Duration;
 /// use std::time::Duration;
 ///
 /// let ends = Ends::new(|history| println!("{}", history.line().unwrap_or_else(|error| error.to_string())));
-/// let mut options = Options::default();
-/// options.on_end = Some(ends.clone());
+/// let options = Options::default().on_end(ends.clone());
 /// let service = Service::with(SQLite::open(path)?, Functions::new(), options)?;
 /// let request = service.request("order 17")?;
 /// request.promise("price")?.complete(&4900)?;
@@ -45,11 +44,11 @@ use std::time::Duration;
 /// # fn main() {}
 /// ```
 #[derive(Clone, Debug)]
-pub struct Ends(Aside<Closed>);
+pub struct Ends(Aside<ClosedRequest>);
 
 /// A request that was closed.
-pub(crate) struct Closed {
-    pub(crate) service: Arc<Shared>,
+pub(crate) struct ClosedRequest {
+    pub(crate) service: Arc<ServiceCore>,
     pub(crate) opened: Opened,
     /// What goes along with its functions.
     pub(crate) context: Map<String, Json>,
@@ -58,12 +57,13 @@ pub(crate) struct Closed {
 impl Ends {
     /// One that calls this function.
     pub fn new(hook: impl Fn(&History) + Send + Sync + 'static) -> Ends {
-        Ends::telling(|what| what.all(), hook)
+        Ends::telling(|what| what.full_text(), hook)
     }
 
-    /// The same, where `tells` says what histories tell of a value or an error, as for [`history_by`](crate::Request::history_by).
-    pub fn telling(tells: impl Fn(What<'_>) -> String + Send + Sync + 'static, hook: impl Fn(&History) + Send + Sync + 'static) -> Ends {
-        Ends(Aside::new(move |Closed { service, opened, context }| {
+    /// The same, where `tells` says what histories tell of a value or an error, as for
+    /// [`history_described_by`](crate::Request::history_described_by).
+    pub fn telling(tells: impl Fn(HistoryItem<'_>) -> String + Send + Sync + 'static, hook: impl Fn(&History) + Send + Sync + 'static) -> Ends {
+        Ends(Aside::new(move |ClosedRequest { service, opened, context }| {
             let name = opened.name.clone();
             match History::new(&*service.store, &*service.host, opened, &tells) {
                 Ok(history) => within(context, || hook(&history)),
@@ -77,7 +77,7 @@ impl Ends {
         self.0.flush(wait)
     }
 
-    pub(crate) fn tell(&self, closed: Closed) {
+    pub(crate) fn tell_end(&self, closed: ClosedRequest) {
         self.0.tell(closed);
     }
 }

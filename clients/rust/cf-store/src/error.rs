@@ -76,7 +76,7 @@ impl Failed {
     }
 
     /// What any error comes to: the text that it shows.
-    pub(crate) fn of(error: &dyn fmt::Display) -> Failed {
+    pub(crate) fn from_error(error: &dyn fmt::Display) -> Failed {
         Failed { kind: ERROR.into(), text: error.to_string(), args: None }
     }
 

@@ -1,7 +1,7 @@
 //! Rows in keys of an etcd cluster, by its JSON gateway: for few and important requests that outlive machines. Python's processes share them.
 use crate::error::StoreError;
-use crate::http::Connection;
-use crate::store::{in_a_row, Mark, News, Opened, Put, Store, Timer};
+use crate::http::HttpConnection;
+use crate::store::{check_row, Mark, Opened, Put, Store, Timer, WordCounts};
 use cf_graph::Entry;
 use serde_json::{json, Value as Json};
 use std::collections::BTreeMap;
@@ -35,16 +35,16 @@ pub struct Etcd {
     /// Which member is asked, counted on at each failure.
     turn: AtomicUsize,
     /// Connections that nobody uses now, each with the turn in which it was made.
-    idle: Mutex<Vec<(usize, Connection)>>,
+    idle: Mutex<Vec<(usize, HttpConnection)>>,
     /// A stream of what is put, which stays open.
-    watch: Mutex<Option<Watch>>,
+    watch: Mutex<Option<ChangeStream>>,
 }
 
 /// A stream of what is put, with the turn in which it was opened, and when it has last told something.
 #[derive(Debug)]
-struct Watch {
+struct ChangeStream {
     turn: usize,
-    stream: Connection,
+    stream: HttpConnection,
     told: Instant,
 }
 
@@ -67,49 +67,49 @@ impl Etcd {
             return Err(StoreError::Refused(format!("{address:?} is no address of a cluster: etcd://HOST:PORT,..")));
         }
         let store = Etcd { addresses, turn: AtomicUsize::new(0), idle: Mutex::default(), watch: Mutex::default() };
-        let mut answered = store.range(json!({"key": b64(b"cf/r/"), "keys_only": true}));
+        let mut answered = store.range(json!({"key": base64(b"cf/r/"), "keys_only": true}));
         for _ in 1..store.addresses.len() {
-            answered = answered.or_else(|_| store.range(json!({"key": b64(b"cf/r/"), "keys_only": true})));
+            answered = answered.or_else(|_| store.range(json!({"key": base64(b"cf/r/"), "keys_only": true})));
         }
         answered.map(|_| store)
     }
 
     // Calls.
 
-    fn connected(&self) -> (usize, Result<Connection, StoreError>) {
+    fn connect_member(&self) -> (usize, Result<HttpConnection, StoreError>) {
         let turn = self.turn.load(Ordering::SeqCst);
         let address = &self.addresses[turn % self.addresses.len()];
-        (turn, Connection::new(address, SILENCE).map_err(|error| away(&error)))
+        (turn, HttpConnection::new(address, SILENCE).map_err(|error| unknown_error(&error)))
     }
 
     /// Has the next member asked, unless another thread has done so since this turn.
-    fn pass_on(&self, turn: usize) {
+    fn ask_next_member(&self, turn: usize) {
         let _done_by_another = self.turn.compare_exchange(turn, turn + 1, Ordering::SeqCst, Ordering::SeqCst);
     }
 
     fn post(&self, path: &str, body: &Json) -> Result<Json, StoreError> {
         let now = self.turn.load(Ordering::SeqCst);
         let idle = {
-            let mut idle = locked(&self.idle);
+            let mut idle = lock(&self.idle);
             idle.retain(|(turn, _)| *turn == now);
             idle.pop()
         };
-        let (turn, connection) = idle.map_or_else(|| self.connected(), |(turn, it)| (turn, Ok(it)));
+        let (turn, connection) = idle.map_or_else(|| self.connect_member(), |(turn, it)| (turn, Ok(it)));
         let told = connection.and_then(|mut connection| {
-            let (status, told) = connection.post(path, body.to_string().as_bytes()).map_err(|error| away(&error))?;
+            let (status, told) = connection.post(path, body.to_string().as_bytes()).map_err(|error| unknown_error(&error))?;
             let read: Result<Json, _> = serde_json::from_slice(&told);
             let shown = || format!("{status} {}", String::from_utf8_lossy(&told[..told.len().min(200)]));
             let answer = match (status, read) {
                 (200, Ok(read)) => Ok(read),
                 // it is too large, say: asked again it is refused again
                 (400, Ok(read)) if read["code"] != OUT_OF_RANGE => Err(StoreError::Refused(format!("etcd refuses it: {}", shown()))),
-                _ => return Err(away(&shown())),
+                _ => return Err(unknown_error(&shown())),
             };
-            locked(&self.idle).push((turn, connection));
+            lock(&self.idle).push((turn, connection));
             answer
         });
         if let Err(StoreError::Unknown(_)) = told {
-            self.pass_on(turn);
+            self.ask_next_member(turn);
         }
         told
     }
@@ -117,12 +117,12 @@ impl Etcd {
     /// What stands in a range, without looking for more behind it, and the revision of that.
     fn range(&self, asked: Json) -> Result<(Vec<Pair>, Json), StoreError> {
         let told = self.post("/v3/kv/range", &asked)?;
-        Ok((pairs(&told)?, told))
+        Ok((read_pairs(&told)?, told))
     }
 
     /// What stands in a range at one revision, and that one. It is read some keys at a time.
     fn keys(&self, key: &[u8], end: &[u8], more: &[(&str, Json)]) -> Result<(Vec<Pair>, i64), StoreError> {
-        let mut asked = json!({"key": b64(key), "range_end": b64(end), "limit": MOST_KEYS});
+        let mut asked = json!({"key": base64(key), "range_end": base64(end), "limit": MOST_KEYS});
         for (name, it) in more {
             asked[name] = it.clone();
         }
@@ -132,7 +132,7 @@ impl Etcd {
             found.extend(some);
             let now = match revision {
                 Some(known) => known,
-                None => *revision.insert(number(&told["header"]["revision"])?),
+                None => *revision.insert(read_number(&told["header"]["revision"])?),
             };
             if told["more"] != true {
                 return Ok((found, now));
@@ -140,8 +140,8 @@ impl Etcd {
             // (of a revision any member that knows it has the same answer)
             asked["revision"] = json!(now);
             asked["serializable"] = json!(true);
-            let last = found.last().ok_or_else(|| unfit(&told))?;
-            asked["key"] = json!(b64(&[&last.key[..], &[0]].concat()));
+            let last = found.last().ok_or_else(|| unfit_answer(&told))?;
+            asked["key"] = json!(base64(&[&last.key[..], &[0]].concat()));
         }
     }
 
@@ -149,11 +149,11 @@ impl Etcd {
     fn txn(&self, compares: Json, success: Json, failure: Json) -> Result<(bool, Vec<Pair>), StoreError> {
         let told = self.post("/v3/kv/txn", &json!({"compare": compares, "success": success, "failure": failure}))?;
         let found = &told["responses"][0]["response_range"];
-        Ok((told["succeeded"] == true, if found.is_null() { Vec::new() } else { pairs(found)? }))
+        Ok((told["succeeded"] == true, if found.is_null() { Vec::new() } else { read_pairs(found)? }))
     }
 
     /// Whether a request is there no more, by a majority: a member that lags behind may not know it yet.
-    fn is_there(&self, name: &str, number: i64) -> Result<(), StoreError> {
+    fn check_there(&self, name: &str, number: i64) -> Result<(), StoreError> {
         match self.find(name)? {
             Some(found) if found.number == number => Ok(()),
             _ => Err(StoreError::Gone(name.into())),
@@ -163,10 +163,10 @@ impl Etcd {
 
 impl Store for Etcd {
     fn open(&self, name: &str, plan: &str) -> Result<Opened, StoreError> {
-        let (key, said) = (key("r", name), json!({"plan": plan, "opened": self.now()?}).to_string());
+        let (key, said) = (key_of("r", name), json!({"plan": plan, "opened": self.now()?}).to_string());
         loop {
             // (where it is there nothing is put; and it may be dropped meanwhile)
-            self.txn(json!([absent(&key)]), json!([put(&key, said.as_bytes()), put(&self::key("o", name), b"0")]), json!([]))?;
+            self.txn(json!([compare_absent(&key)]), json!([put_json(&key, said.as_bytes()), put_json(&self::key_of("o", name), b"0")]), json!([]))?;
             if let Some(found) = self.find(name)? {
                 return Ok(found);
             }
@@ -174,7 +174,7 @@ impl Store for Etcd {
     }
 
     fn find(&self, name: &str) -> Result<Option<Opened>, StoreError> {
-        let (found, _) = self.range(json!({"key": b64(&key("r", name))}))?;
+        let (found, _) = self.range(json!({"key": base64(&key_of("r", name))}))?;
         let Some(pair) = found.first() else { return Ok(None) };
         let said: Json = serde_json::from_slice(&pair.value).unwrap_or_default();
         match (said["plan"].as_str(), said["opened"].as_f64()) {
@@ -187,67 +187,67 @@ impl Store for Etcd {
         if it.entries.len() > MOST_ENTRIES {
             return Err(StoreError::Refused(format!("etcd takes {MOST_ENTRIES} words in a put, not {}", it.entries.len())));
         }
-        let (row, payloads) = (row("w", it.request, it.number), row("p", it.request, it.number));
+        let (row, payloads) = (row_key("w", it.request, it.number), row_key("p", it.request, it.number));
         let mut puts: Vec<Json> = Vec::with_capacity(it.entries.len() + it.payloads.len() + 1);
         for (place, entry) in (it.at..).zip(it.entries) {
-            puts.push(put(&at(&row, place), format!("{:x} {:x}", entry.word, entry.token).as_bytes()));
+            puts.push(put_json(&place_key(&row, place), format!("{:x} {:x}", entry.word, entry.token).as_bytes()));
         }
-        puts.extend(it.payloads.iter().map(|(place, payload)| put(&at(&payloads, *place), payload)));
+        puts.extend(it.payloads.iter().map(|(place, payload)| put_json(&place_key(&payloads, *place), payload)));
         // (with that it is open, whether it was before or not)
-        puts.push(put(&key("o", it.request), (it.at + it.entries.len()).to_string().as_bytes()));
-        let first = at(&row, it.at);
-        let free = json!([absent(&first), is_of(it.request, it.number)]);
-        let (landed, stands) = self.txn(free, json!(puts), json!([{"request_range": range(&first, &after(&row))}]))?;
+        puts.push(put_json(&key_of("o", it.request), (it.at + it.entries.len()).to_string().as_bytes()));
+        let first = place_key(&row, it.at);
+        let free = json!([compare_absent(&first), compare_number(it.request, it.number)]);
+        let (landed, stands) = self.txn(free, json!(puts), json!([{"request_range": range_json(&first, &range_end(&row))}]))?;
         if landed {
             return Ok(None);
         }
         if stands.is_empty() {
             return Err(StoreError::Gone(it.request.into()));
         }
-        entries(it.request, it.at, &stands).map(Some)
+        read_entries(it.request, it.at, &stands).map(Some)
     }
 
     fn read(&self, name: &str, number: i64, at: usize) -> Result<Vec<Entry>, StoreError> {
         // Any member's answer will do: a stale one is a shorter beginning of the row.
-        let row = row("w", name, number);
-        let mut asked = range(&self::at(&row, at), &after(&row));
+        let row = row_key("w", name, number);
+        let mut asked = range_json(&self::place_key(&row, at), &range_end(&row));
         asked["serializable"] = json!(true);
-        let (is_there, stands) = self.txn(json!([is_of(name, number)]), json!([{ "request_range": asked }]), json!([]))?;
+        let (is_there, stands) = self.txn(json!([compare_number(name, number)]), json!([{ "request_range": asked }]), json!([]))?;
         if !is_there {
-            self.is_there(name, number)?;
+            self.check_there(name, number)?;
         }
-        entries(name, at, &stands)
+        read_entries(name, at, &stands)
     }
 
     fn payload(&self, name: &str, number: i64, place: usize) -> Result<Option<Vec<u8>>, StoreError> {
-        let (found, _) = self.range(json!({"key": b64(&at(&row("p", name, number), place))}))?;
+        let (found, _) = self.range(json!({"key": base64(&place_key(&row_key("p", name, number), place))}))?;
         match found.into_iter().next() {
             Some(pair) => Ok(Some(pair.value)),
-            None => self.is_there(name, number).map(|()| None),
+            None => self.check_there(name, number).map(|()| None),
         }
     }
 
     fn payloads(&self, name: &str, number: i64, places: &[usize]) -> Result<Vec<Option<Vec<u8>>>, StoreError> {
-        let row = row("p", name, number);
+        let row = row_key("p", name, number);
         let mut told = Vec::with_capacity(places.len());
         for some in places.chunks(MOST_RANGES) {
-            let asked: Vec<Json> = some.iter().map(|place| json!({"request_range": {"key": b64(&at(&row, *place))}})).collect();
+            let asked: Vec<Json> = some.iter().map(|place| json!({"request_range": {"key": base64(&place_key(&row, *place))}})).collect();
             let read = self.post("/v3/kv/txn", &json!({ "success": asked }))?;
             for number in 0..some.len() {
-                told.push(pairs(&read["responses"][number]["response_range"])?.pop().map(|pair| pair.value));
+                told.push(read_pairs(&read["responses"][number]["response_range"])?.pop().map(|pair| pair.value));
             }
         }
         Ok(told)
     }
 
-    fn news(&self, since: Option<Mark>) -> Result<(News, Mark), StoreError> {
+    fn news(&self, since: Option<Mark>) -> Result<(WordCounts, Mark), StoreError> {
         // Since a mark any member's answer will do. Of all, a request that a member that lags behind doesn't know yet would seem closed.
         let known = since.map_or(0, |(revision, _)| revision);
         let later = [("min_mod_revision", json!(known + 1)), ("serializable", json!(true))];
         let (found, revision) = self.keys(b"cf/o/", b"cf/o0", if since.is_none() { &[] } else { &later })?;
-        let mut ends = News::new();
+        let mut ends = WordCounts::new();
         for pair in found {
-            let words: Option<usize> = text(&pair.value).and_then(|it| it.parse().ok());
+            let words: Option<usize> = text_of(&pair.value).and_then(|it| it.parse().ok());
             let words = words.ok_or_else(|| StoreError::Refused("an end of a row in etcd is no number".into()))?;
             ends.insert(name_in(&pair.key)?, Some(words));
         }
@@ -255,7 +255,7 @@ impl Store for Etcd {
     }
 
     fn changed(&self, wait: Duration) -> Result<(), StoreError> {
-        let mut kept = locked(&self.watch);
+        let mut kept = lock(&self.watch);
         let (turn, told) = match kept.take() {
             Some(mut watch) => {
                 thread::sleep(BETWEEN_NEWS.saturating_sub(watch.told.elapsed())); // (what is put then is asked for in one question)
@@ -263,20 +263,21 @@ impl Store for Etcd {
                 if let Ok(true) = comes {
                     watch.told = Instant::now();
                 }
-                (watch.turn, comes.map(|_| watch).map_err(|error| away(&error)))
+                (watch.turn, comes.map(|_| watch).map_err(|error| unknown_error(&error)))
             }
             None => {
-                let (turn, connection) = self.connected();
-                let asked = json!({"create_request": range(b"cf/w/", b"cf/w0")}).to_string();
-                let opened = connection.and_then(|mut it| it.stream("/v3/watch", asked.as_bytes()).map(|()| it).map_err(|error| away(&error)));
-                (turn, opened.map(|stream| Watch { turn, stream, told: Instant::now() }))
+                let (turn, connection) = self.connect_member();
+                let asked = json!({"create_request": range_json(b"cf/w/", b"cf/w0")}).to_string();
+                let opened =
+                    connection.and_then(|mut it| it.stream("/v3/watch", asked.as_bytes()).map(|()| it).map_err(|error| unknown_error(&error)));
+                (turn, opened.map(|stream| ChangeStream { turn, stream, told: Instant::now() }))
             }
         };
         match told {
             Ok(watch) => *kept = Some(watch),
             // what is new is asked for all the same, and who asks is told if nobody answers
             Err(_) => {
-                self.pass_on(turn);
+                self.ask_next_member(turn);
                 thread::sleep(wait.min(BETWEEN_WATCHES));
             }
         }
@@ -284,37 +285,37 @@ impl Store for Etcd {
     }
 
     fn end(&self, name: &str, number: i64, at: usize) -> Result<bool, StoreError> {
-        let (open, timers) = (key("o", name), [key("t", name), b"/".to_vec()].concat());
-        let is_so = json!([is_of(name, number), {"key": b64(&open), "target": "VALUE", "value": b64(at.to_string().as_bytes())}]);
+        let (open, timers) = (key_of("o", name), [key_of("t", name), b"/".to_vec()].concat());
+        let is_so = json!([compare_number(name, number), {"key": base64(&open), "target": "VALUE", "value": base64(at.to_string().as_bytes())}]);
         let closed = json!([self.now()?, at]).to_string();
         let (closes, _) = self.txn(
             is_so,
-            json!([deleted(&open), {"request_delete_range": range(&timers, &after(&timers))}, deleted(&key("g", name)),
-                put(&key("c", name), closed.as_bytes())]),
+            json!([delete_json(&open), {"request_delete_range": range_json(&timers, &range_end(&timers))}, delete_json(&key_of("g", name)),
+                put_json(&key_of("c", name), closed.as_bytes())]),
             json!([]),
         )?;
         if !closes {
-            self.is_there(name, number)?;
+            self.check_there(name, number)?;
         }
         Ok(closes)
     }
 
     fn beat(&self, session: u64) -> Result<(), StoreError> {
-        self.post("/v3/kv/put", &json!({"key": b64(&of_session("b", session)), "value": ""})).map(|_| ())
+        self.post("/v3/kv/put", &json!({"key": base64(&session_key("b", session)), "value": ""})).map(|_| ())
     }
 
     fn beats(&self) -> Result<BTreeMap<u64, i64>, StoreError> {
         let (found, _) = self.keys(b"cf/b/", b"cf/b0", &[("keys_only", json!(true))])?;
-        let session = |pair: &Pair| text(&pair.key).and_then(|it| u64::from_str_radix(it.get(5..)?, 16).ok());
+        let session = |pair: &Pair| text_of(&pair.key).and_then(|it| u64::from_str_radix(it.get(5..)?, 16).ok());
         Ok(found.iter().filter_map(|pair| Some((session(pair)?, pair.version))).collect())
     }
 
     fn drop_beat(&self, session: u64) -> Result<(), StoreError> {
-        self.txn(json!([]), json!([deleted(&of_session("b", session)), deleted(&of_session("s", session))]), json!([])).map(|_| ())
+        self.txn(json!([]), json!([delete_json(&session_key("b", session)), delete_json(&session_key("s", session))]), json!([])).map(|_| ())
     }
 
     fn name_session(&self, session: u64, name: &str) -> Result<(), StoreError> {
-        self.post("/v3/kv/put", &json!({"key": b64(&of_session("s", session)), "value": b64(name.as_bytes())})).map(|_| ())
+        self.post("/v3/kv/put", &json!({"key": base64(&session_key("s", session)), "value": base64(name.as_bytes())})).map(|_| ())
     }
 
     fn now(&self) -> Result<f64, StoreError> {
@@ -322,9 +323,9 @@ impl Store for Etcd {
     }
 
     fn set_timer(&self, timer: &Timer) -> Result<(), StoreError> {
-        let key = at(&row("t", &timer.request, timer.number), timer.stage.into());
-        let value = json!([timer.due, b64(&timer.payload)]).to_string();
-        let (is_there, _) = self.txn(json!([is_of(&timer.request, timer.number)]), json!([put(&key, value.as_bytes())]), json!([]))?;
+        let key = place_key(&row_key("t", &timer.request, timer.number), timer.stage.into());
+        let value = json!([timer.due, base64(&timer.payload)]).to_string();
+        let (is_there, _) = self.txn(json!([compare_number(&timer.request, timer.number)]), json!([put_json(&key, value.as_bytes())]), json!([]))?;
         if is_there {
             Ok(())
         } else {
@@ -336,7 +337,7 @@ impl Store for Etcd {
         let (found, _) = self.keys(b"cf/t/", b"cf/t0", &[("serializable", json!(true))])?;
         let mut told = Vec::new();
         for pair in found {
-            let timer = timer_in(&pair).ok_or_else(|| StoreError::Refused("a timer in etcd can't be read".into()))?;
+            let timer = read_timer(&pair).ok_or_else(|| StoreError::Refused("a timer in etcd can't be read".into()))?;
             if timer.due <= now {
                 told.push(timer);
             }
@@ -346,29 +347,29 @@ impl Store for Etcd {
     }
 
     fn drop_timer(&self, timer: &Timer) -> Result<(), StoreError> {
-        let (key, stage) = ([key("t", &timer.request), b"/".to_vec()].concat(), timer.stage.into());
-        let own = row("t", &timer.request, timer.number);
-        self.txn(json!([]), json!([deleted(&at(&own, stage)), deleted(&at(&key, stage))]), json!([])).map(|_| ())
+        let (key, stage) = ([key_of("t", &timer.request), b"/".to_vec()].concat(), timer.stage.into());
+        let own = row_key("t", &timer.request, timer.number);
+        self.txn(json!([]), json!([delete_json(&place_key(&own, stage)), delete_json(&place_key(&key, stage))]), json!([])).map(|_| ())
     }
 }
 
-fn locked<T>(mutex: &Mutex<T>) -> MutexGuard<'_, T> {
+fn lock<T>(mutex: &Mutex<T>) -> MutexGuard<'_, T> {
     mutex.lock().unwrap_or_else(PoisonError::into_inner)
 }
 
-fn away(why: &dyn std::fmt::Display) -> StoreError {
+fn unknown_error(why: &dyn std::fmt::Display) -> StoreError {
     StoreError::Unknown(format!("etcd: {why}"))
 }
 
 /// What no etcd answers.
-fn unfit(told: &Json) -> StoreError {
+fn unfit_answer(told: &Json) -> StoreError {
     StoreError::Refused(format!("etcd gives what can't be read: {}", told.to_string().chars().take(200).collect::<String>()))
 }
 
 // Keys.
 
 /// A key, in which a name stands as in an address: others than letters, digits and `_.-~` as `%` and their bytes.
-fn key(kind: &str, name: &str) -> Vec<u8> {
+fn key_of(kind: &str, name: &str) -> Vec<u8> {
     let mut key = format!("cf/{kind}/").into_bytes();
     for byte in name.bytes() {
         if byte.is_ascii_alphanumeric() || b"_.-~".contains(&byte) {
@@ -382,7 +383,7 @@ fn key(kind: &str, name: &str) -> Vec<u8> {
 
 /// The name in a key without more behind it.
 fn name_in(key: &[u8]) -> Result<String, StoreError> {
-    text(key).and_then(|it| unquoted(it.get(5..)?)).ok_or_else(|| unfit(&json!(String::from_utf8_lossy(key))))
+    text_of(key).and_then(|it| unquoted(it.get(5..)?)).ok_or_else(|| unfit_answer(&json!(String::from_utf8_lossy(key))))
 }
 
 fn unquoted(quoted: &str) -> Option<String> {
@@ -395,26 +396,26 @@ fn unquoted(quoted: &str) -> Option<String> {
     String::from_utf8(name).ok()
 }
 
-fn text(bytes: &[u8]) -> Option<&str> {
+fn text_of(bytes: &[u8]) -> Option<&str> {
     std::str::from_utf8(bytes).ok()
 }
 
 /// What the keys of a request's words or payloads begin with: another request of the same name has others.
-fn row(kind: &str, name: &str, number: i64) -> Vec<u8> {
-    [key(kind, name), format!("/{number}/").into_bytes()].concat()
+fn row_key(kind: &str, name: &str, number: i64) -> Vec<u8> {
+    [key_of(kind, name), format!("/{number}/").into_bytes()].concat()
 }
 
 /// A key in fixed width, so that a range is in order.
-fn at(row: &[u8], place: usize) -> Vec<u8> {
+fn place_key(row: &[u8], place: usize) -> Vec<u8> {
     [row, format!("{place:06}").as_bytes()].concat()
 }
 
-fn of_session(kind: &str, session: u64) -> Vec<u8> {
+fn session_key(kind: &str, session: u64) -> Vec<u8> {
     format!("cf/{kind}/{session:010x}").into_bytes()
 }
 
 /// The end of the range of all keys that begin so, where they end with `/`.
-fn after(prefix: &[u8]) -> Vec<u8> {
+fn range_end(prefix: &[u8]) -> Vec<u8> {
     let mut end = prefix.to_vec();
     end.pop();
     end.push(b'/' + 1);
@@ -423,71 +424,71 @@ fn after(prefix: &[u8]) -> Vec<u8> {
 
 // What etcd is asked, and what it answers.
 
-fn b64(bytes: &[u8]) -> String {
+fn base64(bytes: &[u8]) -> String {
     base64::encode(bytes)
 }
 
-fn range(key: &[u8], end: &[u8]) -> Json {
-    json!({"key": b64(key), "range_end": b64(end)})
+fn range_json(key: &[u8], end: &[u8]) -> Json {
+    json!({"key": base64(key), "range_end": base64(end)})
 }
 
-fn put(key: &[u8], value: &[u8]) -> Json {
-    json!({"request_put": {"key": b64(key), "value": b64(value)}})
+fn put_json(key: &[u8], value: &[u8]) -> Json {
+    json!({"request_put": {"key": base64(key), "value": base64(value)}})
 }
 
-fn deleted(key: &[u8]) -> Json {
-    json!({"request_delete_range": {"key": b64(key)}})
+fn delete_json(key: &[u8]) -> Json {
+    json!({"request_delete_range": {"key": base64(key)}})
 }
 
-fn absent(key: &[u8]) -> Json {
-    json!({"key": b64(key), "target": "VERSION", "version": 0})
+fn compare_absent(key: &[u8]) -> Json {
+    json!({"key": base64(key), "target": "VERSION", "version": 0})
 }
 
 /// Compares whether a request is the one that was opened.
-fn is_of(name: &str, number: i64) -> Json {
-    json!({"key": b64(&key("r", name)), "target": "CREATE", "create_revision": number})
+fn compare_number(name: &str, number: i64) -> Json {
+    json!({"key": base64(&key_of("r", name)), "target": "CREATE", "create_revision": number})
 }
 
 /// A number, which JSON has as a text, or not at all where it is 0.
-fn number(told: &Json) -> Result<i64, StoreError> {
+fn read_number(told: &Json) -> Result<i64, StoreError> {
     match told {
         Json::Null => Ok(0),
-        Json::String(digits) => digits.parse().map_err(|_| unfit(told)),
-        _ => told.as_i64().ok_or_else(|| unfit(told)),
+        Json::String(digits) => digits.parse().map_err(|_| unfit_answer(told)),
+        _ => told.as_i64().ok_or_else(|| unfit_answer(told)),
     }
 }
 
 /// The keys and values of a range.
-fn pairs(range: &Json) -> Result<Vec<Pair>, StoreError> {
+fn read_pairs(range: &Json) -> Result<Vec<Pair>, StoreError> {
     let bytes = |told: &Json| match told {
         Json::Null => Ok(Vec::new()),
-        _ => told.as_str().and_then(|it| base64::decode(it).ok()).ok_or_else(|| unfit(told)),
+        _ => told.as_str().and_then(|it| base64::decode(it).ok()).ok_or_else(|| unfit_answer(told)),
     };
     let pair = |it: &Json| {
         let (key, value) = (bytes(&it["key"])?, bytes(&it["value"])?);
-        Ok(Pair { key, value, created: number(&it["create_revision"])?, version: number(&it["version"])? })
+        Ok(Pair { key, value, created: read_number(&it["create_revision"])?, version: read_number(&it["version"])? })
     };
     range["kvs"].as_array().map_or(Ok(Vec::new()), |kvs| kvs.iter().map(pair).collect())
 }
 
 /// The entries of these keys, which stand behind `at` of them.
-fn entries(name: &str, at: usize, pairs: &[Pair]) -> Result<Vec<Entry>, StoreError> {
+fn read_entries(name: &str, at: usize, pairs: &[Pair]) -> Result<Vec<Entry>, StoreError> {
     let row = pairs.iter().map(|pair| {
-        let place = text(&pair.key).and_then(|key| key.get(key.len().checked_sub(6)?..)?.parse().ok()).unwrap_or(-1);
-        let (word, token) = text(&pair.value).and_then(entry).unwrap_or((-1, -1));
+        let place = text_of(&pair.key).and_then(|key| key.get(key.len().checked_sub(6)?..)?.parse().ok()).unwrap_or(-1);
+        let (word, token) = text_of(&pair.value).and_then(read_entry).unwrap_or((-1, -1));
         (place, word, token)
     });
-    in_a_row(name, at, row)
+    check_row(name, at, row)
 }
 
-fn entry(value: &str) -> Option<(i64, i64)> {
+fn read_entry(value: &str) -> Option<(i64, i64)> {
     let (word, token) = value.split_once(' ')?;
     Some((i64::from_str_radix(word, 16).ok()?, i64::from_str_radix(token, 16).ok()?))
 }
 
 /// A timer, which has no number of its request where an earlier version has set it.
-fn timer_in(pair: &Pair) -> Option<Timer> {
-    let mut parts = text(&pair.key)?.get(5..)?.split('/');
+fn read_timer(pair: &Pair) -> Option<Timer> {
+    let mut parts = text_of(&pair.key)?.get(5..)?.split('/');
     let (name, middle, last) = (parts.next()?, parts.next()?, parts.next());
     let (number, stage) = match last {
         Some(stage) => (middle.parse().ok()?, stage),

@@ -2,7 +2,7 @@
 use crate::context;
 use crate::error::StoreError;
 use crate::functions::Functions;
-use crate::plan::{self, Said};
+use crate::plan::{self, StageSpec};
 use cf_graph::Form;
 use serde_json::{Map, Value as Json};
 use std::collections::hash_map::DefaultHasher;
@@ -17,7 +17,7 @@ use std::mem::discriminant;
 #[derive(Clone, Debug, Default)]
 pub struct Flow {
     name: String,
-    steps: Vec<(Form, Vec<u16>, Said)>,
+    steps: Vec<(Form, Vec<u16>, StageSpec)>,
     prints: Prints,
     /// Whether a step names one of another flow.
     is_mixed: bool,
@@ -44,7 +44,7 @@ pub(crate) struct Prints(Vec<u64>);
 
 impl Prints {
     /// Those of a plan.
-    pub(crate) fn of(name: &str, steps: &[(Form, Vec<u16>, Said)]) -> Prints {
+    pub(crate) fn new(name: &str, steps: &[(Form, Vec<u16>, StageSpec)]) -> Prints {
         let mut prints = Prints::default();
         for (form, of, said) in steps {
             prints.add(name, *form, of, &said.name);
@@ -60,7 +60,7 @@ impl Prints {
     }
 
     /// Whether a step is one of these.
-    pub(crate) fn have(&self, step: Step) -> bool {
+    pub(crate) fn has_step(&self, step: Step) -> bool {
         self.0.get(usize::from(step.number)) == Some(&step.print)
     }
 }
@@ -73,7 +73,7 @@ impl Flow {
 
     /// A step without a function, whose value [`Service::start`](crate::Service::start) takes, or which somebody settles later.
     pub fn promise(&mut self, name: &str) -> Step {
-        self.step(Form::Source, &[], Said { name: name.into(), ..Said::default() })
+        self.add_step(Form::Source, &[], StageSpec { name: name.into(), ..StageSpec::default() })
     }
 
     /// As [`Request::supply`](crate::Request::supply).
@@ -83,37 +83,37 @@ impl Flow {
 
     /// As [`Request::supply_named`](crate::Request::supply_named).
     pub fn supply_named(&mut self, function: &str, args: &[Json], named: &Map<String, Json>) -> Step {
-        self.step(Form::Supply, &[], Said { args: args.to_vec(), kwargs: named.clone(), ..calls(function) })
+        self.add_step(Form::Supply, &[], StageSpec { args: args.to_vec(), kwargs: named.clone(), ..calling(function) })
     }
 
     /// As [`Stage::then`](crate::Stage::then).
     pub fn then(&mut self, step: Step, function: &str) -> Step {
-        self.step(Form::Apply, &[step], calls(function))
+        self.add_step(Form::Apply, &[step], calling(function))
     }
 
     /// As [`Stage::combine`](crate::Stage::combine).
     pub fn combine(&mut self, step: Step, other: Step, function: &str) -> Step {
-        self.step(Form::Combine, &[step, other], calls(function))
+        self.add_step(Form::Combine, &[step, other], calling(function))
     }
 
     /// As [`Stage::either`](crate::Stage::either).
     pub fn either(&mut self, step: Step, other: Step, function: &str) -> Step {
-        self.step(Form::ApplyEither, &[step, other], calls(function))
+        self.add_step(Form::ApplyEither, &[step, other], calling(function))
     }
 
     /// As [`Stage::handle`](crate::Stage::handle).
     pub fn handle(&mut self, step: Step, function: &str) -> Step {
-        self.step(Form::Handle, &[step], calls(function))
+        self.add_step(Form::Handle, &[step], calling(function))
     }
 
     /// As [`Stage::when_done`](crate::Stage::when_done).
     pub fn when_done(&mut self, step: Step, function: &str) -> Step {
-        self.step(Form::WhenComplete, &[step], calls(function))
+        self.add_step(Form::WhenComplete, &[step], calling(function))
     }
 
     /// As [`Stage::recover`](crate::Stage::recover).
     pub fn recover(&mut self, step: Step, function: &str) -> Step {
-        self.step(Form::Exceptionally, &[step], calls(function))
+        self.add_step(Form::Exceptionally, &[step], calling(function))
     }
 
     /// As [`Stage::again`](crate::Stage::again).
@@ -121,24 +121,24 @@ impl Flow {
         let name = self.steps.get(usize::from(step.number)).map_or_else(String::new, |(_, _, said)| format!("{} again", said.name));
         let mut last = step;
         for _ in 0..times {
-            last = self.step(Form::Exceptionally, &[last], Said { name: name.clone(), again: Some(step.number), ..Said::default() });
+            last = self.add_step(Form::Exceptionally, &[last], StageSpec { name: name.clone(), again: Some(step.number), ..StageSpec::default() });
         }
         last
     }
 
     /// As [`Request::all_of`](crate::Request::all_of). It takes one step.
     pub fn all_of(&mut self, of: &[Step]) -> Step {
-        self.step(Form::AllOf, of, Said { name: "all of".into(), ..Said::default() })
+        self.add_step(Form::AllOf, of, StageSpec { name: "all of".into(), ..StageSpec::default() })
     }
 
     /// As [`Request::first_of`](crate::Request::first_of). It takes one step.
     pub fn first_of(&mut self, of: &[Step]) -> Step {
-        self.step(Form::AnyOf, of, Said { name: "first of".into(), ..Said::default() })
+        self.add_step(Form::AnyOf, of, StageSpec { name: "first of".into(), ..StageSpec::default() })
     }
 
-    fn step(&mut self, form: Form, of: &[Step], said: Said) -> Step {
+    fn add_step(&mut self, form: Form, of: &[Step], said: StageSpec) -> Step {
         let number = self.steps.len().min(u16::MAX.into()) as u16; // (a flow that has so many is refused)
-        self.is_mixed |= of.iter().any(|step| !self.prints.have(*step));
+        self.is_mixed |= of.iter().any(|step| !self.prints.has_step(*step));
         let of: Vec<u16> = of.iter().map(|it| it.number).collect();
         let print = self.prints.add(&self.name, form, &of, &said.name);
         self.steps.push((form, of, said));
@@ -151,7 +151,7 @@ impl Flow {
     }
 
     /// The text of its plan, with the functions' latest versions, and with what goes along here.
-    pub(crate) fn text(&self, functions: &Functions) -> Result<String, StoreError> {
+    pub(crate) fn plan_text(&self, functions: &Functions) -> Result<String, StoreError> {
         if self.is_mixed {
             return Err(StoreError::Refused(format!("flow {:?} has a step behind one of another flow", self.name)));
         }
@@ -161,11 +161,11 @@ impl Flow {
                 said.version = Some(functions.latest(function).ok_or_else(|| StoreError::NotRegistered(function.clone()))?);
             }
         }
-        let text = plan::text_of(&self.name, steps, context::captured())?;
-        plan::read(&text, &self.name).map(|_| text).map_err(|error| StoreError::Refused(error.to_string()))
+        let text = plan::text_of(&self.name, steps, context::capture())?;
+        plan::read_plan(&text, &self.name).map(|_| text).map_err(|error| StoreError::Refused(error.to_string()))
     }
 }
 
-fn calls(function: &str) -> Said {
-    Said { name: function.into(), function: Some(function.into()), ..Said::default() }
+fn calling(function: &str) -> StageSpec {
+    StageSpec { name: function.into(), function: Some(function.into()), ..StageSpec::default() }
 }

@@ -9,24 +9,24 @@ use std::collections::BTreeMap;
 use std::fmt;
 use std::sync::Arc;
 
-type Call = dyn Fn(Vec<Value>) -> Result<Value, Failed> + Send + Sync;
-type Compose = dyn Fn(&Request, Vec<Value>) -> Result<Stage, Failed> + Send + Sync;
-type Transact = dyn Fn(&mut dyn Any, Vec<Value>) -> Result<Value, Failed> + Send + Sync;
+type PlainFn = dyn Fn(Vec<Value>) -> Result<Value, Failed> + Send + Sync;
+type ComposingFn = dyn Fn(&Request, Vec<Value>) -> Result<Stage, Failed> + Send + Sync;
+type TransactionalFn = dyn Fn(&mut dyn Any, Vec<Value>) -> Result<Value, Failed> + Send + Sync;
 
 /// How a function is called.
 #[derive(Clone)]
-pub(crate) enum Kind {
-    Plain(Arc<Call>),
+pub(crate) enum FunctionKind {
+    Plain(Arc<PlainFn>),
     /// With the request, of which it gives a stage.
-    Composes(Arc<Compose>),
+    Composes(Arc<ComposingFn>),
     /// With the engine's connection, in a transaction.
-    Transacts(Arc<Transact>),
+    Transacts(Arc<TransactionalFn>),
 }
 
 /// A function, with the names of its arguments where it takes these by name, too.
 #[derive(Clone)]
-pub(crate) struct Known {
-    pub(crate) kind: Kind,
+pub(crate) struct RegisteredFunction {
+    pub(crate) kind: FunctionKind,
     pub(crate) names: Vec<String>,
 }
 
@@ -71,7 +71,7 @@ pub(crate) struct Known {
 /// # fn main() {}
 /// ```
 #[derive(Clone, Default)]
-pub struct Functions(BTreeMap<(String, u32), Known>);
+pub struct Functions(BTreeMap<(String, u32), RegisteredFunction>);
 
 /// What can be registered: a function of up to two arguments that are read from JSON, and whose result is written as JSON, or whose error is shown.
 /// `Args` is the tuple of its arguments.
@@ -110,13 +110,13 @@ impl Functions {
     /// as requests have it.
     #[must_use]
     pub fn with<Args, F: Function<Args>>(self, name: &str, version: u32, function: F) -> Functions {
-        self.and(name, version, Kind::Plain(Arc::new(move |args| function.call(args))))
+        self.with_kind(name, version, FunctionKind::Plain(Arc::new(move |args| function.call(args))))
     }
 
     /// The same with one more function that [composes](Stage::compose).
     #[must_use]
     pub fn composing<Args, F: Composing<Args>>(self, name: &str, version: u32, function: F) -> Functions {
-        self.and(name, version, Kind::Composes(Arc::new(move |request, args| function.call(request, args))))
+        self.with_kind(name, version, FunctionKind::Composes(Arc::new(move |request, args| function.call(request, args))))
     }
 
     /// The same with one more function that is called in a transaction of the store's, with its connection. What it does with that stands exactly
@@ -128,7 +128,7 @@ impl Functions {
             Some(connection) => function.call(connection, args),
             None => Err(Failed::new("TypeError", "it takes the connection of another engine")),
         };
-        self.and(name, version, Kind::Transacts(Arc::new(call)))
+        self.with_kind(name, version, FunctionKind::Transacts(Arc::new(call)))
     }
 
     /// Says by which names a function takes its arguments, in their order: then it is also called for stages that [give these by
@@ -144,12 +144,12 @@ impl Functions {
         self
     }
 
-    fn and(mut self, name: &str, version: u32, kind: Kind) -> Functions {
-        self.0.insert((name.to_owned(), version), Known { kind, names: Vec::new() });
+    fn with_kind(mut self, name: &str, version: u32, kind: FunctionKind) -> Functions {
+        self.0.insert((name.to_owned(), version), RegisteredFunction { kind, names: Vec::new() });
         self
     }
 
-    pub(crate) fn of(&self, name: &str, version: u32) -> Option<&Known> {
+    pub(crate) fn find(&self, name: &str, version: u32) -> Option<&RegisteredFunction> {
         self.0.get(&(name.to_owned(), version))
     }
 
@@ -159,14 +159,14 @@ impl Functions {
     }
 
     /// Whether one of them is called in a transaction.
-    pub(crate) fn transact(&self) -> bool {
-        self.0.values().any(|known| matches!(known.kind, Kind::Transacts(_)))
+    pub(crate) fn has_transactional(&self) -> bool {
+        self.0.values().any(|known| matches!(known.kind, FunctionKind::Transacts(_)))
     }
 }
 
-impl Known {
+impl RegisteredFunction {
     /// The arguments in their order, where some are given by name.
-    pub(crate) fn in_order(&self, mut args: Vec<Value>, mut named: Map<String, Value>) -> Result<Vec<Value>, Failed> {
+    pub(crate) fn order_args(&self, mut args: Vec<Value>, mut named: Map<String, Value>) -> Result<Vec<Value>, Failed> {
         if named.is_empty() {
             return Ok(args);
         }
@@ -181,30 +181,30 @@ impl Known {
 }
 
 /// What a function comes to that panics.
-pub(crate) fn panicked(panic: &(dyn Any + Send)) -> Failed {
+pub(crate) fn failed_by_panic(panic: &(dyn Any + Send)) -> Failed {
     let text = panic.downcast_ref::<&str>().map(|it| (*it).to_owned());
     Failed::new("Panic", text.or_else(|| panic.downcast_ref::<String>().cloned()).unwrap_or_else(|| "it panicked".into()))
 }
 
-fn read<T: DeserializeOwned>(args: &mut std::vec::IntoIter<Value>) -> Result<T, Failed> {
+fn read_arg<T: DeserializeOwned>(args: &mut std::vec::IntoIter<Value>) -> Result<T, Failed> {
     let given = args.next().ok_or_else(|| Failed::new("TypeError", "it takes more arguments than it was given"))?;
     serde_json::from_value(given).map_err(|error| Failed::new("TypeError", format!("its argument can't be read: {error}")))
 }
 
-fn ended(args: &mut std::vec::IntoIter<Value>) -> Result<(), Failed> {
+fn check_no_more_args(args: &mut std::vec::IntoIter<Value>) -> Result<(), Failed> {
     match args.next() {
         None => Ok(()),
         Some(_) => Err(Failed::new("TypeError", "it takes fewer arguments than it was given")),
     }
 }
 
-fn failed<E: fmt::Display + 'static>(error: E) -> Failed {
+fn failed_of_error<E: fmt::Display + 'static>(error: E) -> Failed {
     let known: Option<&Failed> = (&error as &dyn Any).downcast_ref();
-    known.cloned().unwrap_or_else(|| Failed::of(&error))
+    known.cloned().unwrap_or_else(|| Failed::from_error(&error))
 }
 
-fn written<R: Serialize, E: fmt::Display + 'static>(result: Result<R, E>) -> Result<Value, Failed> {
-    serde_json::to_value(result.map_err(failed)?).map_err(|error| Failed::new("TypeError", format!("its result can't be written: {error}")))
+fn write_result<R: Serialize, E: fmt::Display + 'static>(result: Result<R, E>) -> Result<Value, Failed> {
+    serde_json::to_value(result.map_err(failed_of_error)?).map_err(|error| Failed::new("TypeError", format!("its result can't be written: {error}")))
 }
 
 macro_rules! functions {
@@ -219,9 +219,9 @@ macro_rules! functions {
             #[allow(non_snake_case, unused_mut)]
             fn call(&self, args: Vec<Value>) -> Result<Value, Failed> {
                 let mut args = args.into_iter();
-                $(let $arg = read(&mut args)?;)*
-                ended(&mut args)?;
-                written(self($($arg),*))
+                $(let $arg = read_arg(&mut args)?;)*
+                check_no_more_args(&mut args)?;
+                write_result(self($($arg),*))
             }
         }
 
@@ -234,9 +234,9 @@ macro_rules! functions {
             #[allow(non_snake_case, unused_mut)]
             fn call(&self, request: &Request, args: Vec<Value>) -> Result<Stage, Failed> {
                 let mut args = args.into_iter();
-                $(let $arg = read(&mut args)?;)*
-                ended(&mut args)?;
-                self(request, $($arg),*).map_err(failed)
+                $(let $arg = read_arg(&mut args)?;)*
+                check_no_more_args(&mut args)?;
+                self(request, $($arg),*).map_err(failed_of_error)
             }
         }
 
@@ -253,9 +253,9 @@ macro_rules! functions {
             #[allow(non_snake_case, unused_mut)]
             fn call(&self, connection: &mut Con, args: Vec<Value>) -> Result<Value, Failed> {
                 let mut args = args.into_iter();
-                $(let $arg = read(&mut args)?;)*
-                ended(&mut args)?;
-                written(self(connection, $($arg),*))
+                $(let $arg = read_arg(&mut args)?;)*
+                check_no_more_args(&mut args)?;
+                write_result(self(connection, $($arg),*))
             }
         }
     )*};

@@ -3,8 +3,8 @@ use crate::error::{Failed, StoreError};
 use crate::host::Host;
 use crate::plan;
 use crate::store::{Opened, Store};
-use crate::view::sure;
-use cf_graph::{Answer, Call, Entry, Event, Refused, Said, Tale, Telling, Value};
+use crate::view::retrying_for_a_minute;
+use cf_graph::{Answer, Call, Entry, Event, Label, Refused, Tale, TaleFormat, Value};
 use serde_json::Value as Json;
 use std::collections::{BTreeMap, BTreeSet};
 
@@ -30,7 +30,7 @@ pub struct History {
 /// What a history is to tell something of.
 #[derive(Clone, Copy, Debug)]
 #[non_exhaustive]
-pub enum What<'a> {
+pub enum HistoryItem<'a> {
     /// What a stage was given.
     Value(&'a Json),
     /// What it was failed with.
@@ -44,12 +44,12 @@ enum Names {
     Stage,
 }
 
-impl What<'_> {
+impl HistoryItem<'_> {
     /// All of it, cut to 60 characters.
-    pub fn all(self) -> String {
+    pub fn full_text(self) -> String {
         let text = match self {
-            What::Value(value) => value.to_string(),
-            What::Error(failed) => failed.to_string(),
+            HistoryItem::Value(value) => value.to_string(),
+            HistoryItem::Error(failed) => failed.to_string(),
         };
         match text.char_indices().nth(LONGEST) {
             None => text,
@@ -59,14 +59,14 @@ impl What<'_> {
 }
 
 impl History {
-    pub(crate) fn new(store: &dyn Store, host: &dyn Host, opened: Opened, tells: impl Fn(What<'_>) -> String) -> Result<History, StoreError> {
+    pub(crate) fn new(store: &dyn Store, host: &dyn Host, opened: Opened, tells: impl Fn(HistoryItem<'_>) -> String) -> Result<History, StoreError> {
         let (name, number) = (opened.name.clone(), opened.number);
-        let entries = sure(host, || store.read(&name, number, 0))?;
-        let names = plan::read(&opened.plan, &opened.name)?.stages.into_iter().map(|(_, _, said)| said.name).collect();
+        let entries = retrying_for_a_minute(host, || store.read(&name, number, 0))?;
+        let names = plan::read_plan(&opened.plan, &opened.name)?.stages.into_iter().map(|(_, _, said)| said.name).collect();
         let (values, errors) = (vec![String::new(); entries.len() + 1], vec![String::new(); entries.len() + 1]);
         let mut made = History { opened, entries, attached: 0, names, values, errors, sessions: BTreeMap::new() };
         for (place, entry) in (1..).zip(made.entries.clone()) {
-            made.read(place, entry.word, || sure(host, || store.payload(&name, number, place)), &tells)?;
+            made.read(place, entry.word, || retrying_for_a_minute(host, || store.payload(&name, number, place)), &tells)?;
         }
         made.tale()?; // (each of its words can be done)
         Ok(made)
@@ -74,7 +74,7 @@ impl History {
 
     /// The same, in which sessions are called so.
     #[cfg(feature = "testing")]
-    pub(crate) fn named(self, sessions: BTreeMap<u64, String>) -> History {
+    pub(crate) fn with_session_names(self, sessions: BTreeMap<u64, String>) -> History {
         History { sessions, ..self }
     }
 
@@ -84,10 +84,10 @@ impl History {
         place: usize,
         word: u64,
         payload: impl FnOnce() -> Result<Option<Vec<u8>>, StoreError>,
-        tells: &impl Fn(What<'_>) -> String,
+        tells: &impl Fn(HistoryItem<'_>) -> String,
     ) -> Result<(), StoreError> {
         let broken = |why: &dyn std::fmt::Display| StoreError::broken(&self.opened.name, place, why);
-        let names = match Event::of_word(word).map_err(|refused| broken(&refused))?.call {
+        let names = match Event::from_word(word).map_err(|refused| broken(&refused))?.call {
             Call::Complete(_, Value::Int(_)) | Call::Finish(_, Answer::Give(Value::Int(_))) => Names::Value,
             Call::Fail(..) | Call::Finish(_, Answer::Throw(_)) => Names::Error,
             Call::Attach(..) => Names::Stage,
@@ -96,10 +96,10 @@ impl History {
         let payload = payload()?.ok_or_else(|| broken(&"no payload is there, and a word names it"))?;
         let unreadable = |why: serde_json::Error| broken(&format!("its payload can't be read: {why}"));
         match names {
-            Names::Value => self.values[place] = tells(What::Value(&serde_json::from_slice(&payload).map_err(unreadable)?)),
-            Names::Error => self.errors[place] = tells(What::Error(&serde_json::from_slice(&payload).map_err(unreadable)?)),
+            Names::Value => self.values[place] = tells(HistoryItem::Value(&serde_json::from_slice(&payload).map_err(unreadable)?)),
+            Names::Error => self.errors[place] = tells(HistoryItem::Error(&serde_json::from_slice(&payload).map_err(unreadable)?)),
             Names::Stage => {
-                let said = plan::said_in(&payload, self.names.len()).map_err(|why| broken(&why))?;
+                let said = plan::read_stage_spec(&payload, self.names.len()).map_err(|why| broken(&why))?;
                 self.names.push(said.name);
                 self.attached += 1;
             }
@@ -109,32 +109,32 @@ impl History {
 
     /// For people: a line for each event, and one for each stage that it settled.
     pub fn lines(&self) -> Result<String, StoreError> {
-        self.text(Telling::Lines)
+        self.tell(TaleFormat::Lines)
     }
 
     /// For a log: one line.
     pub fn line(&self) -> Result<String, StoreError> {
-        self.text(Telling::Line)
+        self.tell(TaleFormat::Line)
     }
 
     /// What `cf_look check` judges and `cf_look page` shows, a line of JSON without its end.
     pub fn account(&self) -> Result<String, StoreError> {
-        let text = self.text(Telling::Account)?;
+        let text = self.tell(TaleFormat::Account)?;
         let mut account: Json = serde_json::from_str(&text).map_err(|error| StoreError::Refused(error.to_string()))?;
         let mut is_shared = false;
         for records in account["callers"].as_array_mut().into_iter().flatten() {
-            is_shared |= self.by_session(records);
+            is_shared |= self.split_by_session(records);
         }
         Ok(if is_shared { account.to_string() } else { text.trim_end().to_owned() })
     }
 
     /// What `cf run` does again and `cf_look dot` draws, a line of JSON without its end.
     pub fn script(&self) -> Result<String, StoreError> {
-        Ok(self.tale()?.text(Telling::Script)?.trim_end().to_owned())
+        Ok(self.tale()?.text(TaleFormat::Script)?.trim_end().to_owned())
     }
 
     /// Has each session's records stand by themselves, where several had a caller's number; whether they had.
-    fn by_session(&self, records: &mut Json) -> bool {
+    fn split_by_session(&self, records: &mut Json) -> bool {
         let (mut sessions, mut order): (BTreeMap<u64, Vec<Json>>, Vec<u64>) = Default::default();
         let mut own = None;
         for record in records.as_array().into_iter().flatten() {
@@ -156,13 +156,13 @@ impl History {
         shared
     }
 
-    fn text(&self, as_what: Telling) -> Result<String, StoreError> {
+    fn tell(&self, as_what: TaleFormat) -> Result<String, StoreError> {
         let mut tale = self.tale()?;
-        tale.say(Said::Name, [&self.opened.name])?;
-        tale.say(Said::Stages, &self.names)?;
-        tale.say(Said::Callers, self.callers())?;
-        tale.say(Said::Values, &self.values)?;
-        tale.say(Said::Errors, &self.errors)?;
+        tale.say(Label::Name, [&self.opened.name])?;
+        tale.say(Label::Stages, &self.names)?;
+        tale.say(Label::Callers, self.callers())?;
+        tale.say(Label::Values, &self.values)?;
+        tale.say(Label::Errors, &self.errors)?;
         Ok(tale.text(as_what)?)
     }
 
@@ -184,6 +184,6 @@ impl History {
     fn tale(&self) -> Result<Tale, StoreError> {
         let words: Vec<u64> = self.entries.iter().map(|entry| entry.word).collect();
         let broken = |refused: Refused| StoreError::broken(&self.opened.name, 0, format!("its words can't be done: {refused}"));
-        Tale::new(&mut plan::read(&self.opened.plan, &self.opened.name)?.plan, self.attached, &words).map_err(broken)
+        Tale::new(&mut plan::read_plan(&self.opened.plan, &self.opened.name)?.plan, self.attached, &words).map_err(broken)
     }
 }

@@ -1,33 +1,33 @@
-//! What a service takes of the machine: time, threads, chance, and how its functions are called. A search of all orders has its own in their place.
+//! What a service takes from its surroundings: time, threads, chance, and the calls of functions. A search of all orders has its own.
 use crate::error::{Failed, StoreError};
-use crate::functions::panicked;
-use crate::request::Given;
-use crate::service::Job;
-use crate::view::View;
+use crate::functions::failed_by_panic;
+use crate::request::Returned;
+use crate::service::ServiceJob;
+use crate::view::RowView;
 use std::panic::{catch_unwind, AssertUnwindSafe};
 use std::sync::{Arc, Mutex};
 use std::thread;
 use std::time::{Duration, Instant};
 
-/// The machine, as it is.
+/// The real clock, threads and chance.
 #[derive(Debug)]
-pub(crate) struct Machine;
+pub(crate) struct RealHost;
 
-impl Host for Machine {}
+impl Host for RealHost {}
 
 pub(crate) trait Host: Send + Sync {
-    /// A moment. Later ones aren't before it.
+    /// The time now, which never goes back.
     fn now(&self) -> Instant {
         Instant::now()
     }
 
-    /// Lets some time pass.
+    /// Sleeps.
     fn sleep(&self, wait: Duration) {
         thread::sleep(wait);
     }
 
-    /// A number of so many bits, by chance.
-    fn number(&self, bits: u32) -> u64 {
+    /// A random number of this many bits.
+    fn random_bits(&self, bits: u32) -> u64 {
         let mut bytes = [0; 8];
         getrandom::getrandom(&mut bytes).expect("the system has random numbers");
         u64::from_ne_bytes(bytes) >> (64 - bits)
@@ -38,30 +38,30 @@ pub(crate) trait Host: Send + Sync {
         true
     }
 
-    /// Takes what a thread is to do, or gives it back to the service's own threads.
-    fn takes(&self, job: Job) -> Option<Job> {
+    /// Takes a job, or gives it back to the service's own threads.
+    fn take_job(&self, job: ServiceJob) -> Option<ServiceJob> {
         Some(job)
     }
 
-    /// Lets others go on until a view can be locked, where the thread doesn't wait for that itself.
-    fn until_free(&self, _view: &Arc<Mutex<View>>) {}
+    /// Lets other threads of a search go on until a view is free.
+    fn wait_until_free(&self, _view: &Arc<Mutex<RowView>>) {}
 
-    /// Lets others go on until something is so, for so long at most.
-    fn until(&self, _name: &str, _is_so: Arc<dyn Fn() -> bool + Send + Sync>, _wait: Option<Duration>) {}
+    /// Lets other threads of a search go on until `is_so`, for `wait` at most.
+    fn wait_until(&self, _name: &str, _is_so: Arc<dyn Fn() -> bool + Send + Sync>, _wait: Option<Duration>) {}
 
-    /// Calls a registered function. What it panics with is a failure.
-    fn call(&self, _name: &str, call: &mut dyn FnMut() -> Result<Given, Failed>) -> Result<Given, Failed> {
-        catch_unwind(AssertUnwindSafe(call)).unwrap_or_else(|panic| Err(panicked(&*panic)))
+    /// Calls a registered function. A panic is a failure.
+    fn call_function(&self, _name: &str, call: &mut dyn FnMut() -> Result<Returned, Failed>) -> Result<Returned, Failed> {
+        catch_unwind(AssertUnwindSafe(call)).unwrap_or_else(|panic| Err(failed_by_panic(&*panic)))
     }
 
-    /// A word that this process put stands at a place of a request, which is told to it now. `granted` is the stage that it claims, if it does.
-    fn stands(&self, _request: &str, _place: usize, _word: u64, _granted: Option<u16>) {}
+    /// Notes that a word of this process stands at a place of a request. `granted` is the stage that it claims, if it does.
+    fn note_standing(&self, _request: &str, _place: usize, _word: u64, _granted: Option<u16>) {}
 
-    /// Says that something can't be done now in a request.
-    fn warns(&self, tells: fn(&str), _request: &str, text: &str) {
+    /// Warns that something can't be done now in a request.
+    fn warn(&self, tells: fn(&str), _request: &str, text: &str) {
         tells(text);
     }
 
-    /// A request can't be gone on with.
-    fn breaks(&self, _error: &StoreError) {}
+    /// Notes that a request is broken or gone.
+    fn note_broken(&self, _error: &StoreError) {}
 }

@@ -8,7 +8,7 @@ const LONGEST_LINE: u64 = 65_536;
 
 /// A connection to a server.
 #[derive(Debug)]
-pub(crate) struct Connection {
+pub(crate) struct HttpConnection {
     address: String,
     stream: BufReader<TcpStream>,
 }
@@ -20,9 +20,9 @@ enum Body {
     UntilClosed,
 }
 
-impl Connection {
+impl HttpConnection {
     /// Connects to an address of a host and a port. Each step of a question takes so long at most.
-    pub(crate) fn new(address: &str, silence: Duration) -> io::Result<Connection> {
+    pub(crate) fn new(address: &str, silence: Duration) -> io::Result<HttpConnection> {
         let mut last = io::Error::new(ErrorKind::NotFound, "it has no address");
         for it in address.to_socket_addrs()? {
             match TcpStream::connect_timeout(&it, silence) {
@@ -30,7 +30,7 @@ impl Connection {
                     stream.set_nodelay(true)?;
                     stream.set_read_timeout(Some(silence))?;
                     stream.set_write_timeout(Some(silence))?;
-                    return Ok(Connection { address: address.to_owned(), stream: BufReader::new(stream) });
+                    return Ok(HttpConnection { address: address.to_owned(), stream: BufReader::new(stream) });
                 }
                 Err(error) => last = error,
             }

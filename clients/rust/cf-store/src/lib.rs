@@ -18,7 +18,7 @@
 //! | find one | [`named`](Request::named), [`stage`](Request::stage), [`step`](Request::step) |
 //! | settle it, unless it is settled | [`complete`](Stage::complete), [`fail`](Stage::fail), [`cancel`](Stage::cancel), [`abandon`](Stage::abandon); by a timer [`or_timeout`](Stage::or_timeout), [`complete_on_timeout`](Stage::complete_on_timeout) |
 //! | what it ended with | [`wait`](Stage::wait), [`wait_timeout`](Stage::wait_timeout), [`peek`](Stage::peek) |
-//! | what happened | [`history`](Request::history), [`history_by`](Request::history_by), [`Options::on_end`] |
+//! | what happened | [`history`](Request::history), [`history_described_by`](Request::history_described_by), [`Options::on_end`] |
 //! | what goes along | [`within`], [`context`](context()) |
 //!
 //! Each call that changes something is in the store when it returns. It asks the store, so it holds its thread: in a task of tokio call it by
@@ -85,11 +85,11 @@ pub use error::{Error, Failed, StoreError};
 pub use etcd::Etcd;
 pub use flow::{Flow, Step};
 pub use functions::{Composing, Function, Functions, Transactional};
-pub use history::{History, What};
+pub use history::{History, HistoryItem};
 #[cfg(feature = "postgres")]
 pub use postgres::{Postgres, PostgresTransaction};
 pub use request::{Request, Stage};
 pub use service::{Options, Service};
 #[cfg(feature = "sqlite")]
 pub use sqlite::SQLite;
-pub use store::{Mark, News, Opened, Put, Store, Timer, Transaction};
+pub use store::{Mark, Opened, Put, Store, Timer, Transaction, WordCounts};

@@ -9,7 +9,7 @@ const FORMAT: u32 = 3;
 
 /// What a plan, or the payload of the word that attached it, says of a stage.
 #[derive(Clone, Debug, Default, PartialEq, Serialize, Deserialize)]
-pub(crate) struct Said {
+pub(crate) struct StageSpec {
     pub(crate) name: String,
     /// Its function's name.
     #[serde(rename = "fn", default, skip_serializing_if = "Option::is_none")]
@@ -36,10 +36,10 @@ pub(crate) struct Said {
     pub(crate) context: Option<Map<String, Value>>,
 }
 
-impl Said {
+impl StageSpec {
     /// Whether the functions of two stages are to do the same.
-    pub(crate) fn is_alike(&self, other: &Said) -> bool {
-        let bare = |said: &Said| Said { to: None, context: None, ..said.clone() };
+    pub(crate) fn is_alike(&self, other: &StageSpec) -> bool {
+        let bare = |said: &StageSpec| StageSpec { to: None, context: None, ..said.clone() };
         bare(self) == bare(other)
     }
 }
@@ -49,18 +49,18 @@ struct Text {
     cf: u32,
     #[serde(default)]
     flow: String,
-    stages: Vec<Row>,
+    stages: Vec<PlanRow>,
     #[serde(default, skip_serializing_if = "Option::is_none")]
     context: Option<Map<String, Value>>,
 }
 
 #[derive(Serialize, Deserialize)]
-struct Row {
+struct PlanRow {
     form: String,
     #[serde(default)]
     of: Vec<u16>,
     #[serde(flatten)]
-    said: Said,
+    said: StageSpec,
 }
 
 /// A plan that was read.
@@ -69,15 +69,15 @@ pub(crate) struct SharedPlan {
     pub(crate) plan: Plan,
     /// The name of its flow.
     pub(crate) flow: String,
-    pub(crate) stages: Vec<(Form, Vec<u16>, Said)>,
+    pub(crate) stages: Vec<(Form, Vec<u16>, StageSpec)>,
     /// What goes along of the context in which it was begun.
     pub(crate) context: Map<String, Value>,
 }
 
 /// The text of a plan, with what is said of its stages, and the context that its functions are to have.
-pub(crate) fn text_of(flow: &str, stages: Vec<(Form, Vec<u16>, Said)>, context: Option<Map<String, Value>>) -> Result<String, StoreError> {
+pub(crate) fn text_of(flow: &str, stages: Vec<(Form, Vec<u16>, StageSpec)>, context: Option<Map<String, Value>>) -> Result<String, StoreError> {
     let name = |form: Form| FORMS.iter().find_map(|(name, known)| (*known == form).then_some(*name)).unwrap_or_default();
-    let stages = stages.into_iter().map(|(form, of, said)| Row { form: name(form).into(), of, said }).collect();
+    let stages = stages.into_iter().map(|(form, of, said)| PlanRow { form: name(form).into(), of, said }).collect();
     let text = Text { cf: FORMAT, flow: flow.into(), stages, context };
     serde_json::to_string(&text).map_err(|error| StoreError::Refused(error.to_string()))
 }
@@ -93,7 +93,7 @@ pub(crate) fn are_alike(text: &str, other: &str) -> bool {
 }
 
 /// Reads the text of a request's plan.
-pub(crate) fn read(text: &str, request: &str) -> Result<SharedPlan, StoreError> {
+pub(crate) fn read_plan(text: &str, request: &str) -> Result<SharedPlan, StoreError> {
     let broken = |why: &dyn std::fmt::Display| StoreError::broken(request, 0, format!("its plan can't be read: {why}"));
     let text: Text = serde_json::from_str(text).map_err(|error| broken(&error))?;
     if text.cf != FORMAT {
@@ -105,19 +105,19 @@ pub(crate) fn read(text: &str, request: &str) -> Result<SharedPlan, StoreError> 
         let form = form_of(&row.form).ok_or_else(|| broken(&format!("it has a form {:?}", row.form)))?;
         let function = has_function(form).then_some(number as u16);
         builder.stage(form, &row.of, function).map_err(|refused| broken(&refused))?;
-        stages.push((form, row.of, checked(row.said, number).map_err(|why| broken(&why))?));
+        stages.push((form, row.of, check_sources(row.said, number).map_err(|why| broken(&why))?));
     }
     let plan = builder.build().map_err(|refused| broken(&refused))?;
     Ok(SharedPlan { plan, flow: text.flow, stages, context: text.context.unwrap_or_default() })
 }
 
 /// What the payload of an attached stage says.
-pub(crate) fn said_in(payload: &[u8], number: usize) -> Result<Said, String> {
-    checked(serde_json::from_slice(payload).map_err(|error| error.to_string())?, number)
+pub(crate) fn read_stage_spec(payload: &[u8], number: usize) -> Result<StageSpec, String> {
+    check_sources(serde_json::from_slice(payload).map_err(|error| error.to_string())?, number)
 }
 
 /// The stages that it speaks of are lower.
-fn checked(said: Said, number: usize) -> Result<Said, String> {
+fn check_sources(said: StageSpec, number: usize) -> Result<StageSpec, String> {
     if [said.again, said.to, said.by].into_iter().flatten().any(|stage| usize::from(stage) >= number.max(1)) {
         return Err(format!("it names a stage that isn't lower than {number}"));
     }

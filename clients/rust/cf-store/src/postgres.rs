@@ -1,6 +1,6 @@
 //! Rows in tables of a PostgreSQL database, which machines share, Python's processes too.
 use crate::error::StoreError;
-use crate::store::{in_a_row, Mark, News, Opened, Put, Store, Timer, Transaction};
+use crate::store::{check_row, Mark, Opened, Put, Store, Timer, Transaction, WordCounts};
 use cf_graph::Entry;
 use std::any::Any;
 use std::collections::{BTreeMap, HashMap};
@@ -59,14 +59,14 @@ const BETWEEN_NOTICES: Duration = Duration::from_millis(10);
 pub struct Postgres {
     config: Config,
     /// Connections that nobody uses now.
-    idle: Mutex<Vec<Connection>>,
+    idle: Mutex<Vec<PostgresConnection>>,
     /// One that is told of notices.
-    listens: Mutex<Option<Connection>>,
+    listens: Mutex<Option<PostgresConnection>>,
     notices: Arc<Notices>,
 }
 
 /// A connection, which does its work while it is asked.
-struct Connection {
+struct PostgresConnection {
     runtime: Runtime,
     client: Client,
     /// The backends that have sent notices.
@@ -87,10 +87,10 @@ struct Notices {
 type Failed = tokio_postgres::Error;
 type Values<'a> = &'a [&'a (dyn ToSql + Sync)];
 
-impl Connection {
-    fn new(config: &Config) -> Result<Connection, StoreError> {
+impl PostgresConnection {
+    fn new(config: &Config) -> Result<PostgresConnection, StoreError> {
         let runtime = Builder::new_current_thread().enable_all().build().map_err(|error| StoreError::Unknown(error.to_string()))?;
-        let (client, mut connection) = runtime.block_on(config.connect(NoTls)).map_err(|error| told(&error))?;
+        let (client, mut connection) = runtime.block_on(config.connect(NoTls)).map_err(|error| store_error(&error))?;
         let (gives, gets) = messages::unbounded_channel();
         runtime.spawn(async move {
             while let Some(Ok(message)) = poll_fn(|context| connection.poll_message(context)).await {
@@ -99,7 +99,7 @@ impl Connection {
                 }
             }
         });
-        let mut made = Connection { runtime, client, told: gets, prepared: HashMap::new() };
+        let mut made = PostgresConnection { runtime, client, told: gets, prepared: HashMap::new() };
         for (name, wanted) in SAFE {
             let found = made.shown(name)?;
             if found != wanted {
@@ -171,7 +171,7 @@ impl Connection {
 
     /// What comes of a question, where it comes in time.
     fn within<T>(&self, asked: impl Future<Output = Result<T, Failed>>) -> Result<T, StoreError> {
-        self.in_time(asked)?.map_err(|error| told(&error))
+        self.in_time(asked)?.map_err(|error| store_error(&error))
     }
 
     fn in_time<T>(&self, asked: impl Future<Output = T>) -> Result<T, StoreError> {
@@ -196,7 +196,7 @@ fn literals(put: &Put<'_>) -> String {
 }
 
 /// What an error of the database's is here. A place that is taken is told by who puts.
-fn told(error: &Failed) -> StoreError {
+fn store_error(error: &Failed) -> StoreError {
     match error.code() {
         None => StoreError::Unknown(error.to_string()),
         Some(code) if is_away(code) => StoreError::Unknown(error.to_string()),
@@ -215,7 +215,7 @@ impl Postgres {
     pub fn connect(address: &str) -> Result<Postgres, StoreError> {
         let mut config: Config = address.parse().map_err(|error: Failed| StoreError::Refused(error.to_string()))?;
         config.connect_timeout(Duration::from_secs(5)).keepalives_idle(Duration::from_secs(10));
-        let mut first = Connection::new(&config)?;
+        let mut first = PostgresConnection::new(&config)?;
         if !first.is_set_up()? {
             first.all(&format!("select pg_advisory_lock({SET_UP})"))?; // (two that make a table at once are refused)
             first.all(SCHEMA)?;
@@ -225,12 +225,12 @@ impl Postgres {
     }
 
     /// Uses a connection. One that failed isn't used again, unless it was the question's fault.
-    fn using<T>(&self, act: impl FnOnce(&mut Connection) -> Result<T, StoreError>) -> Result<T, StoreError> {
-        let idle = locked(&self.idle).pop();
-        let mut connection = idle.filter(|it| !it.client.is_closed()).map_or_else(|| Connection::new(&self.config), Ok)?;
+    fn using<T>(&self, act: impl FnOnce(&mut PostgresConnection) -> Result<T, StoreError>) -> Result<T, StoreError> {
+        let idle = lock(&self.idle).pop();
+        let mut connection = idle.filter(|it| !it.client.is_closed()).map_or_else(|| PostgresConnection::new(&self.config), Ok)?;
         let told = act(&mut connection);
         if !matches!(told, Err(StoreError::Unknown(_))) {
-            locked(&self.idle).push(connection);
+            lock(&self.idle).push(connection);
         }
         told
     }
@@ -251,7 +251,7 @@ impl Postgres {
     /// The same under the lock of what is closed.
     fn closing(&self, name: &str, number: i64, statement: &str, values: Values<'_>) -> Result<Vec<Row>, StoreError> {
         let rows = self.using(|connection| {
-            let Connection { runtime, client, .. } = connection;
+            let PostgresConnection { runtime, client, .. } = connection;
             let asked = async {
                 let transaction = client.transaction().await?;
                 transaction.query("select pg_advisory_xact_lock($1, $2)", &[&CLOSING, &lock_of(number)]).await?;
@@ -259,7 +259,7 @@ impl Postgres {
                 transaction.commit().await.map(|()| rows)
             };
             let answered = runtime.block_on(async { tokio::time::timeout(SILENCE, asked).await });
-            answered.map_err(|_| StoreError::Unknown(format!("no answer for {SILENCE:?}")))?.map_err(|error| told(&error))
+            answered.map_err(|_| StoreError::Unknown(format!("no answer for {SILENCE:?}")))?.map_err(|error| store_error(&error))
         })?;
         if rows.is_empty() {
             return Err(StoreError::Gone(name.into()));
@@ -270,7 +270,7 @@ impl Postgres {
     /// Wakes who waits. What was put stands, so nothing is refused here: who gets no notice looks by himself.
     fn notify(&self) {
         self.notices.wanted.store(true, Ordering::SeqCst);
-        let mut gives = locked(&self.notices.gives);
+        let mut gives = lock(&self.notices.gives);
         if gives.as_ref().map_or(true, |it| it.send(()).is_err()) {
             let (first, gets) = mpsc::channel();
             let (config, notices) = (self.config.clone(), Arc::downgrade(&self.notices));
@@ -317,7 +317,7 @@ fn send_notices(config: &Config, notices: &Weak<Notices>, gets: &mpsc::Receiver<
     while gets.recv().is_ok() {
         let Some(notices) = notices.upgrade().filter(|it| it.wanted.swap(false, Ordering::SeqCst)) else { continue };
         if connection.is_none() {
-            connection = Connection::new(config).and_then(|made| notices.sent_by(made)).ok();
+            connection = PostgresConnection::new(config).and_then(|made| notices.sent_by(made)).ok();
         }
         if !matches!(connection.as_ref().map(|it| it.all("notify cf")), Some(Ok(()))) {
             connection = None;
@@ -329,7 +329,7 @@ fn send_notices(config: &Config, notices: &Weak<Notices>, gets: &mpsc::Receiver<
 
 impl Notices {
     /// Has a connection send them. What it does needn't be on disk.
-    fn sent_by(&self, mut connection: Connection) -> Result<Connection, StoreError> {
+    fn sent_by(&self, mut connection: PostgresConnection) -> Result<PostgresConnection, StoreError> {
         connection.all("set synchronous_commit = off")?;
         let backend = connection.rows("select pg_backend_pid()", &[])?[0].get(0);
         self.backend.store(backend, Ordering::SeqCst);
@@ -358,7 +358,7 @@ impl Store for Postgres {
             match answered {
                 Ok(many) => Ok(many == put.entries.len() as u64),
                 Err(error) if error.code() == Some(&SqlState::UNIQUE_VIOLATION) => Ok(false),
-                Err(error) => Err(told(&error)),
+                Err(error) => Err(store_error(&error)),
             }
         })?;
         if landed {
@@ -376,7 +376,7 @@ impl Store for Postgres {
         let statement = "select at, word, token from cf_request left join cf_word on request = id and at >= $1 where id = $2 order by at";
         let rows = self.ask_of(name, statement, &[&(at as i32), &number])?;
         let stands = |row: &Row| Some((i64::from(row.get::<_, Option<i32>>(0)?), row.get(1), row.get(2)));
-        in_a_row(name, at, rows.iter().filter_map(stands))
+        check_row(name, at, rows.iter().filter_map(stands))
     }
 
     fn payload(&self, name: &str, number: i64, place: usize) -> Result<Option<Vec<u8>>, StoreError> {
@@ -392,7 +392,7 @@ impl Store for Postgres {
         Ok(at.iter().map(|at| read.remove(at).flatten()).collect())
     }
 
-    fn news(&self, since: Option<Mark>) -> Result<(News, Mark), StoreError> {
+    fn news(&self, since: Option<Mark>) -> Result<(WordCounts, Mark), StoreError> {
         // All transactions below the mark had ended when the statement began, so what they did is told.
         let ends = "select name, (select coalesce(max(at) + 1, 0) from cf_word where request = id) as many from cf_request where closed is null";
         let longer = "select name, 0 as many from cf_request where closed is null and made_by >= $1::text::xid8 union all \
@@ -403,7 +403,7 @@ impl Store for Postgres {
             None => self.ask(&marked(ends), &[])?,
             Some((since, _)) => self.ask(&marked(longer), &[&since.to_string()])?,
         };
-        let mut told = News::new();
+        let mut told = WordCounts::new();
         for row in &rows {
             let Some(name) = row.get::<_, Option<String>>(1) else { continue };
             let many = row.get::<_, Option<i32>>(2).map(|many| many as usize);
@@ -414,14 +414,14 @@ impl Store for Postgres {
     }
 
     fn changed(&self, wait: Duration) -> Result<(), StoreError> {
-        let mut listens = locked(&self.listens);
+        let mut listens = lock(&self.listens);
         let Some(connection) = listens.as_mut().filter(|it| !it.client.is_closed()) else {
-            let made = Connection::new(&self.config)?;
+            let made = PostgresConnection::new(&self.config)?;
             made.all("listen cf")?;
             *listens = Some(made);
             return Ok(());
         };
-        let Connection { runtime, told, .. } = connection;
+        let PostgresConnection { runtime, told, .. } = connection;
         let own = self.notices.backend.load(Ordering::SeqCst);
         let by_others = async { while told.recv().await == Some(own) {} };
         let _nothing_new = runtime.block_on(async { tokio::time::timeout(wait, by_others).await });
@@ -486,15 +486,15 @@ impl Store for Postgres {
     }
 
     fn transaction(&self) -> Result<Box<dyn Transaction + '_>, StoreError> {
-        let connection = Connection::new(&self.config)?;
+        let connection = PostgresConnection::new(&self.config)?;
         connection.all("begin; savepoint cf_function")?;
-        Ok(Box::new(Open { store: self, inside: PostgresTransaction(connection) }))
+        Ok(Box::new(OpenTransaction { store: self, inside: PostgresTransaction(connection) }))
     }
 }
 
 /// What a transactional function is called with: the connection of its transaction.
 #[derive(Debug)]
-pub struct PostgresTransaction(Connection);
+pub struct PostgresTransaction(PostgresConnection);
 
 impl PostgresTransaction {
     /// Does a statement, and says how many rows it changed.
@@ -509,12 +509,12 @@ impl PostgresTransaction {
 }
 
 /// A function's own transaction. What wasn't committed is undone as the connection is dropped.
-struct Open<'a> {
+struct OpenTransaction<'a> {
     store: &'a Postgres,
     inside: PostgresTransaction,
 }
 
-impl Transaction for Open<'_> {
+impl Transaction for OpenTransaction<'_> {
     fn connection(&mut self) -> &mut dyn Any {
         &mut self.inside
     }
@@ -550,12 +550,12 @@ impl Transaction for Open<'_> {
     }
 }
 
-impl fmt::Debug for Connection {
+impl fmt::Debug for PostgresConnection {
     fn fmt(&self, f: &mut fmt::Formatter<'_>) -> fmt::Result {
         f.debug_struct("Connection").field("client", &self.client).finish_non_exhaustive()
     }
 }
 
-fn locked<T>(mutex: &Mutex<T>) -> MutexGuard<'_, T> {
+fn lock<T>(mutex: &Mutex<T>) -> MutexGuard<'_, T> {
     mutex.lock().unwrap_or_else(PoisonError::into_inner)
 }

@@ -1,13 +1,13 @@
-//! What a program has of a request in a store: the request and its stages.
+//! A program's handles of a request in a store and of its stages.
 use crate::context;
 use crate::error::{Error, Failed, StoreError};
 use crate::flow::Step;
-use crate::history::{History, What};
+use crate::history::{History, HistoryItem};
 use crate::host::Host;
-use crate::plan::Said;
-use crate::service::Shared;
+use crate::plan::StageSpec;
+use crate::service::ServiceCore;
 use crate::store::{Store, Timer};
-use crate::view::{bytes_of, missing, Done, View, Wanted};
+use crate::view::{failed_bytes, missing_payload, DoneWord, RowView, WantedWord};
 use cf_graph::{Answer, Call, Failure, Form, Of, Outcome, Reply, State, Value};
 use serde::de::DeserializeOwned;
 use serde::Serialize;
@@ -23,17 +23,17 @@ use std::time::{Duration, Instant};
 /// A request in a store: [`Service::request`](crate::Service::request) and [`open`](crate::Service::open) give one. Any thread may use it, and
 /// processes share it. A clone is the same request.
 ///
-/// Each call that changes something is in the store when it returns. It is refused with
+/// A call that changes something returns once the store has it. It fails with
 ///
-/// - [`StoreError::Unknown`] where the store didn't answer for a minute: what was asked may stand or not;
-/// - [`StoreError::Broken`] and [`StoreError::Gone`] where the row can't be gone on with;
-/// - [`StoreError::Full`] where there would be more than 4,096 stages;
-/// - [`StoreError::NotRegistered`] where a function isn't registered;
-/// - [`StoreError::Refused`] where a stage is another request's.
+/// - [`StoreError::Unknown`] if the store didn't answer for a minute: the change may stand or not;
+/// - [`StoreError::Broken`] and [`StoreError::Gone`] if the row is unusable;
+/// - [`StoreError::Full`] if there would be more than 4,096 stages;
+/// - [`StoreError::NotRegistered`] if a function isn't registered;
+/// - [`StoreError::Refused`] if a stage is another request's.
 #[derive(Clone)]
 pub struct Request {
-    pub(crate) inner: Arc<Inner>,
-    pub(crate) service: Arc<Shared>,
+    pub(crate) inner: Arc<LocalRequest>,
+    pub(crate) service: Arc<ServiceCore>,
 }
 
 /// A stage of a request in a store. A clone is the same stage.
@@ -44,7 +44,7 @@ pub struct Stage {
 }
 
 thread_local! {
-    /// Where the request is whose transactional function this thread runs, or 0.
+    /// The address of the request whose transactional function this thread runs, or 0.
     static TRANSACTS: Cell<usize> = const { Cell::new(0) };
     /// The composing stage whose function this thread runs.
     static COMPOSES: RefCell<Option<Composing>> = const { RefCell::new(None) };
@@ -52,54 +52,54 @@ thread_local! {
 
 /// A stage whose function attaches stages.
 struct Composing {
-    /// Where its request is.
+    /// The address of its request.
     inner: usize,
     stage: u16,
-    /// The one whose function it is: the same, or that of which this is a further try.
+    /// The stage whose function it is: the same, or the one that it tries again.
     first: u16,
-    /// What it has attached, and what of an earlier try it has found in the place of that.
+    /// The stages that it has attached, or found attached by an earlier try.
     taken: BTreeSet<u16>,
 }
 
-/// What a process has once of each request.
-pub(crate) struct Inner {
+/// A request as a process has it once.
+pub(crate) struct LocalRequest {
     pub(crate) name: String,
     pub(crate) number: i64,
     host: Arc<dyn Host>,
     store: Arc<dyn Store>,
-    view: Arc<Mutex<View>>,
-    /// Where a store lets nobody else put during a transaction: taken before the view by who puts, and a transactional function runs with it. So this
-    /// process's other threads wait there then, and not in the store with the view, which the function's finish needs.
+    view: Arc<Mutex<RowView>>,
+    /// A lock for stores that let only one writer put during a transaction. A put takes it before the view, and a transactional function runs with
+    /// it. So other threads wait for this lock, and not in the store with the view, which the function's finish needs.
     writes: Option<Mutex<()>>,
-    /// How often something was shown: who waits never waits for the view.
+    /// The number of publications. Waiting callers watch this, and never the view.
     shown: Mutex<u64>,
-    /// Told when stages were settled, and when the service ends.
+    /// Notified when stages are settled, and when the service ends.
     changed: Condvar,
-    /// Payloads that are read for who waits, by their places.
-    reads: Mutex<BTreeMap<usize, Reading>>,
-    /// How many entries were seen.
+    /// Payloads that are read for waiting callers, by their places.
+    reads: Mutex<BTreeMap<usize, PayloadRead>>,
+    /// The number of entries that were taken in.
     pub(crate) seen: AtomicUsize,
-    /// How many the store has said that there are.
+    /// The number of entries that the store has told of.
     pub(crate) told: AtomicUsize,
-    /// Whether a thread is to look what is to do.
+    /// Whether a look for work is queued.
     pub(crate) is_queued: AtomicBool,
-    /// The number of the last time that the service was asked to go on with it.
+    /// The service's count as it was last asked to go on with it.
     pub(crate) kept: AtomicU64,
-    /// Whether it is being let go.
+    /// Whether it is being forgotten.
     pub(crate) is_leaving: AtomicBool,
-    /// Why it can't be gone on with.
+    /// The fault that ended it in this process.
     fault: Mutex<Option<StoreError>>,
-    /// The stages that somebody was given.
+    /// The stages of which the program has a handle.
     #[cfg(feature = "testing")]
     pub(crate) given: Mutex<std::collections::BTreeSet<u16>>,
 }
 
-impl Inner {
-    pub(crate) fn new(view: View, host: &Arc<dyn Host>, locks_out: bool) -> Inner {
-        Inner {
+impl LocalRequest {
+    pub(crate) fn new(view: RowView, host: &Arc<dyn Host>, locks_out: bool) -> LocalRequest {
+        LocalRequest {
             name: view.opened.name.clone(),
             number: view.opened.number,
-            seen: AtomicUsize::new(view.seen()),
+            seen: AtomicUsize::new(view.seen_count()),
             told: AtomicUsize::new(0),
             host: Arc::clone(host),
             store: Arc::clone(&view.store),
@@ -117,13 +117,13 @@ impl Inner {
         }
     }
 
-    pub(crate) fn view(&self) -> MutexGuard<'_, View> {
-        self.host.until_free(&self.view);
+    pub(crate) fn view(&self) -> MutexGuard<'_, RowView> {
+        self.host.wait_until_free(&self.view);
         self.view.lock().unwrap_or_else(PoisonError::into_inner)
     }
 
-    /// The view, where no other thread has it now.
-    pub(crate) fn try_view(&self) -> Option<MutexGuard<'_, View>> {
+    /// Locks the view, unless another thread has it.
+    pub(crate) fn try_view(&self) -> Option<MutexGuard<'_, RowView>> {
         match self.view.try_lock() {
             Ok(view) => Some(view),
             Err(TryLockError::Poisoned(view)) => Some(view.into_inner()),
@@ -131,42 +131,42 @@ impl Inner {
         }
     }
 
-    /// Tells those who wait what was done.
-    pub(crate) fn show(&self, view: MutexGuard<'_, View>) {
-        self.seen.store(view.seen(), Ordering::Relaxed);
+    /// Publishes the view's state, and wakes the waiters.
+    pub(crate) fn publish(&self, view: MutexGuard<'_, RowView>) {
+        self.seen.store(view.seen_count(), Ordering::Relaxed);
         drop(view);
-        self.wake();
+        self.wake_waiters();
     }
 
-    /// Has those who wait look again.
-    pub(crate) fn wake(&self) {
-        *locked(&self.shown) += 1;
+    /// Wakes the waiters.
+    pub(crate) fn wake_waiters(&self) {
+        *lock(&self.shown) += 1;
         self.changed.notify_all();
     }
 
-    /// What was read of a payload for who waits.
-    fn take_read(&self, place: usize) -> Option<Result<Vec<u8>, StoreError>> {
-        let mut reads = locked(&self.reads);
+    /// Takes a payload that was read for a waiter.
+    fn take_payload_read(&self, place: usize) -> Option<Result<Vec<u8>, StoreError>> {
+        let mut reads = lock(&self.reads);
         match reads.remove(&place)? {
-            Reading::Told(told) => Some(told),
-            Reading::Asked => {
-                reads.insert(place, Reading::Asked);
+            PayloadRead::Told(told) => Some(told),
+            PayloadRead::Asked => {
+                reads.insert(place, PayloadRead::Asked);
                 None
             }
         }
     }
 
-    /// Reads a payload for who waits: whether that was told something. Where its waiting has a limit, of which an engine doesn't know, a thread of its
-    /// own reads it.
-    fn read_payload(self: &Arc<Inner>, place: usize, is_limited: bool) -> bool {
+    /// Reads a payload for a waiter, and says whether there is an answer. If the wait has a limit, a thread of its own reads it, since an engine
+    /// doesn't know the limit.
+    fn read_payload(self: &Arc<LocalRequest>, place: usize, is_limited: bool) -> bool {
         if !is_limited || !self.host.has_threads() {
             return self.ask_payload(place);
         }
-        let mut reads = locked(&self.reads);
+        let mut reads = lock(&self.reads);
         match reads.get(&place) {
-            Some(Reading::Told(_)) => return true,
-            Some(Reading::Asked) => return false,
-            None => reads.insert(place, Reading::Asked),
+            Some(PayloadRead::Told(_)) => return true,
+            Some(PayloadRead::Asked) => return false,
+            None => reads.insert(place, PayloadRead::Asked),
         };
         drop(reads);
         let its = Arc::clone(self);
@@ -174,108 +174,112 @@ impl Inner {
         started.is_err() && self.ask_payload(place)
     }
 
-    /// Asks the store once for a payload that a word names: whether it answers.
+    /// Asks the store once for a payload, and says whether it answered.
     fn ask_payload(&self, place: usize) -> bool {
-        let told = self.store.payload(&self.name, self.number, place).and_then(|it| it.ok_or_else(|| missing(&self.name, place)));
+        let told = self.store.payload(&self.name, self.number, place).and_then(|it| it.ok_or_else(|| missing_payload(&self.name, place)));
         let answers = !matches!(told, Err(StoreError::Unknown(_)));
-        let mut reads = locked(&self.reads);
+        let mut reads = lock(&self.reads);
         reads.remove(&place);
         if answers {
-            reads.insert(place, Reading::Told(told));
+            reads.insert(place, PayloadRead::Told(told));
             drop(reads);
-            self.wake();
+            self.wake_waiters();
         }
         answers
     }
 
     pub(crate) fn catch_up(&self) -> Result<(), StoreError> {
-        self.read(self.view())
+        self.catch_up_view(self.view())
     }
 
-    /// Does the same where the store has said that there is more than is seen.
-    pub(crate) fn catch_up_if_told(&self) -> Result<(), StoreError> {
+    /// Catches up if the store has told of more entries.
+    pub(crate) fn catch_up_if_behind(&self) -> Result<(), StoreError> {
         let view = self.view(); // (a put of this process's is seen by then)
-        if self.told.load(Ordering::SeqCst) <= view.seen() {
+        if self.told.load(Ordering::SeqCst) <= view.seen_count() {
             return Ok(());
         }
-        self.read(view)
+        self.catch_up_view(view)
     }
 
-    fn read(&self, mut view: MutexGuard<'_, View>) -> Result<(), StoreError> {
+    fn catch_up_view(&self, mut view: MutexGuard<'_, RowView>) -> Result<(), StoreError> {
         let told = view.catch_up();
-        self.show(view);
+        self.publish(view);
         told.map(|_| ())
     }
 
-    /// Puts words: what they did, which is nothing where none was wanted.
-    pub(crate) fn act(&self, decide: impl FnMut(&mut View) -> Result<Vec<Wanted>, StoreError>) -> Result<Vec<Done>, StoreError> {
-        self.acts(false, decide)
+    /// Puts the words that `decide` wants, and gives what they did.
+    pub(crate) fn put_words(&self, decide: impl FnMut(&mut RowView) -> Result<Vec<WantedWord>, StoreError>) -> Result<Vec<DoneWord>, StoreError> {
+        self.put_words_and_open(false, decide)
     }
 
-    /// The same, with which the request is open, also where it was closed.
-    fn acts(&self, opens: bool, decide: impl FnMut(&mut View) -> Result<Vec<Wanted>, StoreError>) -> Result<Vec<Done>, StoreError> {
-        if TRANSACTS.with(Cell::get) == self as *const Inner as usize {
+    /// Puts words, and opens the request again if `opens`.
+    fn put_words_and_open(
+        &self,
+        opens: bool,
+        decide: impl FnMut(&mut RowView) -> Result<Vec<WantedWord>, StoreError>,
+    ) -> Result<Vec<DoneWord>, StoreError> {
+        if TRANSACTS.with(Cell::get) == self as *const LocalRequest as usize {
             let why = "its transactional function can't put to it: that takes the place of its finish";
             return Err(StoreError::Refused(format!("request {:?}: {why}", self.name)));
         }
-        let _writes = self.writing();
+        let _writes = self.lock_writes();
         let mut view = self.view();
-        let told = view.act(opens, decide);
-        self.show(view);
+        let told = view.put_words(opens, decide);
+        self.publish(view);
         told.map(|(done, _)| done)
     }
 
-    fn writing(&self) -> Option<MutexGuard<'_, ()>> {
-        self.writes.as_ref().map(locked)
+    fn lock_writes(&self) -> Option<MutexGuard<'_, ()>> {
+        self.writes.as_ref().map(lock)
     }
 
-    /// Runs a transactional function of it, and what comes before and behind that in its transaction.
-    pub(crate) fn transacting<T>(&self, act: impl FnOnce() -> T) -> T {
+    /// Runs a transaction of one of its functions.
+    pub(crate) fn run_transacting<T>(&self, act: impl FnOnce() -> T) -> T {
         struct Transacts;
         impl Drop for Transacts {
             fn drop(&mut self) {
                 TRANSACTS.with(|it| it.set(0));
             }
         }
-        let _others_wait = self.writing();
-        TRANSACTS.with(|it| it.set(self as *const Inner as usize));
+        let _others_wait = self.lock_writes();
+        TRANSACTS.with(|it| it.set(self as *const LocalRequest as usize));
         let _transacts = Transacts; // (what a function panics with is its failure, but a search of all orders leaves one by a panic)
         act()
     }
 
-    /// Runs the function of a composing stage, on this thread.
-    pub(crate) fn composing<T>(&self, stage: u16, first: u16, act: impl FnOnce() -> T) -> T {
+    /// Runs the function of a composing stage on this thread.
+    pub(crate) fn run_composing<T>(&self, stage: u16, first: u16, act: impl FnOnce() -> T) -> T {
         struct Composes;
         impl Drop for Composes {
             fn drop(&mut self) {
                 COMPOSES.with(|it| drop(it.take()));
             }
         }
-        let inner = self as *const Inner as usize;
+        let inner = self as *const LocalRequest as usize;
         COMPOSES.with(|it| drop(it.replace(Some(Composing { inner, stage, first, taken: BTreeSet::new() }))));
         let _composes = Composes;
         act()
     }
 
-    /// Asks of the composing stage of this request whose function this thread runs.
-    fn composed<T>(&self, ask: impl FnOnce(&mut Composing) -> T) -> Option<T> {
-        COMPOSES.with(|it| it.borrow_mut().as_mut().filter(|it| it.inner == self as *const Inner as usize).map(ask))
+    /// Asks the composing stage of this request whose function this thread runs, if there is one.
+    fn ask_composing<T>(&self, ask: impl FnOnce(&mut Composing) -> T) -> Option<T> {
+        COMPOSES.with(|it| it.borrow_mut().as_mut().filter(|it| it.inner == self as *const LocalRequest as usize).map(ask))
     }
 
-    /// Has those who wait told that it can't be gone on with.
-    pub(crate) fn fail(&self, fault: StoreError) {
-        *locked(&self.fault) = Some(fault);
-        self.wake();
+    /// Ends the request in this process by a fault, and wakes the waiters.
+    pub(crate) fn set_fault(&self, fault: StoreError) {
+        *lock(&self.fault) = Some(fault);
+        self.wake_waiters();
     }
 }
 
-/// What becomes of a payload that is read for who waits.
-enum Reading {
+/// A payload that is read for a waiter.
+enum PayloadRead {
     Asked,
     Told(Result<Vec<u8>, StoreError>),
 }
 
-fn locked<T>(mutex: &Mutex<T>) -> MutexGuard<'_, T> {
+fn lock<T>(mutex: &Mutex<T>) -> MutexGuard<'_, T> {
     mutex.lock().unwrap_or_else(PoisonError::into_inner)
 }
 
@@ -285,41 +289,41 @@ impl Request {
         &self.inner.name
     }
 
-    /// Has a registered function called, in its latest version, by any process that works on the request. `args` are what it is called with.
+    /// Attaches a call of a registered function, in its latest version, with `args`. Any process that works on the request runs it.
     pub fn supply(&self, function: &str, args: &[Json]) -> Result<Stage, StoreError> {
-        let mut said = self.said(function)?;
+        let mut said = self.function_spec(function)?;
         said.args = args.to_vec();
         self.attach(Form::Supply, Of::None, said)
     }
 
-    /// The same with arguments that are given by name, behind those in order: where the function is called in Rust, by the names that
+    /// Attaches a call with arguments by name behind those in order. A function in Rust takes the names that
     /// [`Functions::parameters`](crate::Functions::parameters) gave it.
     pub fn supply_named(&self, function: &str, args: &[Json], named: &Map<String, Json>) -> Result<Stage, StoreError> {
-        let said = Said { args: args.to_vec(), kwargs: named.clone(), ..self.said(function)? };
+        let said = StageSpec { args: args.to_vec(), kwargs: named.clone(), ..self.function_spec(function)? };
         self.attach(Form::Supply, Of::None, said)
     }
 
-    /// A stage without a function, which somebody settles, in any process.
+    /// Attaches a stage without a function, which any process settles.
     pub fn promise(&self, name: &str) -> Result<Stage, StoreError> {
-        self.attach(Form::Source, Of::None, Said { name: name.into(), ..Said::default() })
+        self.attach(Form::Source, Of::None, StageSpec { name: name.into(), ..StageSpec::default() })
     }
 
     /// A stage that ends once all of these are settled: with null if all have values, else as the first one in this order that has none. For n stages
     /// it takes n - 1, at least one.
     pub fn all_of(&self, of: &[&Stage]) -> Result<Stage, StoreError> {
-        self.tree(Form::AllOf, of, "all of")
+        self.attach_tree(Form::AllOf, of, "all of")
     }
 
     /// A stage that ends as the first of these that is settled, be it with an error. For n stages it takes n - 1, at least one.
     pub fn first_of(&self, of: &[&Stage]) -> Result<Stage, StoreError> {
-        self.tree(Form::AnyOf, of, "first of")
+        self.attach_tree(Form::AnyOf, of, "first of")
     }
 
     /// A stage that ends with the list of the values of all of these, in this order, or fails as [`all_of`](Request::all_of) does. For n stages it
     /// takes 2 n - 1. [`StoreError::Refused`] of none.
     pub fn gather(&self, of: &[&Stage]) -> Result<Stage, StoreError> {
-        self.has_all(of)?;
-        let attach = |form, of, function: &str| self.attach(form, of, Said { name: "gather".into(), ..self.said(function)? });
+        self.check_own(of)?;
+        let attach = |form, of, function: &str| self.attach(form, of, StageSpec { name: "gather".into(), ..self.function_spec(function)? });
         let mut row = of.iter().map(|it| attach(Form::Apply, Of::One(it.number), "cf.gather")).collect::<Result<Vec<_>, _>>()?;
         while row.len() > 1 {
             let pair = |pair: &[Stage]| match pair {
@@ -331,20 +335,20 @@ impl Request {
         row.pop().ok_or_else(|| StoreError::Refused("a list of nothing needs no stage".into()))
     }
 
-    /// The stage of a step of the flow with which the request was begun. Nothing where that was another one: it had another name, or was otherwise up
-    /// to this step.
+    /// The stage of a step of the flow with which the request was begun. None if that was another flow: of another name, or different up to this
+    /// step.
     pub fn step(&self, step: Step) -> Option<Stage> {
         let has_step = self.inner.view().has_step(step);
-        has_step.then(|| Stage::of(self, step.number()))
+        has_step.then(|| Stage::new(self, step.number()))
     }
 
-    /// The stage of a number, in the order in which they were attached, if there is one by what this process has read.
+    /// The stage of a number. None if this process has read of none. Stages are numbered in the order in which they were attached.
     pub fn stage(&self, number: u16) -> Option<Stage> {
-        let there = usize::from(number) < self.inner.view().len();
-        there.then(|| Stage::of(self, number))
+        let there = usize::from(number) < self.inner.view().stage_count();
+        there.then(|| Stage::new(self, number))
     }
 
-    /// The first stage of a name, if there is one.
+    /// Finds the first stage of a name.
     ///
     /// ```
     /// # #[cfg(feature = "sqlite")]
@@ -374,25 +378,25 @@ impl Request {
     pub fn named(&self, name: &str) -> Result<Option<Stage>, StoreError> {
         self.inner.catch_up()?;
         let mut view = self.inner.view();
-        for number in 0..view.len() as u16 {
-            if view.said(number)?.name == name {
-                return Ok(Some(Stage::of(self, number)));
+        for number in 0..view.stage_count() as u16 {
+            if view.stage_spec(number)?.name == name {
+                return Ok(Some(Stage::new(self, number)));
             }
         }
         Ok(None)
     }
 
-    /// Reads what other processes have put since.
+    /// Reads what other processes have put.
     pub fn refresh(&self) -> Result<(), StoreError> {
         self.inner.catch_up()
     }
 
-    /// All that happened until now, as the row tells it. It asks the store for each payload, so it takes time by the number of words.
+    /// Reads all that has happened. It asks the store for each payload, so it takes longer the more words there are.
     pub fn history(&self) -> Result<History, StoreError> {
-        self.history_by(|it| it.all())
+        self.history_described_by(|it| it.full_text())
     }
 
-    /// The same, of which `tells` says what is told of a value or an error: less than all, where a history is to hold no secrets.
+    /// Reads all that has happened, and lets `tells` describe each value and error, for a history without secrets.
     ///
     /// ```
     /// # #[cfg(feature = "sqlite")]
@@ -400,13 +404,13 @@ impl Request {
     /// # let folder = std::env::temp_dir().join(format!("cf-store-history-{}", std::process::id()));
     /// # std::fs::create_dir_all(&folder)?;
     /// # let path = folder.join("orders.db");
-    /// use cf_store::{Functions, SQLite, Service, What};
+    /// use cf_store::{Functions, SQLite, Service, HistoryItem};
     ///
     /// let service = Service::new(SQLite::open(path)?, Functions::new())?;
     /// let request = service.request("login 3")?;
     /// request.promise("token")?.complete("Bearer eyJhbGciOi")?;
-    /// let history = request.history_by(|what| match what {
-    ///     What::Error(failed) => failed.kind.clone(),
+    /// let history = request.history_described_by(|what| match what {
+    ///     HistoryItem::Error(failed) => failed.kind.clone(),
     ///     _ => "a value".into(),
     /// })?;
     /// assert!(history.lines()?.contains("token ends: a value"));
@@ -417,96 +421,97 @@ impl Request {
     /// # #[cfg(not(feature = "sqlite"))]
     /// # fn main() {}
     /// ```
-    pub fn history_by(&self, tells: impl Fn(What<'_>) -> String) -> Result<History, StoreError> {
+    pub fn history_described_by(&self, tells: impl Fn(HistoryItem<'_>) -> String) -> Result<History, StoreError> {
         let opened = self.inner.view().opened.clone();
         History::new(&*self.service.store, &*self.service.host, opened, tells)
     }
 
-    /// Closes the request: nothing is left to do in it, and workers look at it no more. Its timers are forgotten. A flow's request is closed by itself
-    /// once all its stages are settled. A stage that is attached opens a request again.
+    /// Closes the request, so that workers leave it alone, and forgets its timers. A flow's request closes by itself once all its stages are settled.
+    /// Attaching a stage opens a closed request again.
     pub fn end(&self) -> Result<(), StoreError> {
         self.inner.catch_up()?;
         let seen = self.inner.seen.load(Ordering::Relaxed);
-        if self.service.sure(|| self.service.store.end(&self.inner.name, self.inner.number, seen))? {
+        if self.service.retrying_for_a_minute(|| self.service.store.end(&self.inner.name, self.inner.number, seen))? {
             self.service.tell_end(&self.inner);
         }
         Ok(())
     }
 
-    fn said(&self, function: &str) -> Result<Said, StoreError> {
+    fn function_spec(&self, function: &str) -> Result<StageSpec, StoreError> {
         let version = self.service.functions.latest(function).ok_or_else(|| StoreError::NotRegistered(function.into()))?;
-        let context = context::captured();
-        Ok(Said { name: function.into(), function: Some(function.into()), version: Some(version), context, ..Said::default() })
+        let context = context::capture();
+        Ok(StageSpec { name: function.into(), function: Some(function.into()), version: Some(version), context, ..StageSpec::default() })
     }
 
-    fn attach(&self, form: Form, of: Of, said: Said) -> Result<Stage, StoreError> {
-        self.attached(form, of, said, |view, said| {
-            let function = crate::plan::has_function(form).then_some(view.len() as u16);
-            Ok(vec![Wanted { call: Call::Attach(form, of, function), payload: Some(bytes_said(said)?) }])
+    fn attach(&self, form: Form, of: Of, said: StageSpec) -> Result<Stage, StoreError> {
+        self.attach_by_words(form, of, said, |view, said| {
+            let function = crate::plan::has_function(form).then_some(view.stage_count() as u16);
+            Ok(vec![WantedWord { call: Call::Attach(form, of, function), payload: Some(spec_bytes(said)?) }])
         })
     }
 
-    /// Attaches a stage that composes, below which stands the promise for what comes.
-    fn compose(&self, form: Form, source: u16, said: Said) -> Result<Stage, StoreError> {
-        let promise = bytes_said(&Said { name: format!("what {} gives", said.name), ..Said::default() })?;
-        self.attached(form, Of::One(source), said, |view, said| {
-            let number = view.len() as u16;
-            let own = bytes_said(&Said { to: Some(number), ..said.clone() })?;
+    /// Attaches a composing stage, and right below it its promise.
+    fn attach_composing(&self, form: Form, source: u16, said: StageSpec) -> Result<Stage, StoreError> {
+        let promise = spec_bytes(&StageSpec { name: format!("what {} gives", said.name), ..StageSpec::default() })?;
+        self.attach_by_words(form, Of::One(source), said, |view, said| {
+            let number = view.stage_count() as u16;
+            let own = spec_bytes(&StageSpec { to: Some(number), ..said.clone() })?;
             Ok(vec![
-                Wanted { call: Call::Attach(Form::Source, Of::None, None), payload: Some(promise.clone()) },
-                Wanted { call: Call::Attach(form, Of::One(source), Some(number + 1)), payload: Some(own) },
+                WantedWord { call: Call::Attach(Form::Source, Of::None, None), payload: Some(promise.clone()) },
+                WantedWord { call: Call::Attach(form, Of::One(source), Some(number + 1)), payload: Some(own) },
             ])
         })
     }
 
-    /// Puts words that attach stages, the last of which is of this form, and gives that; or the one that an earlier try of the function has attached
-    /// that runs on this thread. A request that is closed in the store is opened again with that.
-    fn attached(
+    /// Puts words that attach stages, and gives the last one, which is of this form; or the one that an earlier try of this thread's composing
+    /// function has attached. Opens a closed request again.
+    fn attach_by_words(
         &self,
         form: Form,
         of: Of,
-        mut said: Said,
-        words: impl Fn(&mut View, &Said) -> Result<Vec<Wanted>, StoreError>,
+        mut said: StageSpec,
+        words: impl Fn(&mut RowView, &StageSpec) -> Result<Vec<WantedWord>, StoreError>,
     ) -> Result<Stage, StoreError> {
-        said.by = self.inner.composed(|it| it.first);
+        said.by = self.inner.ask_composing(|it| it.first);
         let mut found = None;
-        let decide = |view: &mut View| {
-            if let Some((stage, first, taken)) = self.inner.composed(|it| (it.stage, it.first, it.taken.clone())) {
-                if !view.has(stage)? {
-                    let why = format!("{:?} is settled, and its function attaches nothing any more", view.said(first)?.name);
+        let decide = |view: &mut RowView| {
+            if let Some((stage, first, taken)) = self.inner.ask_composing(|it| (it.stage, it.first, it.taken.clone())) {
+                if !view.has_claim(stage)? {
+                    let why = format!("{:?} is settled, and its function attaches nothing any more", view.stage_spec(first)?.name);
                     return Err(StoreError::Refused(why));
                 }
-                found = if stage == first { None } else { view.attached_so(form, of, &said, &taken)? };
+                found = if stage == first { None } else { view.find_attached(form, of, &said, &taken)? };
             }
             if found.is_some() {
                 return Ok(Vec::new());
             }
             words(view, &said)
         };
-        let done = self.inner.acts(true, decide);
+        let done = self.inner.put_words_and_open(true, decide);
         if matches!(done, Ok(_) | Err(StoreError::Unknown(_))) {
-            self.service.keep(&self.inner); // (behind the put: who has seen it closed before doesn't let it go. Where no answer came it may stand)
+            self.service.keep_request(&self.inner); // (behind the put: who has seen it closed before doesn't let it go. Where no answer came it may stand)
         }
-        self.service.go_on(&self.inner);
+        self.service.serve_if_needed(&self.inner);
         let number = match (found, done?.last().map(|it| it.reply)) {
             (Some(number), _) | (None, Some(Reply::Attached(Some(number)))) => number,
             _ => return Err(StoreError::Full),
         };
-        self.inner.composed(|it| it.taken.insert(number));
-        Ok(Stage::of(self, number))
+        self.inner.ask_composing(|it| it.taken.insert(number));
+        Ok(Stage::new(self, number))
     }
 
     /// Completes a flow's promises, but those that are settled.
     pub(crate) fn complete_all(&self, given: &[(u16, Option<Vec<u8>>)]) -> Result<(), StoreError> {
         for some in given.chunks(MOST_GIVEN) {
-            let complete = |(stage, payload): &(u16, Option<Vec<u8>>)| Wanted { call: Call::Complete(*stage, Value::Nil), payload: payload.clone() };
-            self.inner.act(|view| Ok(some.iter().filter(|(stage, _)| !view.is_settled(*stage)).map(complete).collect()))?;
+            let complete =
+                |(stage, payload): &(u16, Option<Vec<u8>>)| WantedWord { call: Call::Complete(*stage, Value::Nil), payload: payload.clone() };
+            self.inner.put_words(|view| Ok(some.iter().filter(|(stage, _)| !view.is_settled(*stage)).map(complete).collect()))?;
         }
-        self.service.go_on(&self.inner);
+        self.service.serve_if_needed(&self.inner);
         Ok(())
     }
 
-    fn has_all(&self, of: &[&Stage]) -> Result<(), StoreError> {
+    fn check_own(&self, of: &[&Stage]) -> Result<(), StoreError> {
         match of.iter().find(|it| !Arc::ptr_eq(&it.request.inner, &self.inner)) {
             None => Ok(()),
             Some(other) => {
@@ -515,11 +520,11 @@ impl Request {
         }
     }
 
-    /// An attached stage has at most two sources; a tree of them tells what one stage of all would.
-    fn tree(&self, form: Form, of: &[&Stage], name: &str) -> Result<Stage, StoreError> {
-        self.has_all(of)?;
+    /// Attaches a tree of stages with at most two sources each, which ends as one stage of all sources would.
+    fn attach_tree(&self, form: Form, of: &[&Stage], name: &str) -> Result<Stage, StoreError> {
+        self.check_own(of)?;
         let mut row: Vec<u16> = of.iter().map(|it| it.number).collect();
-        let said = || Said { name: name.into(), ..Said::default() };
+        let said = || StageSpec { name: name.into(), ..StageSpec::default() };
         while row.len() > 2 {
             let mut above = Vec::with_capacity(row.len() / 2 + 1);
             for pair in row.chunks(2) {
@@ -540,48 +545,48 @@ impl Request {
 }
 
 impl Stage {
-    fn of(request: &Request, number: u16) -> Stage {
+    fn new(request: &Request, number: u16) -> Stage {
         #[cfg(feature = "testing")]
         request.inner.given.lock().unwrap_or_else(PoisonError::into_inner).insert(number);
         Stage { request: request.clone(), number }
     }
 
-    /// Its number in the request.
+    /// The stage's number in the request.
     pub fn number(&self) -> u16 {
         self.number
     }
 
-    /// What histories call it: the name of its function, or of the promise.
+    /// The stage's name in histories: that of its function, or of the promise.
     pub fn name(&self) -> Result<String, StoreError> {
-        Ok(self.request.inner.view().said(self.number)?.name)
+        Ok(self.request.inner.view().stage_spec(self.number)?.name)
     }
 
-    /// Has a registered function called with the value of this stage.
+    /// Calls a registered function with the value of this stage.
     pub fn then(&self, function: &str) -> Result<Stage, StoreError> {
-        self.behind(Form::Apply, Of::One(self.number), function)
+        self.attach_behind(Form::Apply, Of::One(self.number), function)
     }
 
-    /// Has a registered function called with the values of this stage and another one of the request.
+    /// Calls a registered function with the values of this stage and of another one of the request.
     pub fn combine(&self, other: &Stage, function: &str) -> Result<Stage, StoreError> {
-        self.request.has_all(&[other])?;
-        self.behind(Form::Combine, Of::Two(self.number, other.number), function)
+        self.request.check_own(&[other])?;
+        self.attach_behind(Form::Combine, Of::Two(self.number, other.number), function)
     }
 
-    /// Has a registered function called with the value of this stage or of another one of the request, whichever is settled first.
+    /// Calls a registered function with the value of this stage or of another one of the request, whichever is settled first.
     pub fn either(&self, other: &Stage, function: &str) -> Result<Stage, StoreError> {
-        self.request.has_all(&[other])?;
-        self.behind(Form::ApplyEither, Of::Two(self.number, other.number), function)
+        self.request.check_own(&[other])?;
+        self.attach_behind(Form::ApplyEither, Of::Two(self.number, other.number), function)
     }
 
-    /// Has a registered function called with the value, or null, and the [`Failed`], or null.
+    /// Calls a registered function with the value, or null, and the [`Failed`], or null.
     pub fn handle(&self, function: &str) -> Result<Stage, StoreError> {
-        self.behind(Form::Handle, Of::One(self.number), function)
+        self.attach_behind(Form::Handle, Of::One(self.number), function)
     }
 
-    /// Has a registered function called with the value, or null, and the [`Failed`], or null, and ends as this stage does, or with the function's own
+    /// Calls a registered function with the value, or null, and the [`Failed`], or null, and ends as this stage does, or with the function's own
     /// error.
     pub fn when_done(&self, function: &str) -> Result<Stage, StoreError> {
-        self.behind(Form::WhenComplete, Of::One(self.number), function)
+        self.attach_behind(Form::WhenComplete, Of::One(self.number), function)
     }
 
     /// Has a registered function attach stages to this request, and waits for one of them without holding a thread. The function is one that was
@@ -634,26 +639,27 @@ impl Stage {
     /// # fn main() {}
     /// ```
     pub fn compose(&self, function: &str) -> Result<Stage, StoreError> {
-        self.request.compose(Form::Compose, self.number, self.request.said(function)?)
+        self.request.attach_composing(Form::Compose, self.number, self.request.function_spec(function)?)
     }
 
-    /// Has a registered function called with the [`Failed`] that this stage ends in, if it does, and takes its result.
+    /// Calls a registered function with the [`Failed`] of this stage, if it fails, and takes its result.
     pub fn recover(&self, function: &str) -> Result<Stage, StoreError> {
-        self.behind(Form::Exceptionally, Of::One(self.number), function)
+        self.attach_behind(Form::Exceptionally, Of::One(self.number), function)
     }
 
     /// Plans further tries, for the case that the process that runs this stage's function dies. The function may have done its work before, and does
     /// it once more with each try, unless it is transactional. It gives the last try, which passes on the value of an earlier one.
     ///
-    /// Of a stage that composes each try takes two stages. What an earlier try has attached isn't attached once more, if the function attaches the same
-    /// on its own thread: a stage of the same kind, name, function, arguments and sources.
+    /// Of a stage that composes each try takes two stages. What an earlier try has attached isn't attached once more, if the function attaches the
+    /// same on its own thread: a stage of the same kind, name, function, arguments and sources.
     pub fn again(&self, times: usize) -> Result<Stage, StoreError> {
-        let composes = self.request.inner.view().said(self.number)?.to.is_some();
-        let said = Said { name: format!("{} again", self.name()?), again: Some(self.number), context: context::captured(), ..Said::default() };
+        let composes = self.request.inner.view().stage_spec(self.number)?.to.is_some();
+        let said =
+            StageSpec { name: format!("{} again", self.name()?), again: Some(self.number), context: context::capture(), ..StageSpec::default() };
         let mut stage = self.clone();
         for _ in 0..times {
             stage = if composes {
-                self.request.compose(Form::ExceptionallyCompose, stage.number, said.clone())?
+                self.request.attach_composing(Form::ExceptionallyCompose, stage.number, said.clone())?
             } else {
                 self.request.attach(Form::Exceptionally, Of::One(stage.number), said.clone())?
             };
@@ -661,8 +667,8 @@ impl Stage {
         Ok(stage)
     }
 
-    fn behind(&self, form: Form, of: Of, function: &str) -> Result<Stage, StoreError> {
-        self.request.attach(form, of, self.request.said(function)?)
+    fn attach_behind(&self, form: Form, of: Of, function: &str) -> Result<Stage, StoreError> {
+        self.request.attach(form, of, self.request.function_spec(function)?)
     }
 
     /// Settles the stage with a value, unless it is settled. Whether this call settled it.
@@ -673,7 +679,7 @@ impl Stage {
 
     /// Settles the stage with an error, unless it is settled. Whether this call settled it.
     pub fn fail(&self, failed: &Failed) -> Result<bool, StoreError> {
-        self.settle(Call::Fail(self.number, 0), Some(bytes_of(failed)), false)
+        self.settle(Call::Fail(self.number, 0), Some(failed_bytes(failed)), false)
     }
 
     /// Cancels the stage, unless it is settled or its function runs in some process. Whether it is cancelled after the call.
@@ -689,11 +695,11 @@ impl Stage {
 
     fn settle(&self, call: Call, payload: Option<Vec<u8>>, waits: bool) -> Result<bool, StoreError> {
         let (inner, number) = (&self.request.inner, self.number);
-        let done = inner.act(|view| {
+        let done = inner.put_words(|view| {
             let rests = view.is_settled(number) || waits && view.holder(number)?.is_some();
-            Ok(if rests { vec![] } else { vec![Wanted { call, payload: payload.clone() }] })
+            Ok(if rests { vec![] } else { vec![WantedWord { call, payload: payload.clone() }] })
         });
-        self.request.service.go_on(inner);
+        self.request.service.serve_if_needed(inner);
         match done?.first().map(|it| it.reply) {
             Some(Reply::Flag(won)) => Ok(won),
             _ => Ok(matches!(call, Call::Cancel(_)) && inner.view().state(number) == CANCELLED),
@@ -726,31 +732,31 @@ impl Stage {
     /// ```
     pub fn or_timeout(&self, wait: Duration) -> Result<(), StoreError> {
         let text = format!("{} took longer than {} s", self.name()?, wait.as_secs_f64());
-        self.later(wait, b'E', &bytes_of(&Failed::new("TimeoutError", text)))
+        self.set_timer(wait, b'E', &failed_bytes(&Failed::new("TimeoutError", text)))
     }
 
     /// Sets a timer in the store, by which the stage gets a value unless it is settled, as [`or_timeout`](Stage::or_timeout).
     pub fn complete_on_timeout<T: Serialize + ?Sized>(&self, value: &T, wait: Duration) -> Result<(), StoreError> {
         match payload_of(value)? {
-            Some(value) => self.later(wait, b'V', &value),
-            None => self.later(wait, b'N', &[]),
+            Some(value) => self.set_timer(wait, b'V', &value),
+            None => self.set_timer(wait, b'N', &[]),
         }
     }
 
-    fn later(&self, wait: Duration, kind: u8, what: &[u8]) -> Result<(), StoreError> {
+    fn set_timer(&self, wait: Duration, kind: u8, what: &[u8]) -> Result<(), StoreError> {
         let (inner, service) = (&self.request.inner, &self.request.service);
         if inner.view().is_settled(self.number) {
             return Ok(());
         }
         let payload = [&[kind], what].concat();
-        service.sure(|| {
+        service.retrying_for_a_minute(|| {
             let due = service.store.now()? + wait.as_secs_f64();
             service.store.set_timer(&Timer { request: inner.name.clone(), number: inner.number, stage: self.number, due, payload: payload.clone() })
         })
     }
 
-    /// Waits until the stage is settled, also while the store doesn't answer, and gives its value. It holds its thread: within a task of tokio's call it
-    /// by `spawn_blocking`, as each call that asks the store.
+    /// Waits until the stage is settled, also while the store doesn't answer, and gives its value. It holds its thread: within a task of tokio's
+    /// call it by `spawn_blocking`, as each call that asks the store.
     ///
     /// # Errors
     ///
@@ -788,7 +794,7 @@ impl Stage {
         self.wait_until(Some(self.request.service.host.now() + wait))
     }
 
-    /// What the stage has come to by what this process has read, if it is settled. Its value may have to be read, for 0.2 s at most.
+    /// Reads the value if this process knows that the stage is settled. That may take 0.2 s.
     pub fn peek<T: DeserializeOwned>(&self) -> Result<Option<T>, Error> {
         self.wait_timeout(Duration::ZERO)
     }
@@ -797,18 +803,18 @@ impl Stage {
         let inner = &self.request.inner;
         let least = inner.host.now() + LEAST_READING;
         loop {
-            let shown = *locked(&inner.shown); // (before the look: what is shown from here on isn't waited for)
-            let pause = match self.look(until.is_some())? {
+            let shown = *lock(&inner.shown); // (before the look: what is shown from here on isn't waited for)
+            let pause = match self.look_at_end(until.is_some())? {
                 Look::Ended(end) => {
                     return end.and_then(|value| serde_json::from_value(value).map(Some).map_err(|why| Error::Unreadable(why.to_string())))
                 }
                 Look::Open => None,
                 Look::Later(pause) => Some(pause),
             };
-            if let Some(fault) = &*locked(&inner.fault) {
+            if let Some(fault) = &*lock(&inner.fault) {
                 return Err(fault.clone().into());
             }
-            if self.request.service.is_over() {
+            if self.request.service.is_stopping() {
                 return Err(StoreError::Refused("the service is shut down".into()).into());
             }
             let until = if pause.is_some() { until.map(|it| it.max(least)) } else { until };
@@ -816,21 +822,21 @@ impl Stage {
             if left == Some(Duration::ZERO) {
                 return Ok(None);
             }
-            self.rest(shown, left.into_iter().chain(pause).min());
+            self.wait_for_shown(shown, left.into_iter().chain(pause).min());
         }
     }
 
-    /// What is known of the stage now. Where the waiting has a limit nobody is waited for, neither who has the view nor the store.
-    fn look(&self, is_limited: bool) -> Result<Look, StoreError> {
+    /// Looks at the stage now. If the wait has a limit, it waits neither for the view nor for the store.
+    fn look_at_end(&self, is_limited: bool) -> Result<Look, StoreError> {
         let inner = &self.request.inner;
         loop {
             let view = if is_limited && inner.host.has_threads() { inner.try_view() } else { Some(inner.view()) };
             let Some(mut view) = view else { return Ok(Look::Later(BETWEEN_LOOKS)) };
-            let Some(place) = view.unread(self.number) else {
-                return Ok(view.end_of(self.number)?.map_or(Look::Open, Look::Ended));
+            let Some(place) = view.unread_place(self.number) else {
+                return Ok(view.read_end(self.number)?.map_or(Look::Open, Look::Ended));
             };
-            if let Some(told) = inner.take_read(place) {
-                view.keep(place, told?);
+            if let Some(told) = inner.take_payload_read(place) {
+                view.keep_payload(place, told?);
                 continue;
             }
             drop(view);
@@ -840,32 +846,32 @@ impl Stage {
         }
     }
 
-    /// Waits until more was shown, or so long.
-    fn rest(&self, shown: u64, wait: Option<Duration>) {
+    /// Waits until something is published, for `wait` at most.
+    fn wait_for_shown(&self, shown: u64, wait: Option<Duration>) {
         let inner = &self.request.inner;
         if inner.host.has_threads() {
             let wait = wait.unwrap_or(Duration::from_secs(3600));
-            drop(inner.changed.wait_timeout_while(locked(&inner.shown), wait, |now| *now == shown));
+            drop(inner.changed.wait_timeout_while(lock(&inner.shown), wait, |now| *now == shown));
             return;
         }
         let name = self.name().unwrap_or_default();
         let (its, number) = (Arc::clone(inner), self.number);
-        let is_faulty = move || locked(&its.fault).is_some();
+        let is_faulty = move || lock(&its.fault).is_some();
         let view = Arc::clone(&inner.view);
-        inner.host.until(&name, Arc::new(move || is_shown(&view, number) || is_faulty()), wait);
+        inner.host.wait_until(&name, Arc::new(move || knows_settled(&view, number) || is_faulty()), wait);
     }
 }
 
-/// What who waits is told.
+/// The result of a waiter's look.
 enum Look {
     Ended(Result<Json, Error>),
     Open,
-    /// It is to look again after so long, or once more was shown.
+    /// Look again after this pause, or once something is published.
     Later(Duration),
 }
 
-/// Whether a view, if nobody has it, knows that a stage is settled.
-fn is_shown(view: &Mutex<View>, stage: u16) -> bool {
+/// Whether a view that no thread has knows that a stage is settled.
+fn knows_settled(view: &Mutex<RowView>, stage: u16) -> bool {
     match view.try_lock() {
         Ok(view) => view.is_settled(stage),
         Err(TryLockError::Poisoned(view)) => view.into_inner().is_settled(stage),
@@ -875,16 +881,16 @@ fn is_shown(view: &Mutex<View>, stage: u16) -> bool {
 
 const CANCELLED: State = State::Settled(Outcome::Fault { cause: cf_graph::Cause::Cancelled, wrapped: false });
 
-/// Until who waits looks again, where another thread has the view.
+/// The pause of a waiter while another thread has the view.
 const BETWEEN_LOOKS: Duration = Duration::from_millis(2);
-/// Until a payload is asked for again.
+/// The pause before a payload is asked for again.
 const BETWEEN_READS: Duration = Duration::from_millis(100);
-/// For so long at least a payload is waited for.
+/// The least time that a payload is waited for.
 const LEAST_READING: Duration = Duration::from_millis(200);
-/// Promises that are completed in one put.
+/// The most promises that one put completes.
 const MOST_GIVEN: usize = 32;
 
-fn bytes_said(said: &Said) -> Result<Vec<u8>, StoreError> {
+fn spec_bytes(said: &StageSpec) -> Result<Vec<u8>, StoreError> {
     serde_json::to_vec(said).map_err(|error| StoreError::Refused(error.to_string()))
 }
 
@@ -894,33 +900,33 @@ pub(crate) fn payload_of<T: Serialize + ?Sized>(value: &T) -> Result<Option<Vec<
     Ok((bytes != b"null").then_some(bytes))
 }
 
-/// What a timer does to its stage.
-pub(crate) fn fired(timer: &Timer) -> Wanted {
+/// The word that a timer puts.
+pub(crate) fn timer_word(timer: &Timer) -> WantedWord {
     let what = timer.payload.get(1..).map(<[u8]>::to_vec);
     match timer.payload.first() {
-        Some(b'E') => Wanted { call: Call::FailAs(timer.stage, Failure::TimedOut), payload: what },
-        Some(b'V') => Wanted { call: Call::Complete(timer.stage, Value::Nil), payload: what },
-        _ => Wanted { call: Call::Complete(timer.stage, Value::Nil), payload: None },
+        Some(b'E') => WantedWord { call: Call::FailAs(timer.stage, Failure::TimedOut), payload: what },
+        Some(b'V') => WantedWord { call: Call::Complete(timer.stage, Value::Nil), payload: what },
+        _ => WantedWord { call: Call::Complete(timer.stage, Value::Nil), payload: None },
     }
 }
 
-/// What a function gave.
-pub(crate) enum Given {
+/// The result of a function.
+pub(crate) enum Returned {
     Value(Json),
-    /// A stage, as which the promise of its own stage is to end.
+    /// A stage. The composing stage's promise ends as it does.
     Stage {
         promise: u16,
         stage: u16,
     },
 }
 
-/// The answer of a finish at a place, by what the function came to, and its payload.
-pub(crate) fn answer_of(result: &Result<Given, Failed>, place: usize) -> (Answer, Option<Vec<u8>>) {
+/// The answer of a finish at a place, and its payload.
+pub(crate) fn answer_of(result: &Result<Returned, Failed>, place: usize) -> (Answer, Option<Vec<u8>>) {
     match result {
-        Ok(Given::Value(Json::Null)) => (Answer::Give(Value::Nil), None),
-        Ok(Given::Value(value)) => (Answer::Give(Value::Int(place as i32)), Some(value.to_string().into_bytes())),
-        Ok(Given::Stage { promise, stage }) => (Answer::Link(*promise), Some(json!({ "stage": stage }).to_string().into_bytes())),
-        Err(failed) => (Answer::Throw(place as u32), Some(bytes_of(failed))),
+        Ok(Returned::Value(Json::Null)) => (Answer::Give(Value::Nil), None),
+        Ok(Returned::Value(value)) => (Answer::Give(Value::Int(place as i32)), Some(value.to_string().into_bytes())),
+        Ok(Returned::Stage { promise, stage }) => (Answer::Link(*promise), Some(json!({ "stage": stage }).to_string().into_bytes())),
+        Err(failed) => (Answer::Throw(place as u32), Some(failed_bytes(failed))),
     }
 }
 

@@ -1,55 +1,55 @@
-//! Which sessions are there, by their beats and by the words that they put.
+//! Which sessions are alive, by their beats and their words.
 use crate::error::StoreError;
 use std::collections::BTreeMap;
 use std::sync::atomic::{AtomicBool, Ordering};
 use std::sync::{Mutex, MutexGuard, PoisonError};
 use std::time::{Duration, Instant};
 
-/// After so many leases the beats of a session that is gone are dropped.
+/// The number of leases after which the beats of a gone session are dropped.
 const LONG_GONE: u32 = 100;
 
-/// What one service knows of all sessions, its own too.
+/// What a service knows of all sessions, its own included.
 pub(crate) struct Sessions {
     pub(crate) own: u64,
     watcher: Mutex<Watcher>,
-    /// Whether another one has failed a stage that this session had, and it hasn't beaten since.
+    /// Whether another session has failed a stage of this one, which hasn't beaten since.
     is_given_up: AtomicBool,
 }
 
 impl Sessions {
-    /// None is known but its own. Another one is gone after a lease without a sign of life.
+    /// Knows no session but its own. Another one is gone after a lease without a sign of life.
     pub(crate) fn new(own: u64, lease: Duration, now: Instant) -> Sessions {
         let watcher = Watcher { seen: BTreeMap::new(), time: Duration::ZERO, last: now, lease };
         Sessions { own, watcher: Mutex::new(watcher), is_given_up: AtomicBool::new(false) }
     }
 
     /// Takes in all beats, and gives the sessions that are long gone.
-    pub(crate) fn look(&self, now: Instant, beats: Result<BTreeMap<u64, i64>, StoreError>) -> Vec<u64> {
-        self.watcher().look(now, beats)
+    pub(crate) fn take_in_beats(&self, now: Instant, beats: Result<BTreeMap<u64, i64>, StoreError>) -> Vec<u64> {
+        self.watcher().take_in_beats(now, beats)
     }
 
-    /// A new word of a session's has come: it is there.
-    pub(crate) fn heard(&self, session: u64) {
-        self.watcher().hear(session);
+    /// Notes a new word of a session, which is a sign of life.
+    pub(crate) fn note_word_of(&self, session: u64) {
+        self.watcher().note_sign_of_life(session);
     }
 
-    /// Whether it is another's session, without a sign of life for a lease.
+    /// Whether another session gave no sign of life for a lease.
     pub(crate) fn is_gone(&self, session: u64) -> bool {
         session != self.own && self.watcher().is_gone(session)
     }
 
-    /// Another one has failed a stage that the own session had: it may have taken this one for gone. What is claimed before the next beat it may fail,
-    /// too.
-    pub(crate) fn give_up(&self) {
+    /// Notes that another session has failed a stage of this one, and may take it for gone. It may also fail what this one claims before its next
+    /// beat.
+    pub(crate) fn note_given_up(&self) {
         self.is_given_up.store(true, Ordering::SeqCst);
     }
 
-    /// The own session has beaten.
-    pub(crate) fn beaten(&self) {
+    /// Notes a beat of the own session.
+    pub(crate) fn note_own_beat(&self) {
         self.is_given_up.store(false, Ordering::SeqCst);
     }
 
-    /// Whether the own session has to beat before it claims a stage.
+    /// Whether the own session must beat before it claims a stage.
     pub(crate) fn is_given_up(&self) -> bool {
         self.is_given_up.load(Ordering::SeqCst)
     }
@@ -59,10 +59,10 @@ impl Sessions {
     }
 }
 
-/// Which sessions are gone, by this process's own clock: those that gave no sign of life for a lease in which the store answered. A pause between two
-/// looks counts for half of it at most, since this process, or the machine, stood still then, and others may have, too.
+/// Finds gone sessions by this process's own clock: those without a sign of life for a lease in which the store answered. A pause between two looks
+/// counts for half a lease at most, since the process or the machine stood still then, and others may have, too.
 struct Watcher {
-    /// The count of each session's beats, where it was read, and since when it has given no sign of life.
+    /// Each session's count of beats, if that was read, and the time of its last sign of life.
     seen: BTreeMap<u64, (Option<i64>, Duration)>,
     time: Duration,
     last: Instant,
@@ -71,7 +71,7 @@ struct Watcher {
 
 impl Watcher {
     /// Takes in all beats, and gives the sessions that are long gone. While the store is away nobody can beat.
-    fn look(&mut self, now: Instant, beats: Result<BTreeMap<u64, i64>, StoreError>) -> Vec<u64> {
+    fn take_in_beats(&mut self, now: Instant, beats: Result<BTreeMap<u64, i64>, StoreError>) -> Vec<u64> {
         self.time += (now - self.last).min(self.lease / 2);
         self.last = now;
         let Ok(beats) = beats else {
@@ -93,12 +93,12 @@ impl Watcher {
         gone
     }
 
-    fn hear(&mut self, session: u64) {
+    fn note_sign_of_life(&mut self, session: u64) {
         let time = self.time;
         self.seen.entry(session).or_insert((None, time)).1 = time;
     }
 
-    /// Whether a session gave no sign of life for so long. One that never beat counts from now on.
+    /// Whether a session gave no sign of life for a lease. One that never beat counts from now on.
     fn is_gone(&mut self, session: u64) -> bool {
         let time = self.time;
         let (_, since) = *self.seen.entry(session).or_insert((None, time));
@@ -121,7 +121,7 @@ mod tests {
         let are_gone = looks.map(|(pause, beaten)| {
             now += Duration::from_millis(pause);
             let beats = beaten.map(|count| BTreeMap::from([(7, count)]));
-            assert!(watcher.look(now, beats.ok_or_else(|| StoreError::Unknown("away".into()))).is_empty());
+            assert!(watcher.take_in_beats(now, beats.ok_or_else(|| StoreError::Unknown("away".into()))).is_empty());
             watcher.is_gone(7)
         });
         assert_eq!(are_gone, [false, false, false, true, false, false, false, false, false]);

@@ -1,6 +1,6 @@
 //! Rows in a file of SQLite's, which processes of one machine share, Python's too.
 use crate::error::StoreError;
-use crate::store::{in_a_row, Mark, News, Opened, Put, Store, Timer, Transaction};
+use crate::store::{check_row, Mark, Opened, Put, Store, Timer, Transaction, WordCounts};
 use cf_graph::Entry;
 use rusqlite::types::ValueRef;
 use rusqlite::{params, Connection, ErrorCode, OptionalExtension, Row, ToSql};
@@ -70,7 +70,7 @@ impl SQLite {
         Ok(store)
     }
 
-    fn connected(&self) -> rusqlite::Result<Connection> {
+    fn connect(&self) -> rusqlite::Result<Connection> {
         let db = Connection::open(&self.path)?;
         db.busy_timeout(LONGEST_WAIT)?;
         let mode: String = db.query_row("pragma journal_mode=wal", [], |row| row.get(0))?;
@@ -85,14 +85,14 @@ impl SQLite {
     /// Uses a connection. One whose transaction couldn't be undone isn't used again.
     fn using<T>(&self, act: impl FnOnce(&mut Connection) -> rusqlite::Result<T>) -> Result<T, StoreError> {
         let idle = self.idle.lock().unwrap_or_else(PoisonError::into_inner).pop();
-        let used = idle.map_or_else(|| self.connected(), Ok).and_then(|mut db| {
+        let used = idle.map_or_else(|| self.connect(), Ok).and_then(|mut db| {
             let told = act(&mut db);
             if db.is_autocommit() {
                 self.idle.lock().unwrap_or_else(PoisonError::into_inner).push(db);
             }
             told
         });
-        used.map_err(|error| self.told(&error))
+        used.map_err(|error| self.store_error(&error))
     }
 
     /// Acts in a transaction, in the line of writers. (Its statements are prepared once a connection.)
@@ -135,7 +135,7 @@ impl SQLite {
         gets.recv_timeout(LONGEST_WAIT).map_err(|_| away(&format!("another process has the file for {LONGEST_WAIT:?}")))
     }
 
-    fn told(&self, error: &rusqlite::Error) -> StoreError {
+    fn store_error(&self, error: &rusqlite::Error) -> StoreError {
         let text = format!("{}: {error}", self.path.display());
         match error.sqlite_error_code() {
             Some(
@@ -209,7 +209,7 @@ impl Store for SQLite {
         if rows.is_empty() {
             return Err(StoreError::Gone(name.into()));
         }
-        in_a_row(name, at, rows.into_iter().filter_map(|(place, word, token)| Some((place?, word?, token?))))
+        check_row(name, at, rows.into_iter().filter_map(|(place, word, token)| Some((place?, word?, token?))))
     }
 
     fn payloads(&self, name: &str, number: i64, places: &[usize]) -> Result<Vec<Option<Vec<u8>>>, StoreError> {
@@ -237,7 +237,7 @@ impl Store for SQLite {
         }
     }
 
-    fn news(&self, since: Option<Mark>) -> Result<(News, Mark), StoreError> {
+    fn news(&self, since: Option<Mark>) -> Result<(WordCounts, Mark), StoreError> {
         // Rows are numbered in the order of their commits, since SQLite has one writer. Where the last ones were dropped numbers come again, and
         // what was put by then is told without a mark.
         let last = "select (select coalesce(max(n), 0) from cf_word), (select coalesce(max(id), 0) from cf_request)";
@@ -262,10 +262,10 @@ impl Store for SQLite {
         loop {
             let (db, last) = match watch.take() {
                 Some(known) => known,
-                None => (self.connected().map_err(|error| self.told(&error))?, -1),
+                None => (self.connect().map_err(|error| self.store_error(&error))?, -1),
             };
             let read = db.prepare_cached("pragma data_version").and_then(|mut it| it.query_row([], |row| row.get(0)));
-            let now = read.map_err(|error| self.told(&error))?;
+            let now = read.map_err(|error| self.store_error(&error))?;
             *watch = Some((db, now));
             let left = until.saturating_duration_since(Instant::now());
             if now != last || left.is_zero() {
@@ -349,9 +349,9 @@ impl Store for SQLite {
 
     fn transaction(&self) -> Result<Box<dyn Transaction + '_>, StoreError> {
         let turn = self.turn()?;
-        let begun = self.connected().and_then(|db| db.execute_batch("begin immediate; savepoint cf_function").map(|()| db));
-        let db = begun.map_err(|error| self.told(&error))?;
-        Ok(Box::new(Open { store: self, db, _within: Within::new(&self.path), _turn: turn }))
+        let begun = self.connect().and_then(|db| db.execute_batch("begin immediate; savepoint cf_function").map(|()| db));
+        let db = begun.map_err(|error| self.store_error(&error))?;
+        Ok(Box::new(OpenTransaction { store: self, db, _within: Within::new(&self.path), _turn: turn }))
     }
 }
 
@@ -377,7 +377,7 @@ fn put_in(db: &Connection, put: Put<'_>) -> rusqlite::Result<bool> {
 }
 
 /// A function's own transaction. A connection that is dropped undoes what wasn't committed; then the next writer has its turn.
-struct Open<'a> {
+struct OpenTransaction<'a> {
     store: &'a SQLite,
     db: Connection,
     _within: Within,
@@ -414,7 +414,7 @@ impl Drop for Within {
     }
 }
 
-impl Transaction for Open<'_> {
+impl Transaction for OpenTransaction<'_> {
     fn connection(&mut self) -> &mut dyn Any {
         &mut self.db
     }
@@ -423,11 +423,11 @@ impl Transaction for Open<'_> {
         if self.db.execute_batch("release cf_function").is_err() {
             return Err(StoreError::Refused("the function has ended its transaction".into()));
         }
-        put_in(&self.db, put).map_err(|error| self.store.told(&error))
+        put_in(&self.db, put).map_err(|error| self.store.store_error(&error))
     }
 
     fn commit(&mut self) -> Result<(), StoreError> {
-        self.db.execute_batch("commit").map_err(|error| self.store.told(&error))
+        self.db.execute_batch("commit").map_err(|error| self.store.store_error(&error))
     }
 }
 

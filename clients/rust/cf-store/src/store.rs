@@ -5,7 +5,7 @@ use std::any::Any;
 use std::collections::BTreeMap;
 use std::time::Duration;
 
-/// A request as it was opened. If it is dropped and another one of its name is opened, that has another number.
+/// A request as it was opened. A later request of the same name has another number.
 #[derive(Clone, Debug, PartialEq)]
 pub struct Opened {
     /// The request's name.
@@ -25,22 +25,22 @@ pub struct Put<'a> {
     pub request: &'a str,
     /// The request's own number.
     pub number: i64,
-    /// Behind how many entries they are to stand.
+    /// The number of entries before them.
     pub at: usize,
     /// The entries, at least one.
     pub entries: &'a [Entry],
     /// The payloads of words that have one, by the words' places, which are counted from 1.
     pub payloads: &'a BTreeMap<usize, Vec<u8>>,
-    /// Whether the request is opened again with that, in one step, where it is closed.
+    /// Whether the put also opens a closed request again, in one step.
     pub opens: bool,
 }
 
-/// What is to become of a stage at a moment, unless it is settled by then.
+/// A timer, which settles a stage at a moment unless it is settled by then.
 #[derive(Clone, Debug, PartialEq)]
 pub struct Timer {
     /// The request's name.
     pub request: String,
-    /// The request's own number, or 0 for whichever has the name.
+    /// The request's own number, or 0 for any request of the name.
     pub number: i64,
     /// The stage.
     pub stage: u16,
@@ -50,15 +50,15 @@ pub struct Timer {
     pub payload: Vec<u8>,
 }
 
-/// Up to where [`Store::news`] has told: two numbers of the store's own.
+/// The point up to which [`Store::news`] has told: two numbers of the store's own.
 pub type Mark = (i64, i64);
 
-/// How many words requests have, by their names, or nothing of one that is closed.
-pub type News = BTreeMap<String, Option<usize>>;
+/// The number of words of each request, by name; None for a closed one.
+pub type WordCounts = BTreeMap<String, Option<usize>>;
 
-/// The entries of rows of a place, a word and a token, which stand behind `at` of them without a gap.
+/// Checks rows of a place, a word and a token, which stand behind `at` others without a gap, and gives their entries.
 #[cfg_attr(not(any(feature = "sqlite", feature = "postgres")), allow(dead_code))]
-pub(crate) fn in_a_row(name: &str, at: usize, rows: impl IntoIterator<Item = (i64, i64, i64)>) -> Result<Vec<Entry>, StoreError> {
+pub(crate) fn check_row(name: &str, at: usize, rows: impl IntoIterator<Item = (i64, i64, i64)>) -> Result<Vec<Entry>, StoreError> {
     let mut entries = Vec::new();
     for (place, word, token) in rows {
         let expected = at + entries.len();
@@ -79,67 +79,67 @@ pub(crate) fn in_a_row(name: &str, at: usize, rows: impl IntoIterator<Item = (i6
 /// The engine puts a group of entries whole or not at all, and only where none stands yet; what it has answered is on disk; and what it gives to
 /// read is the row, or a beginning of it.
 pub trait Store: Send + Sync {
-    /// Opens a request, or gives it as another opened it: then the plan may be another.
+    /// Opens a request, or gives the one of this name, which may have another plan.
     fn open(&self, name: &str, plan: &str) -> Result<Opened, StoreError>;
 
-    /// A request as it was opened, if it is there.
+    /// Finds a request.
     fn find(&self, name: &str) -> Result<Option<Opened>, StoreError>;
 
-    /// Puts entries: none where they stand now, else what stands from their first place on.
+    /// Puts entries. None if they stand now; otherwise the entries that stand from their first place on.
     fn append(&self, put: Put<'_>) -> Result<Option<Vec<Entry>>, StoreError>;
 
-    /// The entries behind `at` of them. A stale answer is a shorter one.
+    /// Reads the entries behind the first `at`. A stale answer is a shorter one.
     fn read(&self, name: &str, number: i64, at: usize) -> Result<Vec<Entry>, StoreError>;
 
-    /// The payload of a place, if it has one.
+    /// Reads the payload of a place, if it has one.
     fn payload(&self, name: &str, number: i64, place: usize) -> Result<Option<Vec<u8>>, StoreError>;
 
-    /// The payloads of several places, in their order. By default each is asked for by itself.
+    /// Reads the payloads of several places, in their order. By default it reads each by itself.
     fn payloads(&self, name: &str, number: i64, places: &[usize]) -> Result<Vec<Option<Vec<u8>>>, StoreError> {
         places.iter().map(|place| self.payload(name, number, *place)).collect()
     }
 
-    /// How many words those open requests have that may have changed since a mark, and the next mark. Without one, all of them, and none else. One that
-    /// was opened again may be told without a mark alone. Since a mark one that is closed may be told, too, to which words were put meanwhile.
-    fn news(&self, since: Option<Mark>) -> Result<(News, Mark), StoreError>;
+    /// Tells the number of words of each open request that may have changed since a mark, and the next mark. Without a mark it tells all open
+    /// requests and no others. With a mark it may leave out one that was opened again, and may include a closed one that got words meanwhile.
+    fn news(&self, since: Option<Mark>) -> Result<(WordCounts, Mark), StoreError>;
 
-    /// Waits until others may have put something since the last call, for so long at most. One thread at a time waits so.
+    /// Waits until others may have put something since the last call, for `wait` at most. One thread at a time calls it.
     fn changed(&self, wait: Duration) -> Result<(), StoreError>;
 
-    /// Marks a request as closed, where it has just so many words, and forgets its timers. Whether this call has closed it. A put takes that back that
-    /// [opens](Put::opens) the request.
+    /// Closes a request that has just `at` words, and forgets its timers. True if this call has closed it. A put that [opens](Put::opens) it takes
+    /// that back.
     fn end(&self, name: &str, number: i64, at: usize) -> Result<bool, StoreError>;
 
-    /// Says that a session is there.
+    /// Counts a beat of a session: a sign of life.
     fn beat(&self, session: u64) -> Result<(), StoreError>;
 
-    /// How often each session has said so.
+    /// Tells the number of beats of each session.
     fn beats(&self) -> Result<BTreeMap<u64, i64>, StoreError>;
 
     /// Forgets a session that has ended.
     fn drop_beat(&self, session: u64) -> Result<(), StoreError>;
 
-    /// Says what a session is called, as long as its beats are kept.
+    /// Names a session, as long as its beats are kept.
     fn name_session(&self, session: u64, name: &str) -> Result<(), StoreError>;
 
-    /// The store's clock, in seconds since 1970.
+    /// Tells the time of the store's clock, in seconds since 1970.
     fn now(&self) -> Result<f64, StoreError>;
 
-    /// Keeps a timer of a stage, in the place of one that it had.
+    /// Sets a stage's timer, in place of one that it had.
     fn set_timer(&self, timer: &Timer) -> Result<(), StoreError>;
 
-    /// The timers of moments up to this one.
+    /// Tells the timers that are due at this moment.
     fn due(&self, now: f64) -> Result<Vec<Timer>, StoreError>;
 
     /// Forgets a stage's timer.
     fn drop_timer(&self, timer: &Timer) -> Result<(), StoreError>;
 
-    /// Whether [`transaction`](Store::transaction) is there.
+    /// Whether [`transaction`](Store::transaction) is supported.
     fn transacts(&self) -> bool {
         false
     }
 
-    /// Whether nobody else can put while a transaction is open.
+    /// Whether an open transaction keeps all others from putting.
     fn locks_out(&self) -> bool {
         false
     }
@@ -152,17 +152,17 @@ pub trait Store: Send + Sync {
 
 /// A transaction of an engine, with a connection of its own. When it is dropped it ends without effect, unless it was committed.
 pub trait Transaction {
-    /// What a function is called with.
+    /// The connection that a function gets.
     fn connection(&mut self) -> &mut dyn Any;
 
-    /// Whether the connection is gone, or the engine can't write now, so that what a function failed with may be due to that. All is undone.
+    /// Whether the connection is gone, or the engine can't write now. Then a function's failure may be due to that, and all is undone.
     fn is_away(&mut self) -> bool {
         false
     }
 
-    /// Puts within the transaction: whether the place was free.
+    /// Puts within the transaction. False if the place was taken.
     fn append(&mut self, put: Put<'_>) -> Result<bool, StoreError>;
 
-    /// Lets all of it stand. [`StoreError::Unknown`] where it may or may not.
+    /// Commits. [`StoreError::Unknown`] if it may stand or not.
     fn commit(&mut self) -> Result<(), StoreError>;
 }

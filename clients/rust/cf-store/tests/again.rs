@@ -2,7 +2,7 @@
 #[macro_use]
 mod common;
 
-use cf_store::{Entry, Error, Flow, Functions, Mark, News, Opened, Put, Service, Store, StoreError, Timer};
+use cf_store::{Entry, Error, Flow, Functions, Mark, Opened, Put, Service, Store, StoreError, Timer, WordCounts};
 use common::{quick, settled, until, AnyStore, Place};
 use std::collections::BTreeMap;
 use std::sync::atomic::{AtomicU32, Ordering::SeqCst};
@@ -42,7 +42,7 @@ impl Store for Fails {
         fn find(name: &str) -> Option<Opened>;
         fn append(put: Put<'_>) -> Option<Vec<Entry>>;
         fn read(name: &str, number: i64, at: usize) -> Vec<Entry>;
-        fn news(since: Option<Mark>) -> (News, Mark);
+        fn news(since: Option<Mark>) -> (WordCounts, Mark);
         fn changed(wait: Duration) -> ();
         fn beat(session: u64) -> ();
         fn beats() -> BTreeMap<u64, i64>;

@@ -2,7 +2,7 @@
 #[macro_use]
 mod common;
 
-use cf_store::{context, within, Ends, Flow, Functions, History, Service, What};
+use cf_store::{context, within, Ends, Flow, Functions, History, HistoryItem, Service};
 use common::{quick, settled, Place};
 use serde_json::{json, Map, Value};
 use std::sync::mpsc::{channel, Receiver};
@@ -16,7 +16,7 @@ const LONG: Duration = Duration::from_secs(60);
 type Told = (String, Map<String, Value>);
 
 /// Ends that send what they are told, and who receives it.
-fn told(tells: fn(What<'_>) -> String) -> (Ends, Receiver<Told>) {
+fn told(tells: fn(HistoryItem<'_>) -> String) -> (Ends, Receiver<Told>) {
     let (sends, receives) = channel();
     let sends = Mutex::new(sends);
     let hook = move |history: &History| sends.lock().unwrap().send((history.lines().unwrap(), context())).unwrap();
@@ -33,7 +33,7 @@ fn service(place: &Place, ends: &Ends) -> Service {
 #[test]
 fn one_process_tells_the_end_of_a_flow() {
     let place = Place::new("ends of flows");
-    let (ends, told) = told(|what| what.all());
+    let (ends, told) = told(|what| what.full_text());
     let services = [service(&place, &ends), service(&place, &ends)];
     let mut flow = Flow::new("count");
     let number = flow.promise("number");

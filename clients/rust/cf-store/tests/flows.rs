@@ -2,7 +2,7 @@
 #[macro_use]
 mod common;
 
-use cf_store::{context, within, Error, Failed, Flow, Functions, Request, Service, Store, StoreError, What};
+use cf_store::{context, within, Error, Failed, Flow, Functions, HistoryItem, Request, Service, Store, StoreError};
 use common::{fits, printed, python, quick, settled, Place};
 use serde_json::{json, Map, Value};
 use std::time::{Duration, Instant};
@@ -166,8 +166,8 @@ fn histories_are_told() {
     assert_eq!((account["events"].as_array().unwrap().len(), account["name"].as_str()), (6, Some("order 17")));
     fits(&history.account().unwrap());
     assert!(history.script().unwrap().starts_with('{'));
-    let secret = request.history_by(|what| match what {
-        What::Value(_) => "a value".into(),
+    let secret = request.history_described_by(|what| match what {
+        HistoryItem::Value(_) => "a value".into(),
         _ => "an error".into(),
     });
     let told = secret.unwrap().lines().unwrap();

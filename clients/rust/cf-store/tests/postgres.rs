@@ -4,8 +4,9 @@ mod common;
 
 use cf_graph::{Call, Event, Form, Of};
 use cf_store::{Entry, Functions, Put, Service, Store, StoreError, Timer};
-use common::{quick, rows, settled, AnyStore, Place};
+use common::{quick, rows, settled, until, AnyStore, Place};
 use std::collections::BTreeMap;
+use std::sync::atomic::{AtomicU32, Ordering};
 use std::sync::{mpsc, Mutex};
 use std::time::Duration;
 
@@ -95,4 +96,22 @@ fn a_lock_that_is_not_free_loses_no_value() {
     std::thread::sleep(Duration::from_millis(200)); // (its finish is refused a few times)
     drop(locks);
     assert_eq!(settled::<i64>(&stage), Ok(7));
+}
+
+/// Notices are sent again once their connection has ended.
+#[test]
+fn a_put_is_noticed_by_any_connection() {
+    let Some((place, address)) = impatient("notices") else { return };
+    let store = AnyStore::open(&format!("{address}%20-capplication_name%3Dcf_notices"));
+    let sends = "application_name = 'cf_notices' and query = 'notify cf'";
+    let (many, words, none) = (AtomicU32::new(0), entries(1), BTreeMap::new());
+    for _ in 0..2 {
+        until(|| {
+            let name = format!("r {}", many.fetch_add(1, Ordering::SeqCst));
+            let number = store.open(&name, "{}").unwrap().number;
+            assert_eq!(store.append(Put { request: &name, ..put(number, &words, &none) }), Ok(None));
+            place.query(&format!("select pid::text from pg_stat_activity where {sends}")).len() == 1
+        });
+        place.query(&format!("select pg_terminate_backend(pid)::text from pg_stat_activity where {sends}"));
+    }
 }

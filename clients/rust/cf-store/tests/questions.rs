@@ -2,7 +2,7 @@
 #[macro_use]
 mod common;
 
-use cf_store::{Entry, Functions, Mark, News, Opened, Put, Service, Store, StoreError, Timer};
+use cf_store::{Entry, Functions, Mark, Opened, Put, Service, Store, StoreError, Timer, WordCounts};
 use common::{quick, settled, AnyStore, Place};
 use std::collections::BTreeMap;
 use std::sync::{Arc, Mutex};

@@ -2,12 +2,14 @@
 #[macro_use]
 mod common;
 
-use cf_store::{Error, Failed, Functions, Request, SQLite, Service, Store, StoreError};
-use common::{quick, settled, AnyStore, Place};
+use cf_store::{Entry, Error, Failed, Functions, Mark, Opened, Options, Put, Request, SQLite, Service, Store, StoreError, Timer, WordCounts};
+use common::{quick, settled, until, AnyStore, Place};
+use rustix::fs::{flock, FlockOperation};
 use serde_json::{json, Value};
+use std::collections::BTreeMap;
 use std::process::Command;
 use std::sync::atomic::{AtomicU32, Ordering};
-use std::sync::Arc;
+use std::sync::{Arc, Barrier};
 use std::time::Duration;
 
 fn add_one(number: i64) -> Result<i64, String> {
@@ -302,4 +304,72 @@ fn python_goes_on_with_it() {
     if common::python_goes_on(place.address(), || place.store()).is_none() {
         eprintln!("left out: CF_PYTHON and CF_LIBRARY name no client for Python with its library");
     }
+}
+
+/// A store of which the first two that read have to do so at the same time.
+struct Meets {
+    store: AnyStore,
+    reads: AtomicU32,
+    both: Barrier,
+}
+
+macro_rules! met {
+    ($(fn $name:ident($($arg:ident: $type:ty),*) -> $told:ty;)*) => {$(
+        fn $name(&self, $($arg: $type),*) -> Result<$told, StoreError> {
+            if stringify!($name) == "read" && self.reads.fetch_add(1, Ordering::SeqCst) < 2 {
+                self.both.wait();
+            }
+            self.store.$name($($arg),*)
+        }
+    )*};
+}
+
+impl Store for Meets {
+    questions!(met);
+}
+
+#[test]
+fn two_threads_that_open_a_request_have_the_same_one() {
+    let place = Place::new("meets");
+    Service::new(place.store(), Functions::new()).unwrap().request("r").unwrap().promise("p").unwrap();
+    let store = Meets { store: place.store(), reads: AtomicU32::new(0), both: Barrier::new(2) };
+    let service = Service::new(store, Functions::new()).unwrap();
+    let opened = std::thread::scope(|scope| [(); 2].map(|()| scope.spawn(|| service.open("r").unwrap())).map(|it| it.join().unwrap()));
+    for request in opened {
+        assert_eq!(request.stage(0).unwrap().peek::<i64>(), Ok(None));
+    }
+}
+
+/// Who writes waits for the turn of another process.
+#[test]
+fn who_has_no_turn_waits() {
+    let place = Place::new("turns");
+    let Some(path) = place.file() else { return };
+    let (store, done) = (place.store(), Arc::new(AtomicU32::new(0)));
+    let line = std::fs::File::options().write(true).open(format!("{}-line", path.display())).unwrap();
+    flock(&line, FlockOperation::LockExclusive).unwrap();
+    std::thread::scope(|scope| {
+        let opens = scope.spawn(|| {
+            store.open("r", "{}").unwrap();
+            done.load(Ordering::SeqCst)
+        });
+        std::thread::sleep(Duration::from_millis(100));
+        done.store(1, Ordering::SeqCst);
+        flock(&line, FlockOperation::Unlock).unwrap();
+        assert_eq!(opens.join().unwrap(), 1, "it has written before");
+    });
+}
+
+#[test]
+fn the_usual_options() {
+    let usual = Options::default();
+    assert_eq!((usual.threads, usual.lease, usual.takes_all, usual.on_end.is_none()), (4, Duration::from_secs(10), false, true));
+}
+
+/// By which histories tell it from others.
+#[test]
+fn a_service_has_the_name_of_its_process() {
+    let place = Place::new("names");
+    let _service = Service::new(place.store(), Functions::new()).unwrap();
+    until(|| place.query("select name from cf_name") == [format!("rust {}", std::process::id())]);
 }

@@ -2,7 +2,7 @@
 #[macro_use]
 mod common;
 
-use cf_store::{Entry, Error, Failed, Flow, Functions, Mark, News, Opened, Put, Service, Store, StoreError, Timer, Transaction};
+use cf_store::{Entry, Error, Failed, Flow, Functions, Mark, Opened, Put, Service, Store, StoreError, Timer, Transaction, WordCounts};
 use common::{quick, rows, settled, AnyStore, Place};
 use serde_json::json;
 use std::any::Any;

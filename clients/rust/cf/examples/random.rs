@@ -158,7 +158,7 @@ fn blamed(history: &cf::History) -> Vec<Option<u16>> {
         _ => None,
     };
     for &word in history.words() {
-        let Event { who, call } = Event::of_word(word).expect("an event");
+        let Event { who, call } = Event::from_word(word).expect("an event");
         let call = match call {
             Call::FailAs(stage, _) => {
                 // A relay of the same request has what the stage has for which it stands.
@@ -168,7 +168,7 @@ fn blamed(history: &cf::History) -> Vec<Option<u16>> {
             }
             call => call,
         };
-        ledger.act(Event { who, call }).expect("the words fit");
+        ledger.apply_event(Event { who, call }).expect("the words fit");
     }
     (0..history.names().len() as u16).map(|stage| code(&mut ledger, stage)).collect()
 }
@@ -193,7 +193,7 @@ fn have_their_errors(stages: &[Stage<i64>], history: &cf::History) -> bool {
 /// Whether a stage has what it needs, and its function isn't finished.
 fn is_open(history: &cf::History) -> bool {
     let mut plan = PlanBuilder::new().and_then(|plan| plan.build()).expect("a plan");
-    let mut ledger = Ledger::of_words(&mut plan, history.names().len().max(1) as u16, history.words()).expect("the words fit");
+    let mut ledger = Ledger::from_words(&mut plan, history.names().len().max(1) as u16, history.words()).expect("the words fit");
     (0..history.names().len() as u16).any(|stage| {
         let now = ledger.stage(stage).expect("the stage is there");
         now.who.is_some() || now.state == State::Ready || now.state == State::Claimed
@@ -230,12 +230,12 @@ fn main() {
             process::exit(1);
         }
         for history in [ended, settled(&raced.other), raced.midst] {
-            if !history.comes_again() {
+            if !history.is_reproducible() {
                 eprintln!("it doesn't come again:\n{history}");
                 process::exit(1);
             }
             if let Some(program) = look.take() {
-                let page = history.page_by(&program).expect("a page");
+                let page = history.page_made_by(&program).expect("a page");
                 assert!(page.starts_with("<!doctype html>") && page.contains(&format!("seed {seed}")), "{page}");
             }
             println!("{}\n{}\n{}", history.account().trim_end(), history.script(), history.report().replace('\n', "\t"));

@@ -1,5 +1,5 @@
 //! What is told aside of all else, one thing after another: on a thread that is there while something is left to tell.
-use crate::spawn::quietly;
+use crate::spawn::swallow_panic;
 use std::collections::VecDeque;
 use std::fmt;
 use std::io::{stderr, Write};
@@ -12,9 +12,9 @@ use std::time::Duration;
 const MOST: usize = 2048;
 
 /// Tells what it is given, on a thread of its own. It is a handle: clones are the same. It is public for the crate `cf-store` alone.
-pub struct Aside<T>(Arc<Shared<T>>);
+pub struct Aside<T>(Arc<AsideState<T>>);
 
-struct Shared<T> {
+struct AsideState<T> {
     tells: Box<dyn Fn(T) + Send + Sync>,
     queue: Mutex<Queue<T>>,
     /// Is rung as the thread ends, or where none could be started.
@@ -31,7 +31,7 @@ impl<T: Send + 'static> Aside<T> {
     /// One that tells by this function. If that panics, it is called for the next one all the same.
     pub fn new(tells: impl Fn(T) + Send + Sync + 'static) -> Aside<T> {
         let queue = Mutex::new(Queue { left: VecDeque::new(), has_thread: false, is_losing: false });
-        Aside(Arc::new(Shared { tells: Box::new(tells), queue, rests: Condvar::new() }))
+        Aside(Arc::new(AsideState { tells: Box::new(tells), queue, rests: Condvar::new() }))
     }
 
     /// Waits until all was told that was given before, or so long. Whether it was.
@@ -71,18 +71,18 @@ impl<T: Send + 'static> Aside<T> {
         drop(queue);
         let shared = Arc::clone(&self.0);
         if thread::Builder::new().name("cf ends".into()).spawn(move || shared.run()).is_err() {
-            self.0.has_none();
+            self.0.note_no_thread();
         }
     }
 }
 
-impl<T> Shared<T> {
+impl<T> AsideState<T> {
     fn lock(&self) -> MutexGuard<'_, Queue<T>> {
         self.queue.lock().unwrap_or_else(PoisonError::into_inner)
     }
 
     /// No thread could be started. The next one that is told tries again, and whoever waits tells what is left.
-    fn has_none(&self) {
+    fn note_no_thread(&self) {
         self.lock().has_thread = false;
         self.rests.notify_all();
     }
@@ -98,7 +98,7 @@ impl<T> Shared<T> {
                 None => return self.rests.notify_all(),
             };
             // A value's drop may panic, too, and so may that of a payload.
-            quietly(|| (self.tells)(next));
+            swallow_panic(|| (self.tells)(next));
         }
     }
 }
@@ -157,7 +157,20 @@ mod tests {
         thread::spawn(move || ends.send(waits.flush(Duration::from_secs(600))).unwrap());
         // It waits by then, or finds no thread.
         thread::sleep(Duration::from_millis(20));
-        aside.0.has_none();
+        aside.0.note_no_thread();
         assert_eq!((end.recv_timeout(Duration::from_secs(30)), told.load(Ordering::SeqCst)), (Ok(true), 7));
+    }
+
+    /// Also where somebody waits for it at once.
+    #[test]
+    fn what_a_thread_can_tell_is_told_by_no_flush() {
+        let here = thread::current().id();
+        let aside = Aside::new(move |by: Arc<AtomicU32>| by.store(1 + u32::from(thread::current().id() == here), Ordering::SeqCst));
+        for _ in 0..20 {
+            let by = Arc::new(AtomicU32::new(0));
+            aside.tell(Arc::clone(&by));
+            assert!(aside.flush(Duration::from_secs(60)));
+            assert_eq!(by.load(Ordering::SeqCst), 1);
+        }
     }
 }

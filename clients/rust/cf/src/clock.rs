@@ -1,6 +1,6 @@
-//! What time it is, and who rings when it is later.
+//! Clocks: the time, and alarms.
 use crate::core::Core;
-use crate::spawn::{guarded, in_drop, quietly};
+use crate::spawn::{catch_panic, run_in_drop, swallow_panic};
 use std::cmp::{self, Reverse};
 use std::collections::BinaryHeap;
 use std::fmt;
@@ -10,7 +10,7 @@ use std::sync::{Arc, Condvar, Mutex, MutexGuard, PoisonError, Weak};
 use std::thread;
 use std::time::{Duration, Instant};
 
-/// A clock: times of histories and timeouts go by it. [`SystemClock`] is a computer's, [`HandClock`] is turned by tests.
+/// A clock, by which times of histories and timeouts go. [`SystemClock`] is the computer's; tests turn a [`HandClock`].
 ///
 /// ```
 /// use cf::{Alarm, Clock, Inline, Request, SystemClock};
@@ -23,8 +23,8 @@ use std::time::{Duration, Instant};
 ///     fn now(&self) -> Duration {
 ///         SystemClock.now() * 10
 ///     }
-///     fn after(&self, wait: Duration, alarm: Alarm) {
-///         SystemClock.after(wait / 10, alarm)
+///     fn ring_after(&self, wait: Duration, alarm: Alarm) {
+///         SystemClock.ring_after(wait / 10, alarm)
 ///     }
 /// }
 ///
@@ -32,22 +32,22 @@ use std::time::{Duration, Instant};
 /// assert!(reminder.promise::<u32>().or_timeout(Duration::from_millis(20)).wait().unwrap_err().is_timeout());
 /// ```
 pub trait Clock: Send + Sync + 'static {
-    /// How long it is since a moment of the clock's own. It never goes back. Where it panics, an event has the time of the one before it.
+    /// The time since a moment of the clock's own. It never goes back. If it panics, an event has the time of the one before it.
     fn now(&self) -> Duration;
 
-    /// Rings the alarm after a while. It must not ring it before it returns. A request asks for one alarm at a time, up to the first of its
-    /// timeouts, and for an earlier one where an earlier timeout comes; the one before isn't wanted any more then ([`Alarm::is_wanted`]).
-    fn after(&self, wait: Duration, alarm: Alarm);
+    /// Rings the alarm after `wait`, but not before it returns. A request asks for one alarm at a time, up to the first of its timeouts. If an
+    /// earlier timeout comes, it asks for an earlier alarm, and the one before isn't wanted any more ([`Alarm::is_wanted`]).
+    fn ring_after(&self, wait: Duration, alarm: Alarm);
 
-    /// Whether it is the computer's own, which requests read by themselves.
+    /// Whether it is the computer's own, which requests read directly.
     #[doc(hidden)]
     fn is_system(&self) -> bool {
         false
     }
 }
 
-/// The next timeout of a request, which a [`Clock`] rings. It keeps no request alive. If one is dropped that is wanted, the stages of its request
-/// that have timeouts fail with [`Refusal::NoClock`](crate::Refusal::NoClock), since nothing rings for them any more.
+/// The alarm for a request's next timeout, which a [`Clock`] rings. It doesn't keep the request alive. If a wanted alarm is dropped, the stages with
+/// timeouts fail with [`Refusal::NoClock`](crate::Refusal::NoClock), since nothing rings for them any more.
 ///
 /// ```
 /// struct Stopped;
@@ -55,7 +55,7 @@ pub trait Clock: Send + Sync + 'static {
 ///     fn now(&self) -> std::time::Duration {
 ///         std::time::Duration::ZERO
 ///     }
-///     fn after(&self, _wait: std::time::Duration, alarm: cf::Alarm) {
+///     fn ring_after(&self, _wait: std::time::Duration, alarm: cf::Alarm) {
 ///         drop(alarm);
 ///     }
 /// }
@@ -65,14 +65,14 @@ pub trait Clock: Send + Sync + 'static {
 /// ```
 pub struct Alarm {
     pub(crate) core: Weak<Core>,
-    /// Which alarm of its request it is.
+    /// The alarm's number in its request.
     pub(crate) number: u64,
     pub(crate) wait: Duration,
 }
 
 impl Alarm {
-    /// Lets it be that moment: the stages whose timeouts have come by then time out or get their values, unless they are settled. The request
-    /// asks its clock for the next alarm first, if there are later timeouts.
+    /// Rings: the open stages whose timeouts have come time out or get their values. If there are later timeouts, the request first asks its clock
+    /// for the next alarm.
     ///
     /// ```
     /// struct AtOnce;
@@ -80,7 +80,7 @@ impl Alarm {
     ///     fn now(&self) -> std::time::Duration {
     ///         std::time::Duration::ZERO
     ///     }
-    ///     fn after(&self, _wait: std::time::Duration, alarm: cf::Alarm) {
+    ///     fn ring_after(&self, _wait: std::time::Duration, alarm: cf::Alarm) {
     ///         std::thread::spawn(move || alarm.ring());
     ///     }
     /// }
@@ -89,16 +89,16 @@ impl Alarm {
     /// ```
     pub fn ring(mut self) {
         if let Some(core) = std::mem::take(&mut self.core).upgrade() {
-            core.rung(self.number);
+            core.ring_alarm(self.number);
         }
     }
 
-    /// Lets it be that this moment never comes.
-    pub(crate) fn never(mut self) {
+    /// Drops the alarm without failing its stages: its moment never comes.
+    pub(crate) fn forget(mut self) {
         self.core = Weak::new();
     }
 
-    /// Whether a stage waits for it. A clock may leave aside alarms that nobody wants.
+    /// Whether a stage waits for it. A clock may drop alarms that aren't wanted.
     ///
     /// ```
     /// fn swept(alarms: &mut Vec<cf::Alarm>) {
@@ -113,7 +113,7 @@ impl Alarm {
 impl Drop for Alarm {
     fn drop(&mut self) {
         if let Some(core) = self.core.upgrade() {
-            in_drop(|| core.never_rung(self.number));
+            run_in_drop(|| core.give_up_alarm(self.number));
         }
     }
 }
@@ -124,9 +124,8 @@ impl fmt::Debug for Alarm {
     }
 }
 
-/// The computer's clock. Its alarms are rung by a thread, which is there from the first timeout on. Where what an alarm runs takes long, such as a
-/// function of an [`Inline`](crate::Inline) request, another thread rings the others. Where the system starts none, the next timeout that is asked
-/// for tries again.
+/// The computer's clock. A thread rings its alarms, from the first timeout on. If an alarm takes long, as by a function of an
+/// [`Inline`](crate::Inline) request, another thread rings the others. If the system refuses the thread, the next timeout tries again.
 ///
 /// ```
 /// use cf::{Clock, SystemClock};
@@ -139,17 +138,17 @@ pub struct SystemClock;
 impl Clock for SystemClock {
     #[inline]
     fn now(&self) -> Duration {
-        begun().elapsed()
+        first_moment().elapsed()
     }
 
     fn is_system(&self) -> bool {
         true
     }
 
-    fn after(&self, wait: Duration, alarm: Alarm) {
+    fn ring_after(&self, wait: Duration, alarm: Alarm) {
         let at = match self.now().checked_add(wait) {
             Some(at) => at,
-            None => return alarm.never(),
+            None => return alarm.forget(),
         };
         let mut held = ALARMS.lock();
         held.start_ringer();
@@ -161,13 +160,13 @@ impl Clock for SystemClock {
             ALARMS.came.notify_one();
         }
         if is_full {
-            sweep();
+            drop_unwanted();
         }
     }
 }
 
-/// The moment from which the system's clock counts.
-fn begun() -> Instant {
+/// The moment at which the system's clock begins.
+fn first_moment() -> Instant {
     thread_local! {
         static BEGUN: Instant = first();
     }
@@ -178,8 +177,8 @@ fn begun() -> Instant {
     BEGUN.try_with(|begun| *begun).unwrap_or_else(|_| first())
 }
 
-/// Starts the thread of the computer's clock, if the system has refused it before.
-pub(crate) fn try_again() {
+/// Tries again to start the thread that rings, if the system has refused it.
+pub(crate) fn retry_ringer() {
     if ALARMS.is_refused.load(Ordering::Relaxed) {
         ALARMS.lock().start_ringer();
     }
@@ -195,17 +194,17 @@ struct Alarms {
     rings: Condvar,
 }
 
-/// The alarms, and the two threads that see to them: the ringer, and one that takes its place where it is kept up.
+/// The alarms, and their two threads: the ringer, and a spare one that takes its place if an alarm takes long.
 struct Ringers {
     due: Option<Due>,
     has_ringer: bool,
     has_spare: bool,
-    /// The spare one looks by itself whether the ringer goes on.
+    /// The spare one watches whether the ringer goes on.
     watches: bool,
     /// The ringer's number: one that was kept up finds another.
     ringer: u64,
     is_ringing: bool,
-    /// How many alarms were rung.
+    /// The number of alarms that were rung.
     rung: u64,
 }
 
@@ -228,67 +227,67 @@ impl Ringers {
     }
 
     fn start_ringer(&mut self) {
-        self.has_ringer = self.has_ringer || start(ring);
+        self.has_ringer = self.has_ringer || start_thread(ring_alarms);
         ALARMS.is_refused.store(!self.has_ringer, Ordering::Relaxed);
     }
 }
 
-/// Alarms, of which the first that rings is at hand.
+/// Alarms by their moments.
 struct Due {
-    alarms: BinaryHeap<Reverse<Rings>>,
+    alarms: BinaryHeap<Reverse<DueAlarm>>,
     number: u64,
-    /// Above how many alarms those are left out whose stages need none any more.
+    /// The number of alarms above which unwanted ones are dropped.
     sweep: usize,
 }
 
-/// An alarm, and the moment at which it rings. Of one moment, the one rings first that came first.
-struct Rings {
+/// An alarm and its moment. Those of one moment ring in the order in which they came.
+struct DueAlarm {
     at: Duration,
     number: u64,
     alarm: Alarm,
 }
 
-impl Ord for Rings {
-    fn cmp(&self, other: &Rings) -> cmp::Ordering {
+impl Ord for DueAlarm {
+    fn cmp(&self, other: &DueAlarm) -> cmp::Ordering {
         (self.at, self.number).cmp(&(other.at, other.number))
     }
 }
 
-impl PartialOrd for Rings {
-    fn partial_cmp(&self, other: &Rings) -> Option<cmp::Ordering> {
+impl PartialOrd for DueAlarm {
+    fn partial_cmp(&self, other: &DueAlarm) -> Option<cmp::Ordering> {
         Some(self.cmp(other))
     }
 }
 
-impl PartialEq for Rings {
-    fn eq(&self, other: &Rings) -> bool {
+impl PartialEq for DueAlarm {
+    fn eq(&self, other: &DueAlarm) -> bool {
         self.cmp(other).is_eq()
     }
 }
 
-impl Eq for Rings {}
+impl Eq for DueAlarm {}
 
 impl Due {
     fn new() -> Due {
         Due { alarms: BinaryHeap::new(), number: 0, sweep: 64 }
     }
 
-    /// The moment of the first.
-    fn first(&self) -> Option<Duration> {
+    /// The moment of the first alarm.
+    fn first_moment(&self) -> Option<Duration> {
         self.alarms.peek().map(|Reverse(first)| first.at)
     }
 
-    /// Whether the alarm is the first that rings now.
+    /// Adds an alarm, and says whether it is the first now.
     fn add(&mut self, at: Duration, alarm: Alarm) -> bool {
-        let is_first = self.first().map_or(true, |first| at < first);
+        let is_first = self.first_moment().map_or(true, |first| at < first);
         self.number += 1;
-        self.alarms.push(Reverse(Rings { at, number: self.number, alarm }));
+        self.alarms.push(Reverse(DueAlarm { at, number: self.number, alarm }));
         is_first
     }
 
-    /// The first, if its moment has come, or how long that takes.
-    fn take(&mut self, now: Duration) -> Result<Alarm, Option<Duration>> {
-        match self.first() {
+    /// Takes the first alarm if its moment has come; otherwise gives the time until then.
+    fn take_due(&mut self, now: Duration) -> Result<Alarm, Option<Duration>> {
+        match self.first_moment() {
             Some(first) if first <= now => self.alarms.pop().map(|Reverse(first)| first.alarm).ok_or(None),
             first => Err(first.map(|first| first - now)),
         }
@@ -299,9 +298,8 @@ fn lock<T>(held: &Mutex<T>) -> MutexGuard<'_, T> {
     held.lock().unwrap_or_else(PoisonError::into_inner)
 }
 
-/// Leaves out alarms that nobody wants. They are asked and dropped without the lock, since a request may end with that; a `Drop` that panics
-/// takes no other alarm along.
-fn sweep() {
+/// Drops unwanted alarms. It asks and drops them without the lock, since a request may end with that. A `Drop` that panics loses no other alarm.
+fn drop_unwanted() {
     let alarms = std::mem::take(&mut ALARMS.lock().due().alarms);
     let is_wanted = |alarm: &Alarm| catch_unwind(AssertUnwindSafe(|| alarm.is_wanted())).unwrap_or(false);
     let (wanted, unwanted): (Vec<_>, Vec<_>) = alarms.into_iter().partition(|Reverse(rings)| is_wanted(&rings.alarm));
@@ -312,26 +310,26 @@ fn sweep() {
     drop(held);
     ALARMS.came.notify_one();
     for rings in unwanted {
-        quietly(|| drop(rings));
+        swallow_panic(|| drop(rings));
     }
 }
 
-/// Starts a thread of the clock, if the system does.
-fn start(act: fn()) -> bool {
+/// Starts a thread of the clock, unless the system refuses it.
+fn start_thread(act: fn()) -> bool {
     thread::Builder::new().name("cf clock".into()).spawn(act).is_ok()
 }
 
 /// Rings each alarm at its moment, without the lock, until another thread does so in its place.
-fn ring() {
+fn ring_alarms() {
     let mut held = ALARMS.lock();
     let ringer = held.ringer;
     while held.ringer == ringer {
-        match held.due().take(SystemClock.now()) {
+        match held.due().take_due(SystemClock.now()) {
             Ok(alarm) => {
                 held.rung += 1;
                 held.is_ringing = true;
                 if !held.has_spare {
-                    held.has_spare = start(stand_by);
+                    held.has_spare = start_thread(stand_by);
                 }
                 let watches = held.watches;
                 drop(held);
@@ -339,7 +337,7 @@ fn ring() {
                     ALARMS.rings.notify_one();
                 }
                 // A waker that panics doesn't stop the clock.
-                quietly(|| alarm.ring());
+                swallow_panic(|| alarm.ring());
                 held = ALARMS.lock();
                 held.is_ringing = held.ringer != ringer && held.is_ringing;
             }
@@ -363,7 +361,7 @@ fn stand_by() {
             held.ringer += 1;
             (held.is_ringing, held.has_spare) = (false, false);
             drop(held);
-            return ring();
+            return ring_alarms();
         }
     }
 }
@@ -416,11 +414,11 @@ impl HandClock {
         loop {
             let mut held = self.lock();
             let (now, due) = &mut *held;
-            *now = due.first().map_or(end, |first| first.min(end)).max(*now);
-            let next = due.take(*now);
+            *now = due.first_moment().map_or(end, |first| first.min(end)).max(*now);
+            let next = due.take_due(*now);
             drop(held);
             match next {
-                Ok(alarm) => guarded(&mut panicked, || alarm.ring()),
+                Ok(alarm) => catch_panic(&mut panicked, || alarm.ring()),
                 Err(_) => break,
             };
         }
@@ -451,11 +449,11 @@ impl Clock for HandClock {
         self.lock().0
     }
 
-    fn after(&self, wait: Duration, alarm: Alarm) {
+    fn ring_after(&self, wait: Duration, alarm: Alarm) {
         let mut held = self.lock();
         match held.0.checked_add(wait) {
             Some(at) => drop(held.1.add(at, alarm)),
-            None => alarm.never(),
+            None => alarm.forget(),
         }
     }
 }
@@ -464,6 +462,7 @@ impl Clock for HandClock {
 mod tests {
     use super::*;
     use crate::{Inline, Request};
+    use std::thread::ThreadId;
 
     /// The clock finds no alarms while those that nobody wants are left out. It looks again behind that.
     #[test]
@@ -471,7 +470,7 @@ mod tests {
         let request = Request::new("swept", Inline);
         let stage = request.promise::<i32>().or_timeout(Duration::from_millis(300));
         let held = request.0.lock();
-        let sweeps = thread::spawn(sweep);
+        let sweeps = thread::spawn(drop_unwanted);
         thread::sleep(Duration::from_millis(50));
         ALARMS.came.notify_all();
         thread::sleep(Duration::from_millis(50));
@@ -486,12 +485,75 @@ mod tests {
         let request = Request::new("swept", Inline);
         let stage = request.promise::<i32>().or_timeout(Duration::from_secs(3600));
         let held = request.0.lock();
-        let sweeps = thread::spawn(sweep);
+        let sweeps = thread::spawn(drop_unwanted);
         thread::sleep(Duration::from_millis(50));
         let came = Request::new("came", Inline).promise::<i32>().or_timeout(Duration::from_millis(300));
         drop(held);
         sweeps.join().unwrap();
         assert!(came.wait_timeout(Duration::from_secs(60)).expect("the alarm is rung").unwrap_err().is_timeout());
         assert!(!stage.is_settled());
+    }
+
+    /// Tells which thread drops it, and panics.
+    struct Ends(Arc<Mutex<Option<ThreadId>>>);
+
+    impl Drop for Ends {
+        fn drop(&mut self) {
+            *lock(&self.0) = Some(thread::current().id());
+            panic!("in a drop");
+        }
+    }
+
+    /// A request with an alarm, and which thread it ends on.
+    fn ends_badly(wait: Duration, is_wanted: bool) -> (Arc<Core>, Arc<Mutex<Option<ThreadId>>>) {
+        let (request, ended) = (Request::new("ends", Inline), Arc::default());
+        assert!(request.promise().complete(Ends(Arc::clone(&ended))).is_ok());
+        let late = request.promise::<i32>().or_timeout(wait);
+        assert!(is_wanted || late.cancel());
+        (Arc::clone(&request.0), ended)
+    }
+
+    /// Comes back once a sweep has so many of a request, and waits for its lock; or if another one was there before.
+    fn is_asked(core: &Arc<Core>, had: usize) {
+        let since = Instant::now();
+        while Arc::strong_count(core) == had && since.elapsed() < Duration::from_secs(2) {
+            thread::yield_now();
+        }
+        thread::sleep(Duration::from_millis(2));
+    }
+
+    /// A request ends while it is asked whether it wants its alarm.
+    #[test]
+    fn an_alarm_is_left_out_whose_request_ends_with_a_panic() {
+        for round in 0.. {
+            let wait = Duration::from_secs(4000 + round);
+            let (core, ended) = ends_badly(wait, true);
+            let held = core.lock();
+            let sweeps = thread::spawn(drop_unwanted);
+            is_asked(&core, 1);
+            drop(held);
+            swallow_panic(|| drop(core));
+            sweeps.join().unwrap();
+            if *lock(&ended) != Some(thread::current().id()) {
+                assert!(!ALARMS.lock().due().alarms.iter().any(|Reverse(rings)| rings.alarm.wait == wait), "it is kept");
+                return;
+            }
+        }
+    }
+
+    /// And one ends as its alarm is dropped, which is no longer wanted.
+    #[test]
+    fn a_sweep_goes_on_where_a_request_ends_with_a_panic() {
+        let (asked_last, (core, _)) = (Request::new("asked last", Inline), ends_badly(Duration::from_secs(3000), false));
+        let _late = asked_last.promise::<i32>().or_timeout(Duration::from_secs(3600));
+        let held = asked_last.0.lock();
+        let sweeps = thread::spawn(drop_unwanted);
+        is_asked(&asked_last.0, Arc::strong_count(&asked_last.0));
+        let last = core.lock();
+        drop(held);
+        is_asked(&core, 1);
+        drop(last);
+        swallow_panic(|| drop(core));
+        assert!(sweeps.join().is_ok());
     }
 }

@@ -1,23 +1,24 @@
-//! A request: its lock, and what is told once that is free.
+//! A request: its lock, and what a change does once the lock is free.
 //!
-//! No code of a user runs under the lock: wakers, values and functions that are dropped, jobs and other requests are told behind it ([`After`]).
-use crate::clock::{try_again, Alarm, Clock};
-use crate::context::carried;
+//! No code of a user runs under the lock. Wakers are called, values dropped, jobs spawned and other requests changed behind it ([`After`]).
+use crate::clock::{retry_ringer, Alarm, Clock};
+use crate::context::carry_context;
 use crate::error::{Error, Panic, Refusal};
 use crate::history::History;
-use crate::inner::{kept_of, After, Feed, Hands, Inner, Kept, News};
+use crate::inner::{content_of, After, Feed, Hands, Inner, Notices, Remains};
 use crate::ledger::Ledger;
 use crate::name::Made;
 use crate::slot::Held;
 use crate::spawn::{
-    as_worker, guarded, in_drop, in_turn, inline, is_inline_free, quietly, running, worker, Job, Payload, Row, Spawn, Turn, CLOCK, RELAY,
+    as_worker, catch_panic, do_in_turn, is_inline_free, mark_running, run_in_drop, run_inline, swallow_panic, worker_number, Job, JobKind, Payload,
+    Spawn, TurnQueue, CLOCK, RELAY,
 };
-use crate::task::{Polling, Task};
-use crate::value::{Call, Gave, Given, Val};
-use crate::word::Form;
+use crate::task::{Polling, StageFuture};
+use crate::value::{CallArgs, Returned, StageFn, Val};
+use crate::word::WordForm;
 use cf_graph::nanos;
 use std::borrow::Cow;
-use std::mem::{forget, take};
+use std::mem::{forget, replace, take};
 use std::panic::{catch_unwind, resume_unwind, AssertUnwindSafe};
 use std::sync::atomic::{AtomicBool, AtomicUsize, Ordering};
 use std::sync::{Arc, Mutex, MutexGuard, PoisonError, TryLockError};
@@ -27,40 +28,40 @@ use std::time::Duration;
 pub(crate) struct Core {
     pub(crate) name: Box<str>,
     spawn: Arc<dyn Spawn>,
-    /// What tells the executor from others.
+    /// The executor's number.
     pub(crate) place: usize,
-    /// How many jobs there may be at a time.
+    /// The greatest number of jobs at a time.
     most: usize,
-    /// Whether a job is done on the thread that asks for it.
+    /// Whether the executor is [`Inline`](crate::Inline).
     is_inline: bool,
     clock: Arc<dyn Clock>,
     begun: Duration,
-    /// The same in nanoseconds where the clock is the computer's.
+    /// The beginning in nanoseconds, if the clock is the computer's.
     begun_at: Option<u64>,
     inner: Mutex<Inner>,
-    /// Jobs that rest in a function that waits.
+    /// The number of jobs whose function waits.
     resting: AtomicUsize,
-    /// How many workers have a stage in their hands. It changes under the lock.
+    /// The number of workers that have claimed a stage. It changes under the lock.
     busy: AtomicUsize,
-    /// Whether a worker that waits may be to be woken by a future that is to be polled.
+    /// Whether a waiting worker may poll the next future that is woken.
     has_helpers: AtomicBool,
-    /// Who is told what is done to it.
+    /// A test's observer.
     #[cfg(feature = "testing")]
     pub(crate) watch: Option<crate::testing::Watch>,
 }
 
-/// How often a thread looks whether the lock is free before it sleeps, and how long it pauses at most between two looks. A hold is some hundred
-/// nanoseconds: who pauses longer lets the one that has it take several, with all that it needs at hand.
+/// How often a thread tries the lock before it sleeps, and its longest pause between two tries. A hold takes some hundred nanoseconds. With longer
+/// pauses the holder can take the lock several times in a row, with its data in its cache.
 const LOOKS: usize = 12;
 const PAUSES: usize = 64;
-/// How often a worker that has nothing in its hands looks, and how long it sleeps between two looks, once it has looked twice.
+/// How often a worker without a stage tries the lock, and its sleep between two tries after the second.
 const LEISURELY_LOOKS: usize = 16;
 const SLEEP: Duration = Duration::from_micros(50);
-/// Below how many nanoseconds a function takes less than what goes with it from one core to another, the machine and the slots.
+/// A function below this many nanoseconds takes less time than moving the machine and the slots to another core.
 const SHORT: u64 = 1_000;
 
 impl Core {
-    /// How many functions a job runs before it goes to the end of the line.
+    /// The number of functions after which a job goes to the end of the queue.
     pub(crate) const TURN: usize = 64;
 
     pub(crate) fn new(name: Box<str>, spawn: Arc<dyn Spawn>, clock: Arc<dyn Clock>, room: u16) -> Result<Arc<Core>, Refusal> {
@@ -75,64 +76,63 @@ impl Core {
             clock,
             begun,
             begun_at,
-            inner: Mutex::new(Inner::over(ledger, room)),
+            inner: Mutex::new(Inner::new(ledger, room)),
             resting: AtomicUsize::new(0),
             busy: AtomicUsize::new(0),
             has_helpers: AtomicBool::new(false),
             #[cfg(feature = "testing")]
-            watch: crate::testing::Watch::of(place),
+            watch: crate::testing::Watch::for_executor(place),
         });
         #[cfg(feature = "testing")]
-        core.watched(|watch| watch.opened(&core));
+        core.tell_watch(|watch| watch.note_opened(&core));
         Ok(core)
     }
 
-    /// No code of a user runs under the lock, and the machine changes nothing where it is refused memory. So what a panic leaves is whole, and the
-    /// next one takes the lock as if there had been none.
+    /// Takes the lock, also after a panic: no code of a user runs under it, and the machine changes nothing if it is refused memory, so the state is
+    /// whole.
     #[inline(always)]
     pub(crate) fn lock(&self) -> Hold<'_> {
         self.lock_seeing().0
     }
 
-    /// The lock, and whether another thread had it just now.
+    /// Takes the lock, and says whether another thread had it just now.
     #[inline(always)]
     fn lock_seeing(&self) -> (Hold<'_>, bool) {
         #[cfg(test)]
         crate::search::turn();
         match self.inner.try_lock() {
-            Ok(inner) => (held(inner), false),
-            Err(TryLockError::Poisoned(inner)) => (held(inner.into_inner()), false),
-            Err(TryLockError::WouldBlock) => (self.lock_taken(), true),
+            Ok(inner) => (known_hold(inner), false),
+            Err(TryLockError::Poisoned(inner)) => (known_hold(inner.into_inner()), false),
+            Err(TryLockError::WouldBlock) => (self.lock_contended(), true),
         }
     }
 
     #[cold]
-    fn lock_taken(&self) -> Hold<'_> {
+    fn lock_contended(&self) -> Hold<'_> {
         let mut pauses = 1;
         for _ in 1..LOOKS {
             (0..pauses).for_each(|_| std::hint::spin_loop());
             pauses = PAUSES.min(2 * pauses);
             match self.inner.try_lock() {
-                Ok(inner) => return held(inner),
-                Err(TryLockError::Poisoned(inner)) => return held(inner.into_inner()),
+                Ok(inner) => return known_hold(inner),
+                Err(TryLockError::Poisoned(inner)) => return known_hold(inner.into_inner()),
                 Err(TryLockError::WouldBlock) => {}
             }
         }
-        held(self.inner.lock().unwrap_or_else(PoisonError::into_inner))
+        known_hold(self.inner.lock().unwrap_or_else(PoisonError::into_inner))
     }
 
-    /// The lock for a worker that comes back from a function, the moment, and whether it gives way: where functions are short, one worker does them
-    /// sooner than several that take the lock from one another.
+    /// Takes the lock for a worker that comes back from a function. Gives the time, and whether the worker gives way: one worker runs short functions
+    /// sooner than several that compete for the lock.
     #[inline(always)]
-    fn lock_behind(&self, since: u64) -> (Hold<'_>, u64, bool) {
+    fn lock_after_function(&self, since: u64) -> (Hold<'_>, u64, bool) {
         let now = self.now();
         let (inner, was_taken) = self.lock_seeing();
         let gives_way = was_taken && now.saturating_sub(since) < SHORT && self.busy.load(Ordering::Relaxed) > 1;
         (inner, now, gives_way)
     }
 
-    /// The lock for a worker that has nothing in its hands, and the moment; it doesn't give way again. Those that have a stage in theirs come first,
-    /// and may do what is ready sooner than this one would.
+    /// Takes the lock for a worker without a stage, which doesn't give way again. Busy workers come first, since they may run what is ready sooner.
     #[inline(never)]
     fn lock_at_leisure(&self) -> (Hold<'_>, u64, bool) {
         #[cfg(test)]
@@ -140,44 +140,44 @@ impl Core {
         for look in 0..LEISURELY_LOOKS {
             let now = self.now();
             match self.inner.try_lock() {
-                Ok(inner) => return (held(inner), now, false),
-                Err(TryLockError::Poisoned(inner)) => return (held(inner.into_inner()), now, false),
+                Ok(inner) => return (known_hold(inner), now, false),
+                Err(TryLockError::Poisoned(inner)) => return (known_hold(inner.into_inner()), now, false),
                 Err(TryLockError::WouldBlock) if self.busy.load(Ordering::Relaxed) == 0 => break,
                 Err(TryLockError::WouldBlock) if look == 0 => std::hint::spin_loop(),
                 Err(TryLockError::WouldBlock) => std::thread::sleep(SLEEP),
             }
         }
         let now = self.now();
-        (self.lock_taken(), now, false)
+        (self.lock_contended(), now, false)
     }
 
-    /// A worker has a stage in its hands now, or none any more. It has the lock.
+    /// Counts a worker as busy, or not any more. The caller has the lock.
     #[inline(never)]
-    fn counts(&self, is_busy: bool) {
+    fn count_busy(&self, is_busy: bool) {
         let busy = self.busy.load(Ordering::Relaxed);
         self.busy.store(if is_busy { busy + 1 } else { busy - 1 }, Ordering::Relaxed);
     }
 
-    /// Lets who watches it be told something.
+    /// Tells a test's observer something.
     #[cfg(feature = "testing")]
     #[inline]
-    pub(crate) fn watched(&self, tell: impl FnOnce(&crate::testing::Watch)) {
+    pub(crate) fn tell_watch(&self, tell: impl FnOnce(&crate::testing::Watch)) {
         if let Some(watch) = &self.watch {
             tell(watch);
         }
     }
 
-    /// Lets something be done under the lock at this moment, and what comes of it be told behind it.
+    /// Changes the request under the lock, and does behind it what follows.
     #[inline]
     pub(crate) fn change<T>(self: &Arc<Core>, act: impl FnOnce(&mut Inner, &mut After) -> T) -> T {
-        let (mut behind, now) = (Behind::of(self), self.now());
+        let (mut behind, now) = (TellsOnDrop::new(self), self.now());
         let mut inner = self.lock();
-        inner.ledger.record.go_on(now);
+        inner.ledger.record.advance(now);
         let done = act(&mut inner, &mut behind.after);
         inner.cancel_relays(&mut behind.after);
         inner.hire(self, false, &mut behind.after);
         if behind.after.jobs > 0 && self.is_inline && is_inline_free() {
-            self.begin_here(behind, inner);
+            self.begin_inline(behind, inner);
         } else {
             drop(inner);
             let (jobs, news) = behind.into_parts();
@@ -186,31 +186,31 @@ impl Core {
             }
         }
         #[cfg(feature = "testing")]
-        self.watched(|watch| watch.changed());
+        self.tell_watch(|watch| watch.note_changed());
         done
     }
 
-    /// Begins the job that a change asks for under the same hold of the lock, where [`Inline`](crate::Inline) would begin it at once. Then what came
-    /// of the change is told.
+    /// Begins the job that a change asks for under the same hold of the lock, as [`Inline`](crate::Inline) would begin it at once. Then does what
+    /// else follows from the change.
     #[inline(never)]
-    fn begin_here(self: &Arc<Core>, mut behind: Behind<'_>, mut inner: Hold<'_>) {
+    fn begin_inline(self: &Arc<Core>, mut behind: TellsOnDrop<'_>, mut inner: Hold<'_>) {
         let mut hands = Hands::empty();
-        let first = inner.step(worker(), &mut hands, &mut behind.after).expect("a stage is ready for which a job is asked");
+        let first = inner.step(worker_number(), &mut hands, &mut behind.after).expect("a stage is ready for which a job is asked");
         inner.coming -= 1;
         drop(inner);
         let (mut panicked, (_, mut news)) = (None, behind.into_parts());
         self.ask_for_alarm(&mut news, &mut panicked);
-        inline(|| as_worker(|who| self.work_on(who, Core::TURN, &mut hands, Some(first))), &mut panicked);
+        run_inline(|| as_worker(|who| self.work_on(who, Core::TURN, &mut hands, Some(first))), &mut panicked);
         if let Some(news) = news {
-            self.tell_news(news, &mut panicked);
+            self.tell_notices(news, &mut panicked);
         }
         if let Some(payload) = panicked {
             resume_unwind(payload);
         }
     }
 
-    /// Nanoseconds since the request began. A clock may be a user's, so it isn't asked under the lock, and one that panics tells nothing: the
-    /// time is that of the call before then.
+    /// Nanoseconds since the request began. The clock may be a user's, so it isn't asked under the lock. If it panics, the time of the call before
+    /// holds.
     #[inline]
     pub(crate) fn now(&self) -> u64 {
         #[cfg(feature = "testing")]
@@ -219,11 +219,11 @@ impl Core {
         }
         match self.begun_at {
             Some(begun) => nanos().saturating_sub(begun),
-            None => self.told_by_clock(),
+            None => self.ask_clock(),
         }
     }
 
-    fn told_by_clock(&self) -> u64 {
+    fn ask_clock(&self) -> u64 {
         let since = catch_unwind(AssertUnwindSafe(|| self.clock.now())).unwrap_or_default().saturating_sub(self.begun);
         u64::try_from(since.as_nanos()).unwrap_or(u64::MAX)
     }
@@ -231,58 +231,57 @@ impl Core {
     // Changes by callers.
 
     #[inline]
-    pub(crate) fn attach(self: &Arc<Core>, who: u8, form: Form, of: &[u16], call: Option<Call>, made: Made) -> Result<u16, Refusal> {
-        let call = call.map(carried);
+    pub(crate) fn attach(self: &Arc<Core>, who: u8, form: WordForm, of: &[u16], call: Option<StageFn>, made: Made) -> Result<u16, Refusal> {
+        let call = call.map(carry_context);
         self.change(|inner, after| inner.attach(who, form, of, call, made, after))
     }
 
-    /// A stage that waits for all of these, or for one of them, whatever their number.
+    /// Attaches a stage that waits for all of these, or for one of them.
     pub(crate) fn gather(self: &Arc<Core>, who: u8, form: cf_graph::Form, of: &[u16], made: Made) -> Result<u16, Refusal> {
         self.change(|inner, after| inner.gather(who, form, of, made, after))
     }
 
-    /// A composing stage, and right below it a source, the relay that stands in for a stage that is higher or elsewhere: a stage links to lower
-    /// ones alone, and one that its function makes is higher.
-    pub(crate) fn attach_composing(self: &Arc<Core>, who: u8, form: Form, of: u16, call: Call, made: Made) -> Result<u16, Refusal> {
-        let call = carried(call);
+    /// Attaches a composing stage, and right below it a relay. A stage can only link to lower ones, and the stage that its function makes is higher
+    /// or another request's. The relay stands in for that.
+    pub(crate) fn attach_composing(self: &Arc<Core>, who: u8, form: WordForm, of: u16, call: StageFn, made: Made) -> Result<u16, Refusal> {
+        let call = carry_context(call);
         self.change(|inner, after| {
-            if inner.ledger.left() < 2 {
-                after.news().dropped.push(Held::Call(call));
+            if inner.ledger.room_left() < 2 {
+                after.notices().dropped.push(Held::Call(call));
                 return Err(Refusal::Full);
             }
-            match inner.attach(who, Form::Source, &[], None, Made::as_a(|| "relay"), after) {
+            match inner.attach(who, WordForm::Source, &[], None, Made::without_function(|| "relay"), after) {
                 Ok(_) => inner.attach(who, form, &[of], Some(call), made, after),
                 Err(why) => {
-                    after.news().dropped.push(Held::Call(call));
+                    after.notices().dropped.push(Held::Call(call));
                     Err(why)
                 }
             }
         })
     }
 
-    /// Settles a relay as the stage of another request was. What relays of others follow is added to those that are still to be told, so that
-    /// a row of requests takes no stack.
-    fn settle_fed(self: &Arc<Core>, relay: u16, told: Result<Val, Error>, feeds: &mut Vec<Feed>) {
+    /// Settles a relay as the stage of another request was. Relays that follow are added to `feeds`, so that a chain of requests takes no stack.
+    fn settle_relay(self: &Arc<Core>, relay: u16, told: Result<Val, Error>, feeds: &mut Vec<Feed>) {
         let late = self.change(|inner, after| {
-            inner.fed_now(relay);
+            inner.forget_fed_stage(relay);
             let late = inner.settle(RELAY, relay, told, after);
-            feeds.append(&mut after.news().feeds);
+            feeds.append(&mut after.notices().feeds);
             late
         });
         drop(late);
     }
 
-    /// Settles a stage, unless it is settled, whereupon what it was to be settled with is given back.
+    /// Settles a stage. Gives the result back if the stage is settled already.
     pub(crate) fn settle(self: &Arc<Core>, who: u8, stage: u16, with: Result<Val, Error>) -> Result<(), Result<Val, Error>> {
         self.change(|inner, after| inner.settle(who, stage, with, after))
     }
 
-    /// Lets a relay of another request be settled as a stage of this one is.
-    pub(crate) fn feed(self: &Arc<Core>, stage: u16, to: Arc<Core>, relay: u16) {
+    /// Hangs a relay of another request on a stage of this one, which settles it.
+    pub(crate) fn feed_relay(self: &Arc<Core>, stage: u16, to: Arc<Core>, relay: u16) {
         #[cfg(feature = "testing")]
-        self.watched(|watch| watch.linked(stage, &to, relay));
+        self.tell_watch(|watch| watch.note_link(stage, &to, relay));
         let mut own = self.lock();
-        match own.told(stage) {
+        match own.end_of(stage) {
             Some(told) => {
                 drop(own);
                 let _ = to.settle(RELAY, relay, told);
@@ -290,16 +289,15 @@ impl Core {
             None => {
                 own.extra(stage).feeds.push((Arc::clone(&to), relay));
                 drop(own);
-                if !to.follow(relay, self, stage) {
-                    self.unfeed(stage, &to, relay);
+                if !to.stand_for(relay, self, stage) {
+                    self.unhang_relay(stage, &to, relay);
                 }
             }
         }
     }
 
-    /// Lets workers that wait for a stage of this request run functions of the one whose stage a relay stands for, too. False where the relay is
-    /// settled.
-    fn follow(&self, relay: u16, of: &Arc<Core>, stage: u16) -> bool {
+    /// Notes for which stage a relay stands, so that waiting workers also run functions of that stage's request. False if the relay is settled.
+    fn stand_for(&self, relay: u16, of: &Arc<Core>, stage: u16) -> bool {
         let mut inner = self.lock();
         if inner.slot(relay).is_settled() {
             return false;
@@ -311,19 +309,19 @@ impl Core {
         true
     }
 
-    /// Lets go of a request whose relay of a stage is settled otherwise.
-    fn unfeed(&self, stage: u16, to: &Arc<Core>, relay: u16) {
+    /// Takes a relay off a stage, since the relay is settled otherwise.
+    fn unhang_relay(&self, stage: u16, to: &Arc<Core>, relay: u16) {
         let mut inner = self.lock();
-        let unfed = inner.unfed(stage, to, relay);
+        let unfed = inner.take_feed(stage, to, relay);
         drop(inner);
         drop(unfed);
     }
 
-    /// Cancels relays that were made for a stage alone, once that is settled, or at once where it was refused: no stage of another request keeps
-    /// this one for nothing.
-    pub(crate) fn let_go(self: &Arc<Core>, stage: Result<u16, Refusal>, relays: Vec<u16>) {
+    /// Cancels relays that were made for one stage once that stage is settled, or at once if it was refused. Otherwise another request's stage would
+    /// keep this request alive.
+    pub(crate) fn cancel_relays_with(self: &Arc<Core>, stage: Result<u16, Refusal>, relays: Vec<u16>) {
         if !relays.is_empty() {
-            self.change(|inner, _| inner.let_go(stage.ok(), relays));
+            self.change(|inner, _| inner.cancel_relays_with(stage.ok(), relays));
         }
     }
 
@@ -331,36 +329,35 @@ impl Core {
         self.lock().names.insert(stage, name);
     }
 
-    /// Lets a stage time out after a while, or get this value, unless it is settled. The value goes as soon as the stage is settled.
-    pub(crate) fn limit(self: &Arc<Core>, stage: u16, wait: Duration, gives: Option<Val>) {
+    /// Sets a limit: the stage times out after `wait`, or gets this value. The value is dropped as soon as the stage is settled.
+    pub(crate) fn set_limit(self: &Arc<Core>, stage: u16, wait: Duration, gives: Option<Val>) {
         #[cfg(feature = "testing")]
-        self.watched(|watch| watch.limited(self, stage, wait));
-        let late = self.change(|inner, after| inner.limit(stage, wait, gives, after));
-        drop(late);
+        self.tell_watch(|watch| watch.note_limit(self, stage, wait));
+        self.change(|inner, after| inner.set_limit(stage, wait, gives, after));
         // The request asks for an alarm only where it has none that comes first.
-        try_again();
+        retry_ringer();
     }
 
-    /// It is the moment of an alarm.
-    pub(crate) fn rung(self: &Arc<Core>, alarm: u64) {
-        self.change(|inner, after| inner.rung(alarm, after));
+    /// Passes time to the moment of an alarm.
+    pub(crate) fn ring_alarm(self: &Arc<Core>, alarm: u64) {
+        self.change(|inner, after| inner.ring_alarm(alarm, after));
     }
 
-    /// It is this moment, in a run of a test: such a run knows each limit, and rings no alarms.
+    /// Passes time to this moment, in a test's run, which rings no alarms.
     #[cfg(feature = "testing")]
-    pub(crate) fn pass(self: &Arc<Core>, moment: u64) {
-        self.change(|inner, after| inner.pass(moment, after));
+    pub(crate) fn pass_time_to(self: &Arc<Core>, moment: u64) {
+        self.change(|inner, after| inner.pass_time_to(moment, after));
     }
 
-    /// The moment of an alarm never comes, since that was dropped.
-    pub(crate) fn never_rung(self: &Arc<Core>, alarm: u64) {
+    /// Fails what waits for an alarm that was dropped.
+    pub(crate) fn give_up_alarm(self: &Arc<Core>, alarm: u64) {
         let is_awaited = self.lock().awaited.is_for(alarm);
         if is_awaited {
-            self.change(|inner, after| inner.never_rung(alarm, after));
+            self.change(|inner, after| inner.give_up_alarm(alarm, after));
         }
     }
 
-    /// Keeps what stops the timer of an alarm, and drops it as soon as that isn't wanted any more or the request goes.
+    /// Keeps the handle that stops an alarm's timer, and drops it once the alarm isn't wanted or the request ends.
     #[cfg(feature = "tokio")]
     pub(crate) fn keep_timer(&self, alarm: u64, timer: Box<dyn std::any::Any + Send>) {
         let mut inner = self.lock();
@@ -382,11 +379,11 @@ impl Core {
 
     // Waiting.
 
-    /// What a stage ended in; until then the handle's waker is kept, at this place, or at the one that is given back.
+    /// Gives the result of a stage. Until there is one, keeps the handle's waker at `place`, or at the place that is given back.
     pub(crate) fn poll(&self, stage: u16, place: Option<u32>, waker: &Waker) -> (Poll<Result<Val, Error>>, Option<u32>) {
         if let Some(place) = place {
             let mut inner = self.lock();
-            if let Some(told) = inner.told(stage) {
+            if let Some(told) = inner.end_of(stage) {
                 return (Poll::Ready(told), None);
             }
             if inner.waiting.will_wake(place, waker) {
@@ -396,7 +393,7 @@ impl Core {
         // A waker is cloned and dropped by code of others.
         let waker = waker.clone();
         let mut guard = self.lock();
-        if let Some(told) = guard.told(stage) {
+        if let Some(told) = guard.end_of(stage) {
             drop(guard);
             return (Poll::Ready(told), None);
         }
@@ -411,24 +408,24 @@ impl Core {
     }
 
     /// Forgets the waker of a handle.
-    pub(crate) fn forget(&self, stage: u16, place: u32) {
+    pub(crate) fn forget_waker(&self, stage: u16, place: u32) {
         let mut inner = self.lock();
-        let old = if inner.slot(stage).is_settled() { None } else { inner.waiting.forget(stage, place) };
+        let old = if inner.slot(stage).is_settled() { None } else { inner.waiting.remove(stage, place) };
         drop(inner);
         drop(old);
     }
 
     pub(crate) fn peek(&self, stage: u16) -> Option<Result<Val, Error>> {
-        self.lock().told(stage)
+        self.lock().end_of(stage)
     }
 
     /// The values of these stages, or the error of the first that has one.
     pub(crate) fn values(&self, stages: &[u16]) -> Result<Vec<Val>, Error> {
         #[cfg(feature = "testing")]
-        stages.iter().for_each(|stage| self.watched(|watch| watch.read(*stage)));
+        stages.iter().for_each(|stage| self.tell_watch(|watch| watch.note_read(*stage)));
         let (mut values, inner) = (Vec::with_capacity(stages.len()), self.lock());
         for stage in stages {
-            values.push(inner.told(*stage).unwrap_or(Err(Error::BadAnswer))?);
+            values.push(inner.end_of(*stage).unwrap_or(Err(Error::BadAnswer))?);
         }
         Ok(values)
     }
@@ -440,54 +437,48 @@ impl Core {
         self.work_on(who, most, &mut Hands::empty(), None);
     }
 
-    /// The same, where a job has begun that has this in its hands, and its function.
-    fn work_on(self: &Arc<Core>, who: u8, most: usize, hands: &mut Hands, mut next: Option<Call>) {
-        let _running = running(self, true);
+    /// Does the same for a job that may have begun with a stage in its hands, whose function is `next`.
+    fn work_on(self: &Arc<Core>, who: u8, most: usize, hands: &mut Hands, mut next: Option<StageFn>) {
+        let _running = mark_running(self, true);
         let (mut left, mut since, mut panicked) = (most, 0, None);
-        let mut job = Counted { core: self, begins: next.is_none(), is_busy: false, is_over: false };
-        loop {
-            let mut behind = Behind::of(self);
+        let mut job = CountedJob { core: self, state: if next.is_some() { JobState::Begun } else { JobState::Coming } };
+        while job.state != JobState::Over {
+            let mut behind = TellsOnDrop::new(self);
             let after = &mut behind.after;
             let (mut inner, now, gives_way) = match next {
                 Some(call) => {
                     left -= 1;
                     match catch_unwind(AssertUnwindSafe(|| call(&hands.given))) {
-                        Ok(Gave::Value(value)) => hands.keep(value),
-                        gave => self.gave(who, hands, gave, &mut panicked),
+                        Ok(Returned::Value(value)) => hands.keep_value(value),
+                        gave => self.take_returned(who, hands, gave, &mut panicked),
                     }
-                    self.lock_behind(since)
+                    self.lock_after_function(since)
                 }
                 None => self.lock_at_leisure(),
             };
             since = now;
-            inner.ledger.record.go_on(now);
-            next = if left > 0 && !gives_way {
+            inner.ledger.record.advance(now);
+            let may_claim = left > 0 && !gives_way;
+            next = if may_claim {
                 inner.step(who, hands, after)
             } else {
-                inner.last(who, hands, after);
+                inner.finish_last(who, hands, after);
                 None
             };
+            let state = match next {
+                Some(_) => JobState::Busy,
+                None if left > 0 && gives_way => JobState::GaveWay,
+                None => JobState::Over,
+            };
             inner.cancel_relays(after);
-            let ends = next.is_none() && (left == 0 || !gives_way);
-            if job.begins || ends {
-                inner.coming -= usize::from(job.begins);
-                inner.jobs -= usize::from(ends);
-                job.is_over = ends;
-            }
-            if job.is_busy != next.is_some() {
-                job.is_busy = next.is_some();
-                self.counts(job.is_busy);
-            }
+            let has_begun = job.state == JobState::Coming && state == JobState::Busy;
+            job.enter(state, &mut inner);
             // Where a step finds nothing, nothing is ready.
-            inner.hire(self, job.begins && next.is_some() || left == 0, after);
+            inner.hire(self, has_begun || left == 0, after);
             drop(inner);
-            job.begins = false;
             let (jobs, news) = behind.into_parts();
             if jobs > 0 || news.is_some() {
-                self.tell(jobs, news, &mut panicked);
-            }
-            if ends {
-                break;
+                self.tell_all(jobs, news, &mut panicked);
             }
         }
         if let Some(payload) = panicked {
@@ -495,29 +486,29 @@ impl Core {
         }
     }
 
-    /// Keeps what a function gave, which is no value: a link or a future is seen to at once, and its stage is in the hands no more.
+    /// Takes what a function returned, other than a value. A link or a future is handled at once, and leaves the hands.
     #[inline(never)]
-    fn gave(self: &Arc<Core>, who: u8, hands: &mut Hands, gave: Result<Gave, Payload>, panicked: &mut Option<Payload>) {
+    fn take_returned(self: &Arc<Core>, who: u8, hands: &mut Hands, gave: Result<Returned, Payload>, panicked: &mut Option<Payload>) {
         let stage = hands.task.stage().expect("its function was called");
-        match self.begun(who, stage, gave, panicked) {
+        match self.begin_future(who, stage, gave, panicked) {
             None => hands.task.clear(),
-            Some(gave @ Gave::Stage(..)) => {
-                guarded(panicked, || self.end(who, stage, gave));
+            Some(gave @ Returned::Stage(..)) => {
+                catch_panic(panicked, || self.finish(who, stage, gave));
                 hands.task.clear();
             }
-            Some(gave) => hands.keeps = kept_of(gave),
+            Some(gave) => hands.keeps = content_of(gave),
         }
     }
 
-    /// For a worker that would only wait for a stage: runs a function, or polls a future, that the stage needs, unless `is_own` is false, when
-    /// another executor has to. What else it waits for is told.
-    pub(crate) fn help(self: &Arc<Core>, stage: u16, is_own: bool, waker: Option<&Waker>) -> Help {
-        self.help_by(waker, |inner| inner.needs(stage, is_own))
+    /// Helps a worker that waits for a stage: runs a function or polls a future that the stage needs, if `is_own`. Otherwise another executor has to.
+    /// Gives the stages for which it waits.
+    pub(crate) fn help_stage(self: &Arc<Core>, stage: u16, is_own: bool, waker: Option<&Waker>) -> Help {
+        self.help_by(waker, |inner| inner.find_need(stage, is_own))
     }
 
-    /// The same by any function or future of the request, else the stages for which its relays wait.
+    /// Runs any function or future of the request, or gives the stages for which its relays wait.
     pub(crate) fn help_any(self: &Arc<Core>, is_own: bool, waker: &Waker) -> Help {
-        self.help_by(Some(waker), |inner| inner.any(is_own))
+        self.help_by(Some(waker), |inner| inner.find_any_need(is_own))
     }
 
     fn help_by(self: &Arc<Core>, waker: Option<&Waker>, find: impl FnOnce(&mut Inner) -> Needs) -> Help {
@@ -531,7 +522,7 @@ impl Core {
                 match needs.first {
                     Some(First::Function(stage)) => {
                         let (stage, call, args) = inner.claim(who, stage, after);
-                        return Ok(Begun::Function(stage, call, inner.given(args)));
+                        return Ok(Begun::Function(stage, call, inner.call_args(args)));
                     }
                     Some(First::Future(task)) => return Ok(Begun::Future(task)),
                     None => {}
@@ -543,13 +534,13 @@ impl Core {
         let mut panicked = None;
         match found {
             Err((elsewhere, is_open)) => return Help::Waits(elsewhere, is_open),
-            Ok(Begun::Future(task)) => as_worker(|_| Polling::again(self, task)),
+            Ok(Begun::Future(task)) => as_worker(|_| Polling::poll_again(self, task)),
             Ok(Begun::Function(stage, call, given)) => {
-                let _running = running(self, false);
+                let _running = mark_running(self, false);
                 as_worker(|who| {
                     let gave = catch_unwind(AssertUnwindSafe(|| call(&given)));
-                    if let Some(gave) = self.begun(who, stage, gave, &mut panicked) {
-                        self.end(who, stage, gave);
+                    if let Some(gave) = self.begin_future(who, stage, gave, &mut panicked) {
+                        self.finish(who, stage, gave);
                     }
                 });
             }
@@ -560,7 +551,7 @@ impl Core {
         Help::Did
     }
 
-    /// Forgets the waker of a worker that waits no more.
+    /// Forgets the waker of a worker that doesn't wait any more.
     pub(crate) fn forget_helper(&self, waker: &Waker) {
         let mut inner = self.lock();
         let (forgotten, kept) = take(&mut inner.helpers).into_iter().partition(|kept| kept.will_wake(waker));
@@ -569,7 +560,7 @@ impl Core {
         drop::<Vec<Waker>>(forgotten);
     }
 
-    /// Wakes workers that wait, since a future is to be polled.
+    /// Wakes the waiting workers, since a future was woken.
     pub(crate) fn wake_helpers(&self) {
         if self.has_helpers.load(Ordering::SeqCst) && self.has_helpers.swap(false, Ordering::SeqCst) {
             let helpers = take(&mut self.lock().helpers);
@@ -577,161 +568,184 @@ impl Core {
         }
     }
 
-    /// A job of this request rests in a function that waits, so another may come in its place.
-    pub(crate) fn rests(self: &Arc<Core>) {
+    /// Lets another job come in place of one whose function waits.
+    pub(crate) fn begin_rest(self: &Arc<Core>) {
         self.resting.fetch_add(1, Ordering::SeqCst);
-        quietly(|| self.change(|inner, after| inner.hire(self, true, after)));
+        swallow_panic(|| self.change(|inner, after| inner.hire(self, true, after)));
     }
 
-    pub(crate) fn goes_on(&self) {
+    pub(crate) fn end_rest(&self) {
         self.resting.fetch_sub(1, Ordering::SeqCst);
     }
 
-    /// How many jobs there may be at present.
+    /// The greatest number of jobs at present.
     #[inline]
-    pub(crate) fn most(&self) -> usize {
+    pub(crate) fn job_limit(&self) -> usize {
         self.most.saturating_add(self.resting.load(Ordering::SeqCst))
     }
 
-    /// What a function gave, or None where that comes later. A waker or a `Drop` that panics as a future is begun doesn't end the worker's row.
-    fn begun(self: &Arc<Core>, who: u8, stage: u16, gave: Result<Gave, Payload>, panicked: &mut Option<Payload>) -> Option<Gave> {
+    /// Gives what a function returned, or begins its future and gives None. A waker or a `Drop` that panics there doesn't end the worker's job.
+    fn begin_future(self: &Arc<Core>, who: u8, stage: u16, gave: Result<Returned, Payload>, panicked: &mut Option<Payload>) -> Option<Returned> {
         match gave {
-            Ok(Gave::Later(future)) => {
-                guarded(panicked, || Polling::begin(self, who, stage, future));
+            Ok(Returned::Later(future)) => {
+                catch_panic(panicked, || Polling::poll_first(self, who, stage, future));
                 None
             }
             Ok(gave) => Some(gave),
-            Err(payload) => Some(Gave::Error(Error::Panicked(Panic::of(payload)))),
+            Err(payload) => Some(Returned::Error(Error::Panicked(Panic::new(payload)))),
         }
     }
 
     /// Finishes a claimed stage.
-    pub(crate) fn end(self: &Arc<Core>, who: u8, stage: u16, gave: Gave) {
+    pub(crate) fn finish(self: &Arc<Core>, who: u8, stage: u16, gave: Returned) {
         self.change(|inner, after| inner.finish(self, who, stage, gave, after));
     }
 
-    /// Tells what came of a change. What a waker or a `Drop` panics with goes on.
-    fn tell_now(self: &Arc<Core>, jobs: usize, news: Option<Box<News>>) {
+    /// Does what follows from a change. A panic of a waker or a `Drop` goes on to the caller.
+    fn tell_now(self: &Arc<Core>, jobs: usize, news: Option<Box<Notices>>) {
         let mut panicked = None;
-        self.tell(jobs, news, &mut panicked);
+        self.tell_all(jobs, news, &mut panicked);
         if let Some(payload) = panicked {
             resume_unwind(payload);
         }
     }
 
-    /// Tells what came of changes. The lock is free. A waker or a `Drop` that panics doesn't keep the others from being
-    /// told, and what the first panicked with is kept.
-    fn tell(self: &Arc<Core>, jobs: usize, mut news: Option<Box<News>>, panicked: &mut Option<Payload>) {
+    /// Does what follows from changes. The lock is free. If a waker or a `Drop` panics, the rest is done all the same, and the first panic is kept.
+    fn tell_all(self: &Arc<Core>, jobs: usize, mut news: Option<Box<Notices>>, panicked: &mut Option<Payload>) {
         self.ask_for_alarm(&mut news, panicked);
         for _ in 0..jobs {
-            guarded(panicked, || self.spawn(Job::new(Turn::Work(Arc::clone(self)))));
+            catch_panic(panicked, || self.spawn(Job::new(JobKind::Work(Arc::clone(self)))));
         }
         if let Some(news) = news {
-            self.tell_news(news, panicked);
+            self.tell_notices(news, panicked);
         }
     }
 
-    fn ask_for_alarm(self: &Arc<Core>, news: &mut Option<Box<News>>, panicked: &mut Option<Payload>) {
+    fn ask_for_alarm(self: &Arc<Core>, news: &mut Option<Box<Notices>>, panicked: &mut Option<Payload>) {
         if let Some((number, wait)) = news.as_mut().and_then(|news| news.alarm.take()) {
-            guarded(panicked, || self.clock.after(wait, Alarm { core: Arc::downgrade(self), number, wait }));
+            catch_panic(panicked, || self.clock.ring_after(wait, Alarm { core: Arc::downgrade(self), number, wait }));
         }
     }
 
-    fn tell_news(self: &Arc<Core>, mut news: Box<News>, panicked: &mut Option<Payload>) {
+    fn tell_notices(self: &Arc<Core>, mut news: Box<Notices>, panicked: &mut Option<Payload>) {
         while let Some(waker) = news.wakers.pop() {
-            guarded(panicked, || waker.wake());
+            catch_panic(panicked, || waker.wake());
         }
         while let Some(task) = news.tasks.pop() {
-            guarded(panicked, || task.stop(self));
+            catch_panic(panicked, || task.stop(self));
         }
         while let Some((core, relay, told)) = news.feeds.pop() {
             let feeds = &mut news.feeds;
-            guarded(panicked, || core.settle_fed(relay, told, feeds));
-            guarded(panicked, || drop(core));
+            catch_panic(panicked, || core.settle_relay(relay, told, feeds));
+            catch_panic(panicked, || drop(core));
         }
         while let Some((of, stage, relay)) = news.links.pop() {
-            guarded(panicked, || of.feed(stage, Arc::clone(self), relay));
-            guarded(panicked, || drop(of));
+            catch_panic(panicked, || of.feed_relay(stage, Arc::clone(self), relay));
+            catch_panic(panicked, || drop(of));
         }
         while let Some((of, stage, relay)) = news.ends.pop() {
-            guarded(panicked, || of.upgrade().into_iter().for_each(|of| of.unfeed(stage, self, relay)));
+            catch_panic(panicked, || of.upgrade().into_iter().for_each(|of| of.unhang_relay(stage, self, relay)));
         }
         while let Some(dropped) = news.dropped.pop() {
-            guarded(panicked, || drop(dropped));
+            catch_panic(panicked, || drop(dropped));
         }
-        news.keep();
+        news.keep_room();
     }
 
-    /// Has a job run. One that is given back is dropped, and so refused.
+    /// Spawns a job. If the executor gives it back, the job is dropped, and so refused.
     pub(crate) fn spawn(&self, job: Job) {
         drop(self.spawn.spawn(job));
     }
 
-    /// Lets all that is ready fail, since a job wasn't taken, or was dropped.
-    pub(crate) fn refuse(self: &Arc<Core>) {
+    /// Fails the ready stages, since a job wasn't taken, or was dropped.
+    pub(crate) fn refuse_ready(self: &Arc<Core>) {
         self.change(|inner, after| {
             inner.jobs -= 1;
             inner.coming -= 1;
-            for stage in inner.given_up(self.resting.load(Ordering::SeqCst)) {
+            for stage in inner.ready_without_job(self.resting.load(Ordering::SeqCst)) {
                 let _ = inner.settle(CLOCK, stage, Err(Refusal::Closed.into()), after);
             }
         });
     }
 }
 
-/// What comes of a hold of the lock. Where that panics, all that came of it by then is told as the thread unwinds, once the lock is free.
-struct Behind<'a> {
+/// What follows from a hold of the lock. If the hold panics, it is done as the thread unwinds, once the lock is free.
+struct TellsOnDrop<'a> {
     core: &'a Arc<Core>,
     after: After,
 }
 
-impl<'a> Behind<'a> {
+impl<'a> TellsOnDrop<'a> {
     #[inline(always)]
-    fn of(core: &'a Arc<Core>) -> Behind<'a> {
-        Behind { core, after: After::default() }
+    fn new(core: &'a Arc<Core>) -> TellsOnDrop<'a> {
+        TellsOnDrop { core, after: After::default() }
     }
 
     #[inline(always)]
-    fn into_parts(mut self) -> (usize, Option<Box<News>>) {
+    fn into_parts(mut self) -> (usize, Option<Box<Notices>>) {
         let after = take(&mut self.after);
         forget(self);
         after.into_parts()
     }
 }
 
-impl Drop for Behind<'_> {
+impl Drop for TellsOnDrop<'_> {
     #[cold]
     fn drop(&mut self) {
         let (jobs, news) = take(&mut self.after).into_parts();
-        quietly(|| self.core.tell_now(jobs, news));
+        swallow_panic(|| self.core.tell_now(jobs, news));
     }
 }
 
-/// A job under way: whether it has yet to begin, and whether it has a stage in its hands. Where it panics under the lock, it is over.
-struct Counted<'a> {
+/// A job that the request counts. One that panics under the lock is over.
+struct CountedJob<'a> {
     core: &'a Arc<Core>,
-    begins: bool,
-    is_busy: bool,
-    is_over: bool,
+    state: JobState,
 }
 
-impl Drop for Counted<'_> {
+/// Where a job stands.
+#[derive(Clone, Copy, PartialEq, Eq)]
+enum JobState {
+    /// It was asked for, and has claimed nothing yet.
+    Coming,
+    /// It began with a stage in its hands, and isn't counted as busy yet.
+    Begun,
+    /// It has a stage in its hands.
+    Busy,
+    /// It gave way with nothing in its hands, and takes the lock again at leisure.
+    GaveWay,
+    /// It isn't counted any more.
+    Over,
+}
+
+impl CountedJob<'_> {
+    /// Changes the request's counts of jobs, under its lock.
     #[inline]
-    fn drop(&mut self) {
-        if !self.is_over {
-            self.gives_up();
+    fn enter(&mut self, state: JobState, inner: &mut Inner) {
+        let before = replace(&mut self.state, state);
+        if before == JobState::Coming {
+            inner.coming -= 1;
+        }
+        if state == JobState::Over {
+            inner.jobs -= 1;
+        }
+        if (before == JobState::Busy) != (state == JobState::Busy) {
+            self.core.count_busy(state == JobState::Busy);
         }
     }
+
+    #[cold]
+    fn give_up(&mut self) {
+        let core = self.core;
+        self.enter(JobState::Over, &mut core.lock());
+    }
 }
 
-impl Counted<'_> {
-    #[cold]
-    fn gives_up(&self) {
-        let mut inner = self.core.lock();
-        inner.coming -= usize::from(self.begins);
-        inner.jobs -= 1;
-        if self.is_busy {
-            self.core.counts(false);
+impl Drop for CountedJob<'_> {
+    #[inline]
+    fn drop(&mut self) {
+        if self.state != JobState::Over {
+            self.give_up();
         }
     }
 }
@@ -744,61 +758,59 @@ pub(crate) type Hold<'a> = MutexGuard<'a, Inner>;
 pub(crate) type Hold<'a> = crate::held::Known<MutexGuard<'a, Inner>>;
 
 #[inline(always)]
-fn held(inner: MutexGuard<'_, Inner>) -> Hold<'_> {
+fn known_hold(inner: MutexGuard<'_, Inner>) -> Hold<'_> {
     #[cfg(test)]
     let inner = crate::held::Known::new(inner);
     inner
 }
 
 thread_local! {
-    static DROPPED: Row<Kept> = const { Row::new() };
+    static DROPPED: TurnQueue<Remains> = const { TurnQueue::new() };
 }
 
 impl Drop for Core {
-    /// What it holds may be the last that has another request: by a value, a function, or a stage that was adopted there. They are dropped one
-    /// after another, so that a row of requests takes no stack.
-    ///
-    /// It is over, so who is to be told of that is handed its history.
+    /// Hands the history to the hook of [`Ends`](crate::Ends). Then drops the slots in turn: they may hold the last handle of another request, and a
+    /// chain of requests must take no stack.
     fn drop(&mut self) {
         let ending = self.inner.get_mut().unwrap_or_else(PoisonError::into_inner).ending.take();
         if let Some(ending) = ending {
-            let (history, describe) = History::taken(self);
-            ending.ends.tell(history, describe, ending.within);
+            let (history, describe) = History::take_from(self);
+            ending.ends.tell_end(history, describe, ending.within);
         }
-        let kept = self.inner.get_mut().unwrap_or_else(PoisonError::into_inner).kept();
+        let kept = self.inner.get_mut().unwrap_or_else(PoisonError::into_inner).take_remains();
         if !kept.is_empty() {
-            in_drop(|| in_turn(&DROPPED, kept, drop));
+            run_in_drop(|| do_in_turn(&DROPPED, kept, drop));
         }
     }
 }
 
-/// What a worker that waits has done, or what it waits for.
+/// What a waiting worker did, or what it waits for.
 pub(crate) enum Help {
     Did,
-    /// Stages of other requests, and whether anybody may have to settle something.
+    /// Stages of other requests, and whether an open promise or future is needed.
     Waits(Vec<(Arc<Core>, u16)>, bool),
 }
 
-/// What a stage needs that isn't settled.
+/// What an open stage needs.
 #[derive(Default)]
 pub(crate) struct Needs {
-    /// What a worker can do for it.
+    /// The work that a worker can do for it.
     pub(crate) first: Option<First>,
     /// The stages of other requests for which relays stand.
     pub(crate) elsewhere: Vec<(Arc<Core>, u16)>,
-    /// Whether it needs a promise or a future, which any function may have to settle or wake.
+    /// Whether it needs a promise or a future, which any function may settle or wake.
     pub(crate) is_open: bool,
 }
 
-/// A stage whose function is ready, or a future that is to be polled.
+/// A stage whose function is ready, or a future that was woken.
 pub(crate) enum First {
     Function(u16),
-    Future(Arc<Task>),
+    Future(Arc<StageFuture>),
 }
 
 enum Begun {
-    Function(u16, Call, Given),
-    Future(Arc<Task>),
+    Function(u16, StageFn, CallArgs),
+    Future(Arc<StageFuture>),
 }
 
 #[cfg(test)]
@@ -869,7 +881,7 @@ mod tests {
         opens.send(()).unwrap();
         long.wait_timeout(LONG).expect("it ends").unwrap();
         comes_to(&request, 0);
-        assert!(request.history().comes_again());
+        assert!(request.history().is_reproducible());
     }
 
     /// What it finishes is too late, so nothing else asks for a job that would run what is ready.
@@ -889,6 +901,6 @@ mod tests {
         assert_eq!(left.wait_timeout(LONG).expect("it is run").unwrap(), 3);
         opens.send(()).unwrap();
         long.wait_timeout(LONG).expect("it ends").unwrap();
-        assert!(request.history().comes_again());
+        assert!(request.history().is_reproducible());
     }
 }

@@ -28,7 +28,7 @@ pub enum Describe {
     Types,
     /// `-`.
     Nothing,
-    /// What this function gives: see [`Describe::by`].
+    /// What this function gives: see [`Describe::from_fn`].
     By(Arc<Describes>),
 }
 
@@ -41,7 +41,7 @@ impl Describe {
     /// ```
     /// use cf::{Describe, Inline, Request};
     /// struct Order(u32);
-    /// let describe = Describe::by(|ended| match ended {
+    /// let describe = Describe::from_fn(|ended| match ended {
     ///     Ok(value) => value.downcast_ref().map_or("something else".into(), |Order(number)| format!("order {number}")),
     ///     Err(_) => "an error".into(),
     /// });
@@ -49,22 +49,22 @@ impl Describe {
     /// let order = request.supply(|| Order(17)).named("order");
     /// assert!(request.history().to_string().contains("order ends: order 17"));
     /// ```
-    pub fn by(describes: impl Fn(Result<&dyn Any, &Error>) -> String + Send + Sync + 'static) -> Describe {
+    pub fn from_fn(describes: impl Fn(Result<&dyn Any, &Error>) -> String + Send + Sync + 'static) -> Describe {
         Describe::By(Arc::new(describes))
     }
 
     /// What is told of a value or an error.
     pub(crate) fn tell(&self, ended: Result<&Val, &Error>) -> String {
         let told = catch_unwind(AssertUnwindSafe(|| match (self, ended) {
-            (Describe::All, Ok(value)) => shown(value),
+            (Describe::All, Ok(value)) => common_value_text(value),
             (Describe::All, Err(error)) => {
                 let mut text = String::new();
                 write!(text, "{error}").map_or_else(|_| UNTOLD.into(), |()| text)
             }
-            (Describe::Types, Ok(value)) => typed(value),
-            (Describe::Types, Err(error)) => kind(error).into(),
+            (Describe::Types, Ok(value)) => type_text(value),
+            (Describe::Types, Err(error)) => error_kind(error).into(),
             (Describe::Nothing, _) => "-".into(),
-            (Describe::By(describes), ended) => describes(ended.map(Val::any)),
+            (Describe::By(describes), ended) => describes(ended.map(Val::as_any)),
         }));
         told.unwrap_or_else(|payload| {
             // Its own drop may panic.
@@ -88,9 +88,9 @@ impl fmt::Debug for Describe {
 }
 
 /// A value of a common type as it is, cut to 60 letters; of another that it is one.
-fn shown(value: &Val) -> String {
+fn common_value_text(value: &Val) -> String {
     macro_rules! common {
-        ($($of:ty),*) => { $(if let Some(value) = value.any().downcast_ref::<$of>() { return short(format!("{value:?}")); })* };
+        ($($of:ty),*) => { $(if let Some(value) = value.as_any().downcast_ref::<$of>() { return shorten(format!("{value:?}")); })* };
     }
     common!(i32, i64, u32, u64, usize, u16, u8, f64, bool, char, String, &'static str, ());
     common!(Vec<i32>, Vec<i64>, Vec<u32>, Vec<u64>, Vec<f64>, Vec<String>, Option<i32>, Option<i64>, Option<u64>, Option<String>, Duration);
@@ -98,10 +98,10 @@ fn shown(value: &Val) -> String {
 }
 
 /// The name of a value's type, and how long it is where that is known.
-fn typed(value: &Val) -> String {
+fn type_text(value: &Val) -> String {
     let name = short_name(value.type_name());
     macro_rules! long {
-        ($($of:ty),*) => { $(if let Some(value) = value.any().downcast_ref::<$of>() { return format!("{name} of {}", value.len()); })* };
+        ($($of:ty),*) => { $(if let Some(value) = value.as_any().downcast_ref::<$of>() { return format!("{name} of {}", value.len()); })* };
     }
     long!(String, &'static str, Vec<u8>, Vec<i32>, Vec<i64>, Vec<u32>, Vec<u64>, Vec<f64>, Vec<String>);
     name
@@ -123,7 +123,7 @@ fn short_name(path: &str) -> String {
     name
 }
 
-fn kind(error: &Error) -> &'static str {
+fn error_kind(error: &Error) -> &'static str {
     match error {
         Error::Failed(_) => "Failed",
         Error::Panicked(_) => "Panicked",
@@ -135,7 +135,7 @@ fn kind(error: &Error) -> &'static str {
 }
 
 /// The text, or what stands at its begin and that it goes on.
-pub(crate) fn short(text: String) -> String {
+pub(crate) fn shorten(text: String) -> String {
     if text.chars().count() <= 60 {
         return text;
     }
@@ -144,11 +144,11 @@ pub(crate) fn short(text: String) -> String {
 
 /// The text in one line that is read as it stands: what breaks a line, moves a cursor, turns the direction or isn't seen is written `\n`,
 /// `\u202e`.
-pub(crate) fn escaped(text: &str) -> String {
+pub(crate) fn escape_text(text: &str) -> String {
     let mut escaped = String::with_capacity(text.len());
     for letter in text.chars() {
         if is_unseen(letter) {
-            escape(&mut escaped, letter);
+            push_escaped(&mut escaped, letter);
         } else {
             escaped.push(letter);
         }
@@ -157,7 +157,7 @@ pub(crate) fn escaped(text: &str) -> String {
 }
 
 /// Writes a letter as JSON may: `\n`, `\u202e`, and one beyond 16 bits as two.
-pub(crate) fn escape(text: &mut String, letter: char) {
+pub(crate) fn push_escaped(text: &mut String, letter: char) {
     match letter {
         '\n' => text.push_str("\\n"),
         '\r' => text.push_str("\\r"),
@@ -198,7 +198,7 @@ mod tests {
             ("\u{110bd}\u{e0041}", "\\ud804\\udcbd\\udb40\\udc41"),
             ("\u{2065}\u{2010}\u{fffd}\u{e0100}", "\u{2065}\u{2010}\u{fffd}\u{e0100}"),
         ] {
-            assert_eq!(escaped(text), line);
+            assert_eq!(escape_text(text), line);
         }
     }
 

@@ -41,7 +41,7 @@ impl Ends {
     /// cf::Request::new("parcel 5", cf::Inline).on_end(&ends);
     /// ```
     pub fn new(hook: impl Fn(&History) + Send + Sync + 'static) -> Ends {
-        Ends(Aside::new(move |Over { history, describe, within }| within.within(|| hook(&history.described(&describe)))))
+        Ends(Aside::new(move |Over { history, describe, within }| within.run_within(|| hook(&history.keep_described(&describe)))))
     }
 
     /// Waits until the function was told of all requests that were over before, or so long. Whether it was.
@@ -54,7 +54,7 @@ impl Ends {
     }
 
     /// Has the function told of a request that is over.
-    pub(crate) fn tell(&self, history: History, describe: Describe, within: Context) {
+    pub(crate) fn tell_end(&self, history: History, describe: Describe, within: Context) {
         self.0.tell(Over { history, describe, within });
     }
 }

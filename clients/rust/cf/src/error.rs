@@ -88,7 +88,7 @@ struct Panicked {
 }
 
 impl Panic {
-    pub(crate) fn of(payload: Box<dyn Any + Send>) -> Panic {
+    pub(crate) fn new(payload: Box<dyn Any + Send>) -> Panic {
         let message = payload.downcast_ref::<&str>().copied().or_else(|| payload.downcast_ref::<String>().map(String::as_str));
         let message = message.unwrap_or("something that isn't text").into();
         Panic(Arc::new(Panicked { message, payload: Mutex::new(Some(payload)) }))
@@ -179,7 +179,7 @@ impl Error {
     }
 
     /// Of what a function returned. An `Error` that it passes on by `?` stays what it is.
-    pub(crate) fn of(error: BoxError) -> Error {
+    pub(crate) fn from_boxed(error: BoxError) -> Error {
         match error.downcast::<Error>() {
             Ok(own) => *own,
             Err(error) => Error::Failed(error.into()),

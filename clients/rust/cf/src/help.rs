@@ -5,7 +5,7 @@
 //! thread that stands in for it runs other functions ([`StandIn`](crate::spawn::StandIn)); only where there is none the worker runs any of its
 //! executor's.
 use crate::core::{Core, Help};
-use crate::spawn::{here, run_here, CALLER};
+use crate::spawn::{caller_number, requests_run_here, CALLER};
 use std::collections::VecDeque;
 use std::sync::{Arc, Weak};
 use std::task::Waker;
@@ -22,13 +22,13 @@ impl Helper<'_> {
     }
 
     /// Whether a worker has run something that the stage needs. Where nobody stands in for it, it is woken once there may be something.
-    pub(crate) fn helps(&mut self, core: &Arc<Core>, stage: u16, is_stood_in: bool) -> bool {
-        if here() == CALLER {
+    pub(crate) fn help_stage(&mut self, core: &Arc<Core>, stage: u16, is_stood_in: bool) -> bool {
+        if caller_number() == CALLER {
             return false;
         }
-        self.forget();
+        self.forget_wakers();
         let waker = (!is_stood_in).then_some(self.waker);
-        let own = run_here();
+        let own = requests_run_here();
         let is_own = |core: &Core| own.iter().any(|own| own.place == core.place);
         let (mut row, mut seen, mut may_need_any) = (vec![(Arc::clone(core), stage)], Vec::new(), false);
         while let Some((core, stage)) = row.pop() {
@@ -37,8 +37,8 @@ impl Helper<'_> {
                 continue;
             }
             seen.push(it);
-            self.ask(&core, waker.is_some());
-            match core.help(stage, is_own(&core), waker) {
+            self.ask_request(&core, waker.is_some());
+            match core.help_stage(stage, is_own(&core), waker) {
                 Help::Did => return true,
                 Help::Waits(elsewhere, is_open) => {
                     row.extend(elsewhere);
@@ -46,11 +46,11 @@ impl Helper<'_> {
                 }
             }
         }
-        may_need_any && !is_stood_in && self.helps_any(core, &own, is_own)
+        may_need_any && !is_stood_in && self.help_any(core, &own, is_own)
     }
 
     /// Any function of the stage's request, of those whose functions the thread is running, or of those for whose stages a relay of these waits.
-    fn helps_any(&mut self, core: &Arc<Core>, own: &[Arc<Core>], is_own: impl Fn(&Core) -> bool) -> bool {
+    fn help_any(&mut self, core: &Arc<Core>, own: &[Arc<Core>], is_own: impl Fn(&Core) -> bool) -> bool {
         let mut row: VecDeque<Arc<Core>> = own.iter().map(Arc::clone).collect();
         row.push_back(Arc::clone(core));
         let mut seen = Vec::new();
@@ -59,7 +59,7 @@ impl Helper<'_> {
                 continue;
             }
             seen.push(Arc::as_ptr(&core));
-            self.ask(&core, true);
+            self.ask_request(&core, true);
             match core.help_any(is_own(&core), self.waker) {
                 Help::Did => return true,
                 Help::Waits(followed, _) => followed.into_iter().for_each(|(core, _)| row.push_front(core)),
@@ -68,13 +68,13 @@ impl Helper<'_> {
         false
     }
 
-    fn ask(&mut self, core: &Arc<Core>, is_kept: bool) {
+    fn ask_request(&mut self, core: &Arc<Core>, is_kept: bool) {
         if is_kept && !self.asked.iter().any(|asked| asked.as_ptr() == Arc::as_ptr(core)) {
             self.asked.push(Arc::downgrade(core));
         }
     }
 
-    fn forget(&mut self) {
+    fn forget_wakers(&mut self) {
         for core in self.asked.drain(..).filter_map(|asked| asked.upgrade()) {
             core.forget_helper(self.waker);
         }
@@ -83,7 +83,7 @@ impl Helper<'_> {
 
 impl Drop for Helper<'_> {
     fn drop(&mut self) {
-        self.forget();
+        self.forget_wakers();
     }
 }
 
@@ -132,7 +132,7 @@ mod tests {
             Duration::ZERO
         }
 
-        fn after(&self, _wait: Duration, _alarm: Alarm) {}
+        fn ring_after(&self, _wait: Duration, _alarm: Alarm) {}
     }
 
     /// Comes back once a worker waits for a stage of this request, or of one that a stage of it follows.
@@ -208,5 +208,36 @@ mod tests {
         gate.complete(4).unwrap();
         assert_eq!(waited.wait_timeout(LONG).expect("it is woken").unwrap(), 4);
         assert!(relays[0].cancel());
+    }
+
+    /// A worker waits for a promise of another request, and asks its own for functions meanwhile.
+    #[test]
+    fn who_waits_no_more_is_forgotten_by_its_own_request() {
+        let [own, other] = ["own", "other"].map(|name| Request::new(name, Threads));
+        let (gate, asked) = (other.promise::<i32>(), [own.clone(), other.clone()]);
+        let waits = gate.clone();
+        let kept = own.supply(move || {
+            waits.wait().unwrap();
+            asked.iter().map(|request| request.0.lock().helpers.len()).collect::<Vec<_>>()
+        });
+        is_awaited(&own);
+        gate.complete(1).unwrap();
+        assert_eq!(kept.wait().unwrap(), [0, 0]);
+    }
+
+    /// One of two workers waits no more.
+    #[test]
+    fn who_still_waits_is_kept() {
+        let request = Request::new("shared", Threads);
+        let gates = [(); 2].map(|()| request.promise::<i32>());
+        let [one, other] = gates.clone().map(|gate| Request::new("waits", Threads).supply(move || gate.wait().unwrap()));
+        let kept = || request.0.lock().helpers.len();
+        while kept() < 2 {
+            thread::yield_now();
+        }
+        gates[0].complete(1).unwrap();
+        assert_eq!((one.wait().unwrap(), kept()), (1, 1));
+        gates[1].complete(2).unwrap();
+        assert_eq!((other.wait().unwrap(), kept()), (2, 0));
     }
 }

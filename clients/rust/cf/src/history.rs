@@ -1,16 +1,16 @@
 //! What happened to a request: in words, as an account that `cf_look check` judges, as a script that `cf run` does again, as a page. The library
 //! tells it; here stands what it can't know.
 use crate::core::Core;
-use crate::describe::{escaped, short, Describe};
+use crate::describe::{escape_text, shorten, Describe};
 use crate::error::Error;
 #[cfg(feature = "serde")]
 use crate::json::Json;
-use crate::ledger::{comes_again, done_again, tale, Replied};
-use crate::record::Record;
+use crate::ledger::{is_replayed, new_tale, replay, Replied};
+use crate::record::EventTimes;
 use crate::spawn::{CALLER, CLOCK, FIRST_WORKER, RELAY};
 use crate::value::Val;
 use crate::word::{self, ATTACH, COMPLETE, FAIL, FINISH, SOME, THROWS};
-use cf_graph::{Cause, Finished, Outcome, Refused, Reply, Said, Telling};
+use cf_graph::{Cause, Finished, Label, Outcome, Refused, Reply, TaleFormat};
 use std::ffi::OsStr;
 use std::fmt;
 use std::io::{self, Write as _};
@@ -35,13 +35,13 @@ use std::time::{Duration, SystemTime};
 pub struct History {
     name: String,
     words: Vec<u64>,
-    record: Record,
+    record: EventTimes,
     /// What stages were settled with.
     outcomes: Vec<Option<Outcome>>,
     names: Vec<String>,
     /// What stages gave, by their numbers, and what they failed with.
-    values: Vec<Option<Kept<Val>>>,
-    errors: Vec<Option<Kept<Error>>>,
+    values: Vec<Option<KeptEnd<Val>>>,
+    errors: Vec<Option<KeptEnd<Error>>>,
     relays: Vec<(u16, u16)>,
     /// When the request began.
     since: SystemTime,
@@ -49,37 +49,37 @@ pub struct History {
 
 /// What a stage ended in, or what is told of it where that isn't all: then what it ended in isn't kept.
 #[derive(Clone)]
-enum Kept<T> {
+enum KeptEnd<T> {
     Raw(T),
     Text(String),
 }
 
-impl<T> Kept<T> {
-    fn all(kept: Vec<Option<T>>) -> Vec<Option<Kept<T>>> {
-        kept.into_iter().map(|it| it.map(Kept::Raw)).collect()
+impl<T> KeptEnd<T> {
+    fn keep_all(kept: Vec<Option<T>>) -> Vec<Option<KeptEnd<T>>> {
+        kept.into_iter().map(|it| it.map(KeptEnd::Raw)).collect()
     }
 
     /// Keeps texts in the place of these.
-    fn tell(all: &mut [Option<Kept<T>>], tell: impl Fn(&T) -> String) {
-        all.iter_mut().flatten().for_each(|kept| *kept = Kept::Text(kept.text(&tell)));
+    fn keep_texts(all: &mut [Option<KeptEnd<T>>], tell: impl Fn(&T) -> String) {
+        all.iter_mut().flatten().for_each(|kept| *kept = KeptEnd::Text(kept.text(&tell)));
     }
 
     fn text(&self, tell: impl Fn(&T) -> String) -> String {
         match self {
-            Kept::Raw(it) => tell(it),
-            Kept::Text(text) => text.clone(),
+            KeptEnd::Raw(it) => tell(it),
+            KeptEnd::Text(text) => text.clone(),
         }
     }
 }
 
 impl History {
-    pub(crate) fn of(core: &Core) -> History {
-        let (history, describe) = History::taken(core);
-        history.described(&describe)
+    pub(crate) fn new(core: &Core) -> History {
+        let (history, describe) = History::take_from(core);
+        history.keep_described(&describe)
     }
 
     /// All as it is, and what is to be told of it.
-    pub(crate) fn taken(core: &Core) -> (History, Describe) {
+    pub(crate) fn take_from(core: &Core) -> (History, Describe) {
         let since = SystemTime::now().checked_sub(Duration::from_nanos(core.now())).unwrap_or(SystemTime::UNIX_EPOCH);
         let mut inner = core.lock();
         let words = inner.ledger.words();
@@ -93,15 +93,15 @@ impl History {
         let mut names: Vec<String> = of.into_iter().map(|of| made[usize::from(of)].to_string()).collect();
         given.into_iter().for_each(|(stage, name)| names[usize::from(stage)] = name.into_owned());
         let (values, errors) = kept.into_iter().unzip();
-        let (values, errors) = (Kept::all(values), Kept::all(errors));
+        let (values, errors) = (KeptEnd::keep_all(values), KeptEnd::keep_all(errors));
         (History { name: core.name.to_string(), words, record, outcomes, names, values, errors, relays, since }, describe)
     }
 
     /// The same, which keeps what is told of values and errors alone, where that isn't all.
-    pub(crate) fn described(mut self, describe: &Describe) -> History {
+    pub(crate) fn keep_described(mut self, describe: &Describe) -> History {
         if !matches!(describe, Describe::All) {
-            Kept::tell(&mut self.values, |value| describe.tell(Ok(value)));
-            Kept::tell(&mut self.errors, |error| describe.tell(Err(error)));
+            KeptEnd::keep_texts(&mut self.values, |value| describe.tell(Ok(value)));
+            KeptEnd::keep_texts(&mut self.errors, |error| describe.tell(Err(error)));
         }
         self
     }
@@ -117,12 +117,12 @@ impl History {
     }
 
     /// What the events are answered, and what they settle, as they are done again.
-    pub(crate) fn replies(&self) -> Vec<Replied> {
-        done_again(&self.words, self.names.len() as u16).expect("memory for a ledger")
+    pub(crate) fn replay(&self) -> Vec<Replied> {
+        replay(&self.words, self.names.len() as u16).expect("memory for a ledger")
     }
 
     /// The stages for which relays stand.
-    pub(crate) fn relayed(&self) -> impl Iterator<Item = u16> + '_ {
+    pub(crate) fn relayed_stages(&self) -> impl Iterator<Item = u16> + '_ {
         self.relays.iter().map(|(_, stage)| *stage)
     }
 
@@ -139,7 +139,7 @@ impl History {
 
     /// What is told of an error.
     pub(crate) fn error(&self, code: u32) -> String {
-        self.errors[code as usize].as_ref().map_or_else(|| AN_ERROR.into(), |error| escaped(&error.text(shortly)))
+        self.errors[code as usize].as_ref().map_or_else(|| AN_ERROR.into(), |error| escape_text(&error.text(short_text)))
     }
 
     /// The words of all events, in their one order: docs/FORMATS.md, "Words of events".
@@ -161,7 +161,7 @@ impl History {
     /// assert_eq!(shipment.history().times().count(), 3);
     /// ```
     pub fn times(&self) -> impl Iterator<Item = Duration> + '_ {
-        self.record.times().map(Duration::from_nanos)
+        self.record.moments().map(Duration::from_nanos)
     }
 
     /// The names of stages, by their numbers.
@@ -180,11 +180,11 @@ impl History {
     /// ```
     /// let shipment = cf::Request::new("shipment 9", cf::Pool::new(4));
     /// shipment.supply(|| 20).then(|n| n + 1).wait().unwrap();
-    /// assert!(shipment.history().comes_again());
+    /// assert!(shipment.history().is_reproducible());
     /// ```
     #[must_use]
-    pub fn comes_again(&self) -> bool {
-        self.record.events() == self.words.len() && comes_again(&self.words, &self.outcomes).unwrap_or(false)
+    pub fn is_reproducible(&self) -> bool {
+        self.record.event_count() == self.words.len() && is_replayed(&self.words, &self.outcomes).unwrap_or(false)
     }
 
     /// What `cf run` does again, and `cf_look dot` draws: a line of JSON. A function stands there as `{"const": N}`, and is never called, since
@@ -197,7 +197,7 @@ impl History {
     /// ```
     #[must_use]
     pub fn script(&self) -> String {
-        without_end(self.told(Telling::Script))
+        trim_newline(self.tell(TaleFormat::Script))
     }
 
     /// What `cf run` prints of the script.
@@ -209,12 +209,12 @@ impl History {
     /// ```
     #[must_use]
     pub fn report(&self) -> String {
-        self.told(Telling::Report)
+        self.tell(TaleFormat::Report)
     }
 
     /// What `cf_look check` judges and `cf_look page` shows, a line of JSON: the events, and what they were answered and what stages hold in the
-    /// end, both by the graph. [`comes_again`](History::comes_again) says whether stages showed the same. The members `name`, `names`, `times`
-    /// (nanoseconds), `lanes`, `values`, `errors` and `relays` are for people.
+    /// end, both by the graph. [`is_reproducible`](History::is_reproducible) says whether stages showed the same. The members `name`, `names`,
+    /// `times` (nanoseconds), `lanes`, `values`, `errors` and `relays` are for people.
     ///
     /// ```
     /// let shipment = cf::Request::new("shipment 9", cf::Inline);
@@ -223,7 +223,7 @@ impl History {
     /// ```
     #[must_use]
     pub fn account(&self) -> String {
-        let mut account = without_end(self.told(Telling::Account));
+        let mut account = trim_newline(self.tell(TaleFormat::Account));
         if !self.relays.is_empty() {
             // The library doesn't tell which stages stand in for others.
             let relays: Vec<String> = self.relays.iter().map(|(relay, stage)| format!("[{relay},{stage}]")).collect();
@@ -237,7 +237,7 @@ impl History {
     ///
     /// # Errors
     ///
-    /// `NotFound` where `cf_look` isn't on the path; else those of [`page_by`](History::page_by).
+    /// `NotFound` where `cf_look` isn't on the path; else those of [`page_made_by`](History::page_made_by).
     ///
     /// ```
     /// let shipment = cf::Request::new("shipment 9", cf::Inline);
@@ -248,7 +248,7 @@ impl History {
     /// }
     /// ```
     pub fn page(&self) -> io::Result<String> {
-        self.page_by("cf_look")
+        self.page_made_by("cf_look")
     }
 
     /// The same, by the program `cf_look` that stands there.
@@ -259,9 +259,9 @@ impl History {
     ///
     /// ```
     /// let shipment = cf::Request::new("shipment 9", cf::Inline);
-    /// assert!(shipment.history().page_by("/no/such/program").is_err());
+    /// assert!(shipment.history().page_made_by("/no/such/program").is_err());
     /// ```
-    pub fn page_by(&self, program: impl AsRef<OsStr>) -> io::Result<String> {
+    pub fn page_made_by(&self, program: impl AsRef<OsStr>) -> io::Result<String> {
         page_of(&self.account(), program.as_ref())
     }
 
@@ -275,36 +275,36 @@ impl History {
     /// ```
     #[must_use]
     pub fn line(&self) -> String {
-        self.told(Telling::Line)
+        self.tell(TaleFormat::Line)
     }
 
-    fn told(&self, telling: Telling) -> String {
-        self.try_told(telling).expect("memory for a text")
+    fn tell(&self, telling: TaleFormat) -> String {
+        self.try_tell(telling).expect("memory for a text")
     }
 
-    fn try_told(&self, telling: Telling) -> Result<String, Refused> {
-        let is_for_people = matches!(telling, Telling::Lines | Telling::Line);
-        let words = if is_for_people { self.words_apart()? } else { self.words.clone() };
-        let mut tale = tale(&words, self.names.len() as u16)?;
-        if matches!(telling, Telling::Script | Telling::Report) {
+    fn try_tell(&self, telling: TaleFormat) -> Result<String, Refused> {
+        let is_for_people = matches!(telling, TaleFormat::Lines | TaleFormat::Line);
+        let words = if is_for_people { self.words_without_late()? } else { self.words.clone() };
+        let mut tale = new_tale(&words, self.names.len() as u16)?;
+        if matches!(telling, TaleFormat::Script | TaleFormat::Report) {
             return tale.text(telling);
         }
-        tale.times(&self.times().map(|at| at.as_nanos() as u64).collect::<Vec<_>>())?;
-        tale.say(Said::Name, [&self.name])?;
-        tale.say(Said::Stages, &self.names)?;
-        tale.say(Said::Callers, callers(&words))?;
-        let (shown, lost) = (if is_for_people { shortly } else { wholly }, |text: &str| is_for_people.then(|| text.to_owned()));
-        tale.say(Said::Values, texts(&self.values, |value| Describe::All.tell(Ok(value))).chain(lost(A_VALUE)))?;
-        tale.say(Said::Errors, texts(&self.errors, shown).chain(lost(AN_ERROR)))?;
+        tale.set_times(&self.times().map(|at| at.as_nanos() as u64).collect::<Vec<_>>())?;
+        tale.say(Label::Name, [&self.name])?;
+        tale.say(Label::Stages, &self.names)?;
+        tale.say(Label::Callers, callers(&words))?;
+        let (shown, lost) = (if is_for_people { short_text } else { full_text }, |text: &str| is_for_people.then(|| text.to_owned()));
+        tale.say(Label::Values, texts(&self.values, |value| Describe::All.tell(Ok(value))).chain(lost(A_VALUE)))?;
+        tale.say(Label::Errors, texts(&self.errors, shown).chain(lost(AN_ERROR)))?;
         tale.text(telling)
     }
 
     /// The words, of which those that came too late name no value and no error of a stage, since nobody keeps theirs: the number in them is the one
     /// behind those of all stages. What settles a relay of this request is a relay's, though the machine does it as the clock.
-    fn words_apart(&self) -> Result<Vec<u64>, Refused> {
+    fn words_without_late(&self) -> Result<Vec<u64>, Refused> {
         let lost = self.names.len() as u64;
         let apart = |(word, reply, _): Replied| {
-            let parts = word::parts(word);
+            let parts = word::decode(word);
             let is_kept = !matches!(reply, Reply::Flag(false) | Reply::Finished(Finished::Late | Finished::NotYours));
             match (parts.kind, parts.tag) {
                 _ if is_kept => word,
@@ -315,15 +315,15 @@ impl History {
         let mut is_relay = vec![false; self.names.len()];
         self.relays.iter().for_each(|(relay, _)| is_relay[usize::from(*relay)] = true);
         let by_relay = |word| {
-            let parts = word::parts(word);
+            let parts = word::decode(word);
             let is_relays = parts.who == CLOCK && parts.kind != ATTACH && is_relay[usize::from(parts.stage)];
             if is_relays {
-                word::by(RELAY, word)
+                word::with_caller(RELAY, word)
             } else {
                 word
             }
         };
-        Ok(done_again(&self.words, self.names.len() as u16)?.into_iter().map(apart).map(by_relay).collect())
+        Ok(replay(&self.words, self.names.len() as u16)?.into_iter().map(apart).map(by_relay).collect())
     }
 }
 
@@ -346,19 +346,19 @@ pub(crate) fn page_of(account: &str, program: &OsStr) -> io::Result<String> {
 
 /// What the callers are called, up to the last that did something.
 fn callers(words: &[u64]) -> Vec<String> {
-    words.iter().map(|word| word::parts(*word).who).max().map_or(Vec::new(), |last| (0..=last).map(caller).collect())
+    words.iter().map(|word| word::decode(*word).who).max().map_or(Vec::new(), |last| (0..=last).map(caller).collect())
 }
 
 impl fmt::Display for History {
     /// A line for each event, and one for each stage that was settled by it: docs/FORMATS.md, "Histories in words".
     fn fmt(&self, f: &mut fmt::Formatter<'_>) -> fmt::Result {
-        f.write_str(&self.told(Telling::Lines))
+        f.write_str(&self.tell(TaleFormat::Lines))
     }
 }
 
 impl fmt::Debug for History {
     fn fmt(&self, f: &mut fmt::Formatter<'_>) -> fmt::Result {
-        write!(f, "History({}, {} events, {} stages)", escaped(&self.name), self.words.len(), self.names.len())
+        write!(f, "History({}, {} events, {} stages)", escape_text(&self.name), self.words.len(), self.names.len())
     }
 }
 
@@ -366,20 +366,20 @@ impl fmt::Debug for History {
 const A_VALUE: &str = "a value";
 const AN_ERROR: &str = "an error";
 
-fn wholly(error: &Error) -> String {
+fn full_text(error: &Error) -> String {
     Describe::All.tell(Err(error))
 }
 
-fn shortly(error: &Error) -> String {
-    short(wholly(error))
+fn short_text(error: &Error) -> String {
+    shorten(full_text(error))
 }
 
 /// What is told of each stage's, and nothing of a stage that has none.
-fn texts<'a, T>(all: &'a [Option<Kept<T>>], tell: impl Fn(&T) -> String + 'a) -> impl Iterator<Item = String> + 'a {
+fn texts<'a, T>(all: &'a [Option<KeptEnd<T>>], tell: impl Fn(&T) -> String + 'a) -> impl Iterator<Item = String> + 'a {
     all.iter().map(move |kept| kept.as_ref().map_or_else(String::new, |kept| kept.text(&tell)))
 }
 
-fn without_end(mut line: String) -> String {
+fn trim_newline(mut line: String) -> String {
     line.truncate(line.trim_end().len());
     line
 }
@@ -397,7 +397,7 @@ pub(crate) fn caller(who: u8) -> String {
 #[cfg(feature = "serde")]
 impl serde::Serialize for History {
     fn serialize<S: serde::Serializer>(&self, serializer: S) -> Result<S::Ok, S::Error> {
-        Json::of(&self.account()).serialize(serializer)
+        Json::parse(&self.account()).serialize(serializer)
     }
 }
 

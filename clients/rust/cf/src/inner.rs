@@ -1,7 +1,7 @@
 //! What stands under a request's lock: the library's machine, and what its numbers stand for.
 //!
-//! Each change is one call of the machine. The stages that it settled come with its reply, and are written where polls read them under the same
-//! hold: nobody reads what lies behind what he was told. Nothing here says who wins, what is ready or what follows.
+//! Each change is one call of the machine. Its reply has the stages that it settled. They are written to the slots under the same hold, so a poll
+//! reads no older state than it was told. Nothing here decides who wins, what is ready or what follows.
 //!
 //! A value's number is that of the stage that gave it, and so is an error's.
 use crate::core::{Core, First, Needs};
@@ -11,10 +11,10 @@ use crate::ledger::{Hangs, Ledger};
 use crate::name::Made;
 use crate::slot::{Held, Slot};
 use crate::spawn::{CLOCK, RELAY};
-use crate::task::Task;
-use crate::value::{Call, Gave, Given, Val};
+use crate::task::StageFuture;
+use crate::value::{CallArgs, Returned, StageFn, Val};
 use crate::wakers::Wakers;
-use crate::word::{self, Form, BAD_ANSWER, CANCEL, CLAIM, COMPLETE, FAIL, FAIL_AS, FINISH, LINKS, SOME, THROWS, TIMED_OUT};
+use crate::word::{self, WordForm, BAD_ANSWER, CANCEL, CLAIM, COMPLETE, FAIL, FAIL_AS, FINISH, LINKS, SOME, THROWS, TIMED_OUT};
 use cf_graph::{Answer, Args, Cause, Claimed, Finished, Outcome, Refused, Reply, Task as Claim, Value};
 #[cfg(feature = "tokio")]
 use std::any::Any;
@@ -27,56 +27,56 @@ use std::sync::{Arc, Weak};
 use std::task::Waker;
 use std::time::Duration;
 
-/// How many stages a request's first memory is for, at most; it grows like any row.
+/// The most stages that a request's first memory has room for.
 pub(crate) const SLOTS: u16 = 64;
 
 pub(crate) struct Inner {
     pub(crate) ledger: Ledger,
     pub(crate) slots: Vec<Slot>,
-    /// What histories call stages that were given no name. Stages that were made one after another in the same way share one.
+    /// The names in histories of stages without one of their own. Stages that are made alike share an entry.
     pub(crate) made: Vec<Made>,
-    /// The names that were given to stages.
+    /// Names that the user gave.
     pub(crate) names: BTreeMap<u16, Cow<'static, str>>,
-    /// What histories tell of values and errors.
+    /// How histories describe values and errors.
     pub(crate) describe: crate::describe::Describe,
-    /// Who is told that the request is over.
+    /// The hook for the end of the request.
     pub(crate) ending: Option<Box<Ending>>,
-    /// The handles that wait for a stage.
+    /// The wakers of handles that wait for a stage.
     pub(crate) waiting: Wakers,
-    /// Workers that wait for a stage of this request, and could run functions meanwhile.
+    /// Wakers of workers that wait for a stage of this request, and could run functions meanwhile.
     pub(crate) helpers: Vec<Waker>,
-    /// Jobs that were asked for and aren't done, and those of them that haven't begun.
+    /// The number of jobs that were asked for and aren't done, and of those that haven't begun.
     pub(crate) jobs: usize,
     pub(crate) coming: usize,
     /// Whether a stage may have become ready under this hold: one was settled, or one was attached that doesn't wait.
     is_more: bool,
     /// What few stages have.
     extras: BTreeMap<u16, Extra>,
-    /// Relays that are of no use any more, and are to be cancelled before the lock is free.
+    /// Relays that nobody needs any more. They are cancelled before the lock is free.
     letting: Vec<u16>,
-    /// Deadlines, by their stages; those of one stage in the order in which they were set. Those of settled stages go once no other one is left.
-    limits: Vec<Limit>,
-    pub(crate) awaited: Awaited,
+    /// Deadlines by stage, and those of one stage in the order in which they were set. Those of settled stages are dropped once no other is left.
+    limits: Vec<StageLimit>,
+    pub(crate) awaited: AwaitedAlarm,
 }
 
-/// The alarm that the clock is to ring at the first of the machine's deadlines.
-pub(crate) struct Awaited {
+/// The alarm at the first of the machine's deadlines.
+pub(crate) struct AwaitedAlarm {
     /// The number of the last alarm for which the clock was asked.
     number: u64,
-    /// Its moment, or [`NEVER`] where it isn't wanted any more.
+    /// Its moment, or [`NEVER`] if it isn't wanted any more.
     moment: u64,
-    /// How many stages that aren't settled have deadlines.
+    /// The number of open stages with deadlines.
     stages: u16,
-    /// What stops its timer, once dropped.
+    /// Stops its timer when dropped.
     #[cfg(feature = "tokio")]
     pub(crate) timer: Option<Box<dyn Any + Send>>,
 }
 
 const NEVER: u64 = u64::MAX;
 
-impl Awaited {
-    fn nothing() -> Awaited {
-        Awaited {
+impl AwaitedAlarm {
+    fn none() -> AwaitedAlarm {
+        AwaitedAlarm {
             number: 0,
             moment: NEVER,
             stages: 0,
@@ -85,23 +85,23 @@ impl Awaited {
         }
     }
 
-    /// Whether it is this alarm.
+    /// Whether the alarm of this number is awaited.
     pub(crate) fn is_for(&self, number: u64) -> bool {
         self.number == number && self.moment != NEVER
     }
 
-    /// The alarm isn't wanted any more. Its moment.
-    fn stop(&mut self, _after: &mut After) -> u64 {
+    /// Takes the moment: the alarm isn't wanted any more.
+    fn take_moment(&mut self, _after: &mut After) -> u64 {
         #[cfg(feature = "tokio")]
         if let Some(timer) = self.timer.take() {
-            _after.news().dropped.push(Held::Timer(timer));
+            _after.notices().dropped.push(Held::Timer(timer));
         }
         replace(&mut self.moment, NEVER)
     }
 }
 
-/// A deadline of a stage, and what the stage gets then: a value, or that its time ran out after this while.
-pub(crate) struct Limit {
+/// A deadline of a stage. The stage then gets a value, or times out with this wait.
+pub(crate) struct StageLimit {
     stage: u16,
     moment: u64,
     wait: Duration,
@@ -110,37 +110,37 @@ pub(crate) struct Limit {
 
 #[derive(Default)]
 pub(crate) struct Extra {
-    pub(crate) task: Option<Arc<Task>>,
+    pub(crate) task: Option<Arc<StageFuture>>,
     /// Relays of other requests that are settled as this one is.
     pub(crate) feeds: Vec<(Arc<Core>, u16)>,
-    /// The request and its stage for which it stands as a relay.
+    /// The stage of another request for which it stands as a relay.
     pub(crate) of: Option<(Weak<Core>, u16)>,
-    /// Relays that are of no use once it is settled.
+    /// Relays that nobody needs once it is settled.
     lets_go: Vec<u16>,
 }
 
-/// What a request holds that may have other requests, and the names of its stages, whose room goes with that of its slots.
-pub(crate) struct Kept {
+/// The parts of a request that may hold other requests, and the names of its stages.
+pub(crate) struct Remains {
     slots: Vec<Slot>,
     made: Vec<Made>,
     #[allow(dead_code)]
     extras: BTreeMap<u16, Extra>,
     #[allow(dead_code)]
-    limits: Vec<Limit>,
+    limits: Vec<StageLimit>,
 }
 
-impl Kept {
+impl Remains {
     pub(crate) fn is_empty(&self) -> bool {
         self.slots.is_empty()
     }
 }
 
-/// How many small rows of slots a thread keeps, to be used again.
+/// The number of small slot lists that a thread keeps for reuse.
 const MOST_KEPT: usize = 8;
 
-impl Drop for Kept {
+impl Drop for Remains {
     fn drop(&mut self) {
-        self.slots.drain(..).for_each(Slot::let_go);
+        self.slots.drain(..).for_each(Slot::drop_content);
         let is_small = self.slots.capacity() <= usize::from(SLOTS);
         let _ = ROWS.try_with(|rows| {
             let mut rows = rows.borrow_mut();
@@ -152,73 +152,73 @@ impl Drop for Kept {
     }
 }
 
-/// Rows for the slots and the names of so many stages.
-fn rows(room: u16) -> (Vec<Slot>, Vec<Made>) {
+/// Empty lists for the slots and the names of this many stages.
+fn take_rows(room: u16) -> (Vec<Slot>, Vec<Made>) {
     let kept = ROWS.try_with(|rows| rows.borrow_mut().pop()).ok().flatten();
     kept.unwrap_or_else(|| (Vec::with_capacity(usize::from(room.min(SLOTS))), Vec::new()))
 }
 
-/// What is to be told once the lock is free, after what a hold of it changed: mostly nothing, or that jobs are to be asked for.
+/// What is to be done once the lock is free: mostly nothing, or jobs to be asked for.
 #[derive(Default)]
 pub(crate) struct After {
     pub(crate) jobs: usize,
-    news: Option<Box<News>>,
+    news: Option<Box<Notices>>,
 }
 
-/// What else is to be told.
+/// What else is to be done.
 #[derive(Default)]
-pub(crate) struct News {
+pub(crate) struct Notices {
     pub(crate) wakers: Vec<Waker>,
     pub(crate) dropped: Vec<Held>,
     pub(crate) feeds: Vec<Feed>,
-    pub(crate) tasks: Vec<Arc<Task>>,
-    /// A stage, and the relay that is to be settled as it is.
+    pub(crate) tasks: Vec<Arc<StageFuture>>,
+    /// A stage, and the relay that settles as it does.
     pub(crate) links: Vec<(Arc<Core>, u16, u16)>,
-    /// A stage of another request, and the relay that is settled and stands for it.
+    /// A stage of another request, and its relay, which is settled.
     pub(crate) ends: Vec<(Weak<Core>, u16, u16)>,
-    /// The alarm for which the clock is to be asked, and after which while it is to be rung.
+    /// The alarm to ask the clock for, and its wait.
     pub(crate) alarm: Option<(u64, Duration)>,
 }
 
-/// A relay of another request, and what it is to be settled with.
+/// A relay of another request, and its result.
 pub(crate) type Feed = (Arc<Core>, u16, Result<Val, Error>);
 
-/// What a worker is to do: a stage that it has claimed, its function, and what that is called with.
-pub(crate) type Todo = (u16, Call, Args);
+/// A claimed stage, its function, and the function's arguments.
+pub(crate) type Todo = (u16, StageFn, Args);
 
 thread_local! {
-    /// The rows of requests that ended on this thread, which are empty and have room.
+    /// Empty lists of requests that ended on this thread, with their room.
     static ROWS: RefCell<Vec<(Vec<Slot>, Vec<Made>)>> = const { RefCell::new(Vec::new()) };
-    /// What this thread has told all of, to be used again: it has room.
+    /// Empty notices for reuse, with their room.
     #[allow(clippy::vec_box)]
-    static TOLD: RefCell<Vec<Box<News>>> = const { RefCell::new(Vec::new()) };
+    static TOLD: RefCell<Vec<Box<Notices>>> = const { RefCell::new(Vec::new()) };
 }
 
 impl After {
-    /// What is to be told, to which more comes.
+    /// The notices, to add to.
     #[inline]
-    pub(crate) fn news(&mut self) -> &mut News {
+    pub(crate) fn notices(&mut self) -> &mut Notices {
         self.news.get_or_insert_with(|| TOLD.try_with(|told| told.borrow_mut().pop()).ok().flatten().unwrap_or_default())
     }
 
-    /// How many jobs are to be asked for, and what else is to be told.
+    /// The number of jobs to ask for, and the notices.
     #[inline]
-    pub(crate) fn into_parts(self) -> (usize, Option<Box<News>>) {
+    pub(crate) fn into_parts(self) -> (usize, Option<Box<Notices>>) {
         (self.jobs, self.news)
     }
 }
 
-impl News {
-    /// Keeps the room of what was told all of.
-    pub(crate) fn keep(self: Box<News>) {
+impl Notices {
+    /// Keeps the emptied notices for reuse.
+    pub(crate) fn keep_room(self: Box<Notices>) {
         let _ = TOLD.try_with(|told| told.borrow_mut().push(self));
     }
 }
 
 impl Inner {
     #[inline]
-    pub(crate) fn over(ledger: Ledger, room: u16) -> Inner {
-        let (slots, made) = rows(room);
+    pub(crate) fn new(ledger: Ledger, room: u16) -> Inner {
+        let (slots, made) = take_rows(room);
         Inner {
             ledger,
             slots,
@@ -234,7 +234,7 @@ impl Inner {
             extras: BTreeMap::new(),
             letting: Vec::new(),
             limits: Vec::new(),
-            awaited: Awaited::nothing(),
+            awaited: AwaitedAlarm::none(),
         }
     }
 
@@ -252,51 +252,60 @@ impl Inner {
         self.extras.entry(stage).or_default()
     }
 
-    /// What a stage is settled with, as the ledger told it.
+    /// The result of a stage, if it is settled.
     #[inline]
-    pub(crate) fn told(&self, stage: u16) -> Option<Result<Val, Error>> {
+    pub(crate) fn end_of(&self, stage: u16) -> Option<Result<Val, Error>> {
         let slot = &self.slots[usize::from(stage)];
         match slot.blamed() {
-            Some(from) => Some(Err(self.error(from))),
-            None => slot.outcome().map(|outcome| self.outcome(outcome)),
+            Some(from) => Some(Err(self.error_of(from))),
+            None => slot.outcome().map(|outcome| self.result_of(outcome)),
         }
     }
 
-    fn error(&self, from: u16) -> Error {
+    fn error_of(&self, from: u16) -> Error {
         self.slots[usize::from(from)].error().expect("the stage failed").clone()
     }
 
-    /// What an outcome stands for, in which any error but a cancellation has a code.
-    fn outcome(&self, outcome: Outcome) -> Result<Val, Error> {
+    /// The result that an outcome stands for. Any error but a cancellation has a code there.
+    fn result_of(&self, outcome: Outcome) -> Result<Val, Error> {
         match outcome {
-            Outcome::Value(value) => Ok(self.value(value)),
-            Outcome::Fault { cause: Cause::Thrown(code), .. } => Err(self.error(code as u16)),
+            Outcome::Value(value) => Ok(self.value_of(value)),
+            Outcome::Fault { cause: Cause::Thrown(code), .. } => Err(self.error_of(code as u16)),
             Outcome::Fault { .. } => Err(Error::Cancelled),
         }
     }
 
     #[inline]
-    fn value(&self, value: Value) -> Val {
+    fn value_of(&self, value: Value) -> Val {
         match value {
             Value::Nil => Val::Nil,
             Value::Int(number) => self.slots[number as usize].value().expect("the stage gave a value").clone(),
         }
     }
 
-    /// What a function is called with.
-    pub(crate) fn given(&self, args: Args) -> Given {
+    /// The values for a function's arguments.
+    pub(crate) fn call_args(&self, args: Args) -> CallArgs {
         match args {
-            Args::None => Given::Nothing,
-            Args::One(value) => Given::One(self.value(value)),
-            Args::Two(first, second) => Given::Two(self.value(first), self.value(second)),
-            Args::Got(outcome) => Given::Got(self.outcome(outcome)),
+            Args::None => CallArgs::Nothing,
+            Args::One(value) => CallArgs::One(self.value_of(value)),
+            Args::Two(first, second) => CallArgs::Two(self.value_of(first), self.value_of(second)),
+            Args::Got(outcome) => CallArgs::Got(self.result_of(outcome)),
+            args => unreachable!("{args:?} are arguments of another library"),
         }
     }
 
     // Changes.
 
     #[inline(always)]
-    pub(crate) fn attach(&mut self, who: u8, form: Form, of: &[u16], call: Option<Call>, made: Made, after: &mut After) -> Result<u16, Refusal> {
+    pub(crate) fn attach(
+        &mut self,
+        who: u8,
+        form: WordForm,
+        of: &[u16],
+        call: Option<StageFn>,
+        made: Made,
+        after: &mut After,
+    ) -> Result<u16, Refusal> {
         // Nothing can come of a stage now that has no function, or sources none of which is settled.
         let waits = match of {
             [] => call.is_none(),
@@ -304,43 +313,43 @@ impl Inner {
         };
         match self.ledger.attach(who, form, of, call.is_some()) {
             Ok(stage) => {
-                let made = self.made(made);
+                let made = self.place_of_name(made);
                 self.slots.push(Slot::new(made, call));
                 self.is_more |= !waits;
-                self.show(after);
+                self.show_settled(after);
                 Ok(stage)
             }
             Err(why) => {
-                Inner::let_drop(call.map_or(Held::Nothing, Held::Call), after);
+                Inner::drop_later(call.map_or(Held::Nothing, Held::Call), after);
                 Err(why)
             }
         }
     }
 
-    /// The place of what a stage is called, which may be that of one of the stages before.
+    /// The index of a stage's name in `made`. The last stages may share it.
     #[inline]
-    fn made(&mut self, made: Made) -> u16 {
+    fn place_of_name(&mut self, made: Made) -> u16 {
         match self.made.last() {
-            Some(last) if last.is(made) => self.made.len() as u16 - 1,
-            _ => self.made_before(made),
+            Some(last) if last.is_same(made) => self.made.len() as u16 - 1,
+            _ => self.find_or_add_name(made),
         }
     }
 
-    fn made_before(&mut self, made: Made) -> u16 {
+    fn find_or_add_name(&mut self, made: Made) -> u16 {
         let lately = self.made.iter().enumerate().rev().take(4);
-        let at = lately.into_iter().find(|(_, other)| other.is(made)).map_or(self.made.len(), |(at, _)| at);
+        let at = lately.into_iter().find(|(_, other)| other.is_same(made)).map_or(self.made.len(), |(at, _)| at);
         if at == self.made.len() {
             self.made.push(made);
         }
         at as u16
     }
 
-    /// Attaches a row of stages, of which the last is given. Each is attached by an event, which settles no other one.
+    /// Attaches a tree of stages, and gives its root. Each is attached by one event, which settles no other stage.
     pub(crate) fn gather(&mut self, who: u8, form: cf_graph::Form, of: &[u16], made: Made, after: &mut After) -> Result<u16, Refusal> {
         let root = self.ledger.gather(who, form, of)?;
-        let made = self.made(made);
+        let made = self.place_of_name(made);
         self.slots.resize_with(usize::from(root) + 1, || Slot::new(made, None));
-        self.show(after);
+        self.show_settled(after);
         Ok(root)
     }
 
@@ -360,16 +369,16 @@ impl Inner {
                 (kind, tail, Held::Error(Box::new(error)))
             }
         };
-        match self.ledger.act(word::of(kind, who, stage, tail)) {
+        match self.ledger.act(word::encode(kind, who, stage, tail)) {
             Ok(Reply::Flag(true)) => {
-                self.hold(stage, holds, after);
-                self.show(after);
+                self.keep_content(stage, holds, after);
+                self.show_settled(after);
                 return Ok(());
             }
             Ok(_) => {}
             Err(why) => {
-                Inner::let_drop(holds, after);
-                refused(why)
+                Inner::drop_later(holds, after);
+                panic_refused(why)
             }
         }
         Err(match holds {
@@ -380,33 +389,33 @@ impl Inner {
         })
     }
 
-    /// Keeps what a stage is settled with, unless it is settled already. What isn't kept any more is to be dropped.
+    /// Keeps a stage's value or error, unless the stage is settled already. Drops the other one later.
     #[inline(always)]
-    fn hold(&mut self, stage: u16, keeps: Held, after: &mut After) {
+    fn keep_content(&mut self, stage: u16, keeps: Held, after: &mut After) {
         let slot = self.slot(stage);
         let old = if slot.is_settled() { keeps } else { replace(&mut slot.held, keeps) };
-        Inner::let_drop(old, after);
+        Inner::drop_later(old, after);
     }
 
     #[inline]
-    fn let_drop(held: Held, after: &mut After) {
+    fn drop_later(held: Held, after: &mut After) {
         match held {
             // To drop it would take a call.
             Held::Nothing => forget(held),
-            held => after.news().dropped.push(held),
+            held => after.notices().dropped.push(held),
         }
     }
 
-    /// Shows which stages the last call settled.
+    /// Writes the stages that the last call settled to their slots.
     #[inline]
-    fn show(&mut self, after: &mut After) {
+    fn show_settled(&mut self, after: &mut After) {
         if !self.ledger.told.is_empty() {
-            self.show_some(after);
+            self.show_each_out_of_line(after);
         }
     }
 
     #[inline(never)]
-    fn show_some(&mut self, after: &mut After) {
+    fn show_each_out_of_line(&mut self, after: &mut After) {
         self.show_each(after);
     }
 
@@ -416,24 +425,24 @@ impl Inner {
             let (stage, told) = self.ledger.told.at(at);
             let slot = &mut self.slots[usize::from(stage)];
             // Most have a value, and nobody waits for them.
-            if !matches!(told, Outcome::Value(_)) || slot.has_more() || self.waiting.has(stage) {
-                return self.show_by(at, after, |_, _, _, _| false);
+            if !matches!(told, Outcome::Value(_)) || slot.needs_more_than_outcome() || self.waiting.has_waker(stage) {
+                return self.show_from(at, after, |_, _, _, _| false);
             }
             self.is_more = true;
             slot.settle(told, stage);
-            self.ledger.shown();
+            self.ledger.note_shown();
         }
     }
 
-    /// Shows which stages the last call settled, from this one on. It has done an event more for each relay that follows, and for those stages of
-    /// which this holds: each is the lowest one that its event settles.
+    /// Writes the settled stages to their slots, from the one at `first` on. Counts an event for each relay, and for each stage with `has_event`: it
+    /// is the lowest one that its event settled.
     #[cold]
-    fn show_by(&mut self, first: usize, after: &mut After, has_event: impl Fn(&mut Inner, u16, Outcome, &mut After) -> bool) {
+    fn show_from(&mut self, first: usize, after: &mut After, has_event: impl Fn(&mut Inner, u16, Outcome, &mut After) -> bool) {
         let mut hangs = Hangs::new();
         for at in first..self.ledger.told.len() {
             let (stage, outcome) = self.ledger.told.at(at);
             if self.slots[usize::from(stage)].follows || has_event(self, stage, outcome, after) {
-                self.ledger.record.done(1);
+                self.ledger.record.note_events(1);
             }
             self.show_one(stage, outcome, &mut hangs, after);
         }
@@ -441,65 +450,64 @@ impl Inner {
 
     fn show_one(&mut self, stage: u16, outcome: Outcome, hangs: &mut Hangs, after: &mut After) {
         let from = match outcome {
-            Outcome::Fault { cause: Cause::TimedOut | Cause::BadAnswer, .. } => self.came_from(stage, hangs),
+            Outcome::Fault { cause: Cause::TimedOut | Cause::BadAnswer, .. } => self.origin_of_error(stage, hangs),
             _ => stage,
         };
-        self.settled(stage, outcome, from, after);
+        self.mark_settled(stage, outcome, from, after);
     }
 
-    /// A stage is told to be settled, by an error of that one where the error has no code.
+    /// Writes a settled stage to its slot. `from` is the stage of an error without a code.
     #[inline]
-    fn settled(&mut self, stage: u16, outcome: Outcome, from: u16, after: &mut After) {
+    fn mark_settled(&mut self, stage: u16, outcome: Outcome, from: u16, after: &mut After) {
         self.is_more = true;
         let slot = &mut self.slots[usize::from(stage)];
         slot.settle(outcome, from);
-        self.ledger.shown();
+        self.ledger.note_shown();
         if let Held::Call(_) = slot.held {
-            after.news().dropped.push(take(&mut slot.held));
+            after.notices().dropped.push(take(&mut slot.held));
         }
         if slot.has_extra {
-            self.settled_extra(stage, after);
+            self.finish_extra(stage, after);
         }
-        if self.waiting.has(stage) {
-            self.waiting.take(stage, &mut after.news().wakers);
+        if self.waiting.has_waker(stage) {
+            self.waiting.take_all(stage, &mut after.notices().wakers);
         }
     }
 
-    /// From which stage the time-out or the bad answer came that this one is settled with, since the ledger has no code for it: from this one, where
-    /// it holds the error; else whence the stage has it from which this one took it over. That is the one to which it is linked, the one for which
-    /// it is a relay, or the first of its sources that failed.
-    fn came_from(&mut self, stage: u16, hangs: &mut Hangs) -> u16 {
+    /// The stage from which a timeout or a bad answer came, for which the ledger has no code. That is this stage, if it holds the error. Otherwise it
+    /// is the origin of the stage it is linked to, of the stage that it relays, or of the first source that failed.
+    fn origin_of_error(&mut self, stage: u16, hangs: &mut Hangs) -> u16 {
         if let Some(Error::TimedOut(_) | Error::BadAnswer) = self.slot(stage).error() {
             return stage;
         }
         if hangs.is_empty() {
-            *hangs = self.ledger.hangs();
+            *hangs = self.ledger.dependencies();
         }
         let [first, second, link] = hangs[usize::from(stage)].1;
-        let relayed = self.ledger.followed(stage);
+        let relayed = self.ledger.stage_followed_by(stage);
         let mut of = [link, relayed, first, second].into_iter().flatten();
         of.find_map(|of| self.slots[usize::from(of)].blamed()).expect("what it hangs on failed")
     }
 
-    fn settled_extra(&mut self, stage: u16, after: &mut After) {
+    fn finish_extra(&mut self, stage: u16, after: &mut After) {
         self.forget_limits(stage, after);
         let extra = match self.extras.remove(&stage) {
             Some(extra) => extra,
             None => return,
         };
         if let Some(task) = extra.task {
-            after.news().tasks.push(task);
+            after.notices().tasks.push(task);
         }
         self.letting.extend(extra.lets_go);
         if let Some((of, number)) = extra.of {
-            after.news().ends.push((of, number, stage));
+            after.notices().ends.push((of, number, stage));
         }
         for (to, relay) in extra.feeds {
-            after.news().feeds.push((to, relay, self.told(stage).expect("the stage is settled")));
+            after.notices().feeds.push((to, relay, self.end_of(stage).expect("the stage is settled")));
         }
     }
 
-    /// Cancels relays that are of no use any more.
+    /// Cancels relays that nobody needs any more.
     #[inline]
     pub(crate) fn cancel_relays(&mut self, after: &mut After) {
         if !self.letting.is_empty() {
@@ -516,8 +524,8 @@ impl Inner {
         }
     }
 
-    /// Relays are to be cancelled once the stage is settled for which they were made.
-    pub(crate) fn let_go(&mut self, stage: Option<u16>, relays: Vec<u16>) {
+    /// Cancels relays once the stage is settled for which they were made.
+    pub(crate) fn cancel_relays_with(&mut self, stage: Option<u16>, relays: Vec<u16>) {
         match stage.filter(|stage| !self.slot(*stage).is_settled()) {
             Some(stage) => self.extra(stage).lets_go.extend(relays),
             None => self.letting.extend(relays),
@@ -526,77 +534,77 @@ impl Inner {
 
     // Deadlines.
 
-    /// Sets a deadline of a stage. A value that it is to get then is given back where the stage is settled.
-    pub(crate) fn limit(&mut self, stage: u16, wait: Duration, gives: Option<Val>, after: &mut After) -> Option<Val> {
+    /// Sets a deadline of a stage. Gives the value back if the stage is settled.
+    pub(crate) fn set_limit(&mut self, stage: u16, wait: Duration, gives: Option<Val>, after: &mut After) -> Option<Val> {
         if self.slot(stage).is_settled() {
             return gives;
         }
         let moment = u64::try_from(wait.as_nanos()).map_or(NEVER, |wait| self.ledger.record.now().saturating_add(wait));
-        if let Err(why) = self.ledger.deadline(stage, moment, gives.is_some()) {
-            Inner::let_drop(gives.map_or(Held::Nothing, Held::Value), after);
-            refused(why);
+        if let Err(why) = self.ledger.set_deadline(stage, moment, gives.is_some()) {
+            Inner::drop_later(gives.map_or(Held::Nothing, Held::Value), after);
+            panic_refused(why);
         }
         let others = self.limits_of(stage);
         self.awaited.stages += u16::from(others.is_empty());
-        self.limits.insert(others.end, Limit { stage, moment, wait, gives });
+        self.limits.insert(others.end, StageLimit { stage, moment, wait, gives });
         self.slot(stage).has_extra = true;
         self.await_alarm(moment, after);
         None
     }
 
-    /// The places of a stage's deadlines.
+    /// The indices of a stage's deadlines.
     fn limits_of(&self, stage: u16) -> Range<usize> {
         let first = self.limits.partition_point(|limit| limit.stage < stage);
         first..first + self.limits[first..].iter().take_while(|limit| limit.stage == stage).count()
     }
 
-    /// A stage is settled, and needs none of its deadlines any more.
+    /// Forgets the deadlines of a settled stage.
     fn forget_limits(&mut self, stage: u16, after: &mut After) {
         let limits = self.limits_of(stage);
         if limits.is_empty() {
             return;
         }
         for value in self.limits[limits].iter_mut().filter_map(|limit| limit.gives.take()) {
-            after.news().dropped.push(Held::Value(value));
+            after.notices().dropped.push(Held::Value(value));
         }
         self.awaited.stages -= 1;
         if self.awaited.stages == 0 {
             self.limits.clear();
-            self.awaited.stop(after);
+            self.awaited.take_moment(after);
         }
     }
 
-    /// Has the clock asked for an alarm at a moment, unless it is to ring one before.
+    /// Asks for an alarm at a moment, unless an earlier one is awaited.
     fn await_alarm(&mut self, moment: u64, after: &mut After) {
         if moment < self.awaited.moment {
-            self.awaited.stop(after);
+            self.awaited.take_moment(after);
             self.awaited.number += 1;
             self.awaited.moment = moment;
             let wait = Duration::from_nanos(moment.saturating_sub(self.ledger.record.now()));
-            after.news().alarm = Some((self.awaited.number, wait));
+            after.notices().alarm = Some((self.awaited.number, wait));
         }
     }
 
-    /// An alarm is rung: time passes up to its moment.
-    pub(crate) fn rung(&mut self, alarm: u64, after: &mut After) {
+    /// Passes time to the moment of an alarm that rings.
+    pub(crate) fn ring_alarm(&mut self, alarm: u64, after: &mut After) {
         if self.awaited.is_for(alarm) {
-            let moment = self.awaited.stop(after);
-            self.pass(moment, after);
+            let moment = self.awaited.take_moment(after);
+            self.pass_time_to(moment, after);
         }
     }
 
-    /// Time passes up to a moment. Then the next alarm is asked for.
-    pub(crate) fn pass(&mut self, moment: u64, after: &mut After) {
-        let passed = self.ledger.pass(moment);
-        self.show_by(0, after, Inner::came_due);
-        passed.unwrap_or_else(|why| refused(why));
+    /// Passes time to a moment, and asks for the next alarm.
+    pub(crate) fn pass_time_to(&mut self, moment: u64, after: &mut After) {
+        let passed = self.ledger.pass_time_to(moment);
+        self.show_from(0, after, Inner::keep_due_value);
+        passed.unwrap_or_else(|why| panic_refused(why));
         if let Some(next) = self.ledger.next_deadline() {
             self.await_alarm(next, after);
         }
     }
 
-    /// Whether a stage was settled by a deadline of its own, and not by what another stage has. Then what it got by that is held.
-    fn came_due(&mut self, stage: u16, outcome: Outcome, after: &mut After) -> bool {
+    /// Whether a stage was settled by a deadline of its own. Then keeps the value or the error of that deadline.
+    fn keep_due_value(&mut self, stage: u16, outcome: Outcome, after: &mut After) -> bool {
         let gives = match outcome {
             Outcome::Value(Value::Int(number)) if number == i32::from(stage) => true,
             Outcome::Fault { cause: Cause::TimedOut, wrapped: false } => false,
@@ -610,18 +618,18 @@ impl Inner {
             None => Held::Error(Box::new(Error::TimedOut(limit.wait))),
         });
         match held {
-            Some(held) => self.hold(stage, held, after),
+            Some(held) => self.keep_content(stage, held, after),
             None => return false,
         }
         true
     }
 
-    /// An alarm is never rung, so the stages fail that have deadlines.
-    pub(crate) fn never_rung(&mut self, alarm: u64, after: &mut After) {
+    /// Fails the stages that have deadlines, since their alarm never rings.
+    pub(crate) fn give_up_alarm(&mut self, alarm: u64, after: &mut After) {
         if !self.awaited.is_for(alarm) {
             return;
         }
-        self.awaited.stop(after);
+        self.awaited.take_moment(after);
         let limited: Vec<u16> = self.limits.iter().map(|limit| limit.stage).collect();
         for stage in limited {
             if !self.slot(stage).is_settled() {
@@ -632,15 +640,15 @@ impl Inner {
 
     // Working.
 
-    /// A step of a worker: finishes the stage that it has in its hands, if it has one, and gives the function of the one that it has then, if one was
-    /// ready. The function is called with what is given there.
+    /// Does a worker's step: finishes the stage in its hands, if there is one, and claims the next ready one. Gives that one's function; its
+    /// arguments are in the hands.
     #[inline(always)]
-    pub(crate) fn step(&mut self, who: u8, hands: &mut Hands, after: &mut After) -> Option<Call> {
+    pub(crate) fn step(&mut self, who: u8, hands: &mut Hands, after: &mut After) -> Option<StageFn> {
         if let Some(stage) = hands.task.stage() {
-            hands.task.answer(answer_of(stage, &hands.keeps));
-            self.hold(stage, take(&mut hands.keeps), after);
+            hands.task.set_answer(answer_of(stage, &hands.keeps));
+            self.keep_content(stage, take(&mut hands.keeps), after);
         }
-        self.ledger.step(who, &mut hands.task).unwrap_or_else(|why| refused(why));
+        self.ledger.step(who, &mut hands.task).unwrap_or_else(|why| panic_refused(why));
         self.show_each(after);
         let stage = match hands.task.stage() {
             Some(stage) => stage,
@@ -654,48 +662,48 @@ impl Inner {
         match hands.task.args() {
             Args::One(value) => {
                 if hands.of != Some(value) {
-                    hands.get(Given::One(self.value(value)), Some(value));
+                    hands.set_args(CallArgs::One(self.value_of(value)), Some(value));
                 }
             }
-            args => self.give_more(stage, args, hands),
+            args => self.give_args(stage, args, hands),
         }
-        Some(self.call(stage))
+        Some(self.take_function(stage))
     }
 
     #[inline(never)]
-    fn give_more(&mut self, stage: u16, args: Args, hands: &mut Hands) {
-        let args = self.blaming(stage, args);
-        hands.get(self.given(args), None);
+    fn give_args(&mut self, stage: u16, args: Args, hands: &mut Hands) {
+        let args = self.with_blame(stage, args);
+        hands.set_args(self.call_args(args), None);
     }
 
-    /// The last step of a worker, which finishes the stage that it has in its hands.
-    pub(crate) fn last(&mut self, who: u8, hands: &mut Hands, after: &mut After) {
+    /// Finishes the stage in a worker's hands, without claiming another.
+    pub(crate) fn finish_last(&mut self, who: u8, hands: &mut Hands, after: &mut After) {
         if let Some(stage) = hands.task.stage() {
             let keeps = take(&mut hands.keeps);
-            self.answer(who, stage, answer_of(stage, &keeps), keeps, after);
+            self.finish_with(who, stage, answer_of(stage, &keeps), keeps, after);
             hands.task.clear();
         }
     }
 
-    fn taken(&mut self, stage: u16, args: Args) -> Todo {
-        let args = self.blaming(stage, args);
-        (stage, self.call(stage), args)
+    fn claimed_function(&mut self, stage: u16, args: Args) -> Todo {
+        let args = self.with_blame(stage, args);
+        (stage, self.take_function(stage), args)
     }
 
     #[inline]
-    fn call(&mut self, stage: u16) -> Call {
+    fn take_function(&mut self, stage: u16) -> StageFn {
         match replace(&mut self.slot(stage).held, Held::Nothing) {
             Held::Call(call) => call,
             _ => unreachable!("a stage that is ready has its function"),
         }
     }
 
-    /// What a function is called with, where an error that has no code is as one thrown by the stage from which it came.
+    /// The arguments, in which an error without a code is as if its origin had thrown it.
     #[inline]
-    fn blaming(&mut self, stage: u16, args: Args) -> Args {
+    fn with_blame(&mut self, stage: u16, args: Args) -> Args {
         match args {
             Args::Got(Outcome::Fault { cause: Cause::TimedOut | Cause::BadAnswer, wrapped }) => {
-                let source = self.ledger.hangs()[usize::from(stage)].1[0].expect("its form has a source");
+                let source = self.ledger.dependencies()[usize::from(stage)].1[0].expect("its form has a source");
                 let from = self.slot(source).blamed().expect("the source failed");
                 Args::Got(Outcome::Fault { cause: Cause::Thrown(u32::from(from)), wrapped })
             }
@@ -703,18 +711,18 @@ impl Inner {
         }
     }
 
-    /// Claims a stage that is ready.
+    /// Claims a ready stage.
     pub(crate) fn claim(&mut self, who: u8, stage: u16, _after: &mut After) -> Todo {
-        match self.ledger.act(word::of(CLAIM, who, stage, 0)) {
-            Ok(Reply::Claimed(Claimed::Granted(args))) => self.taken(stage, args),
-            Err(why) => refused(why),
+        match self.ledger.act(word::encode(CLAIM, who, stage, 0)) {
+            Ok(Reply::Claimed(Claimed::Granted(args))) => self.claimed_function(stage, args),
+            Err(why) => panic_refused(why),
             Ok(_) => unreachable!("the stage is ready"),
         }
     }
 
-    /// What a stage needs: of those that it hangs on, and that aren't settled, one that a worker of the request's executor can do something for,
-    /// else all others.
-    pub(crate) fn needs(&mut self, stage: u16, is_own: bool) -> Needs {
+    /// Finds, among the open stages that a stage depends on, one for which a worker of the request's executor can do something; if there is none,
+    /// what the stage waits for.
+    pub(crate) fn find_need(&mut self, stage: u16, is_own: bool) -> Needs {
         let mut needs = Needs::default();
         if self.slot(stage).is_settled() {
             return needs;
@@ -723,7 +731,7 @@ impl Inner {
             needs.first = Some(First::Function(stage));
             return needs;
         }
-        let hangs = self.ledger.hangs();
+        let hangs = self.ledger.dependencies();
         let (mut row, mut seen) = (vec![stage], vec![false; self.slots.len()]);
         let relays: BTreeMap<u16, u16> = self.ledger.relays.iter().copied().collect();
         while let Some(stage) = row.pop() {
@@ -751,8 +759,8 @@ impl Inner {
         needs
     }
 
-    /// Anything that a worker can do, where what it waits for may need any, and the stages for which relays wait.
-    pub(crate) fn any(&mut self, is_own: bool) -> Needs {
+    /// Finds any work of the request, and the stages for which its relays wait.
+    pub(crate) fn find_any_need(&mut self, is_own: bool) -> Needs {
         let ready = self.ledger.lowest_ready(0);
         let queued = || self.extras.values().filter_map(|extra| extra.task.as_ref()).find(|task| task.is_queued()).map(Arc::clone);
         let first = if is_own { ready.map(First::Function).or_else(|| queued().map(First::Future)) } else { None };
@@ -761,64 +769,65 @@ impl Inner {
         Needs { first, elsewhere, is_open: true }
     }
 
-    pub(crate) fn finish(&mut self, core: &Arc<Core>, who: u8, stage: u16, gave: Gave, after: &mut After) {
-        if let Gave::Stage(of, target) = gave {
+    pub(crate) fn finish(&mut self, core: &Arc<Core>, who: u8, stage: u16, gave: Returned, after: &mut After) {
+        if let Returned::Stage(of, target) = gave {
             return self.link(core, who, stage, of, target, after);
         }
-        let keeps = kept_of(gave);
-        self.answer(who, stage, answer_of(stage, &keeps), keeps, after);
+        let keeps = content_of(gave);
+        self.finish_with(who, stage, answer_of(stage, &keeps), keeps, after);
     }
 
-    /// Finishes a claimed stage, whose answer is kept so.
-    pub(crate) fn answer(&mut self, who: u8, stage: u16, answer: Answer, keeps: Held, after: &mut After) {
+    /// Finishes a claimed stage with an answer, and keeps its content.
+    pub(crate) fn finish_with(&mut self, who: u8, stage: u16, answer: Answer, keeps: Held, after: &mut After) {
         let tail = match answer {
             Answer::Give(Value::Nil) => 0,
             Answer::Give(Value::Int(number)) => SOME | u64::from(number as u32),
             Answer::Throw(code) => THROWS | u64::from(code),
             Answer::Link(target) => LINKS | u64::from(target),
+            answer => unreachable!("{answer:?} is an answer of another library"),
         };
-        self.hold(stage, keeps, after);
-        self.ledger.act(word::of(FINISH, who, stage, tail)).unwrap_or_else(|why| refused(why));
-        self.show(after);
+        self.keep_content(stage, keeps, after);
+        self.ledger.act(word::encode(FINISH, who, stage, tail)).unwrap_or_else(|why| panic_refused(why));
+        self.show_settled(after);
     }
 
-    /// Finishes a composing stage with a link to the stage that its function gave, or to the relay that stands for that.
+    /// Finishes a composing stage with a link to the stage that its function returned, or to the relay of that.
     fn link(&mut self, core: &Arc<Core>, who: u8, stage: u16, of: Arc<Core>, number: u16, after: &mut After) {
         let is_own = Arc::ptr_eq(core, &of);
         let relay = stage - 1;
         let target = if is_own && number < stage { number } else { relay };
-        let reply = self.ledger.act(word::of(FINISH, who, stage, LINKS | u64::from(target)));
+        let reply = self.ledger.act(word::encode(FINISH, who, stage, LINKS | u64::from(target)));
         if let Err(why) = reply {
-            after.news().dropped.push(Held::Core(of));
-            refused(why);
+            after.notices().dropped.push(Held::Core(of));
+            panic_refused(why);
         }
-        self.show(after);
+        self.show_settled(after);
         // Who waits for this stage may have to run what it hangs on now.
-        after.news().wakers.append(&mut self.helpers);
+        after.notices().wakers.append(&mut self.helpers);
         if reply != Ok(Reply::Finished(Finished::Won)) || (is_own && target == number) {
             // It may be the other request's last handle.
-            after.news().dropped.push(Held::Core(of));
+            after.notices().dropped.push(Held::Core(of));
             return;
         }
         if !is_own {
             self.names.insert(target, format!("relay of {number} of {}", of.name).into());
-            self.let_go(Some(stage), vec![target]);
-            after.news().links.push((of, number, target));
+            self.cancel_relays_with(Some(stage), vec![target]);
+            after.notices().links.push((of, number, target));
             return;
         }
         self.names.insert(target, format!("relay of {number}").into());
         self.slot(target).follows = true;
-        self.ledger.follow(target, number).unwrap_or_else(|why| refused(why));
-        self.show(after);
+        self.ledger.follow(target, number).unwrap_or_else(|why| panic_refused(why));
+        self.show_settled(after);
     }
 
-    /// Asks for one more job where more stages are ready than jobs come for, and wakes workers that only wait. A job that begins asks for the
-    /// next one, so nobody wakes many.
+    /// Asks for one more job if more stages are ready than jobs are coming, and wakes the waiting workers. A job that begins asks for the next one,
+    /// so no caller wakes many.
     #[inline]
     pub(crate) fn hire(&mut self, core: &Core, begins: bool, after: &mut After) {
         let is_more = take(&mut self.is_more);
         if is_more || begins {
-            let may_hire = self.jobs < core.most();
+            let may_hire = self.jobs < core.job_limit();
             if may_hire || !self.helpers.is_empty() {
                 self.hire_one(is_more, may_hire, after);
             }
@@ -827,9 +836,9 @@ impl Inner {
     }
 
     fn hire_one(&mut self, is_more: bool, may_hire: bool, after: &mut After) {
-        let ready = self.ledger.ready();
+        let ready = self.ledger.ready_count();
         if is_more && ready > 0 && !self.helpers.is_empty() {
-            after.news().wakers.append(&mut self.helpers);
+            after.notices().wakers.append(&mut self.helpers);
         }
         if ready > self.coming && may_hire {
             self.jobs += 1;
@@ -838,27 +847,27 @@ impl Inner {
         }
     }
 
-    /// All that may have other requests.
-    pub(crate) fn kept(&mut self) -> Kept {
-        Kept { slots: take(&mut self.slots), made: take(&mut self.made), extras: take(&mut self.extras), limits: take(&mut self.limits) }
+    /// Takes out all that may hold other requests.
+    pub(crate) fn take_remains(&mut self) -> Remains {
+        Remains { slots: take(&mut self.slots), made: take(&mut self.made), extras: take(&mut self.extras), limits: take(&mut self.limits) }
     }
 
-    /// Forgets for which stage a relay stands, since that has let go of it.
-    pub(crate) fn fed_now(&mut self, relay: u16) {
+    /// Forgets for which stage a relay stands, since that stage has settled it.
+    pub(crate) fn forget_fed_stage(&mut self, relay: u16) {
         if let Some(extra) = self.extras.get_mut(&relay) {
             extra.of = None;
         }
     }
 
-    /// Takes out a relay that is settled otherwise, and gives back its request.
-    pub(crate) fn unfed(&mut self, stage: u16, to: &Arc<Core>, relay: u16) -> Option<Arc<Core>> {
+    /// Takes a relay off a stage, and gives the relay's request.
+    pub(crate) fn take_feed(&mut self, stage: u16, to: &Arc<Core>, relay: u16) -> Option<Arc<Core>> {
         let feeds = &mut self.extras.get_mut(&stage)?.feeds;
         let is_it = |feed: &(Arc<Core>, u16)| feed.1 == relay && Arc::ptr_eq(&feed.0, to);
         feeds.iter().rposition(is_it).map(|at| feeds.remove(at).0)
     }
 
-    /// The stages that are ready, if no job is there that would run them. One that rests may rest for them.
-    pub(crate) fn given_up(&mut self, resting: usize) -> Vec<u16> {
+    /// The ready stages, if no job is left to run them. A job that waits may wait for them.
+    pub(crate) fn ready_without_job(&mut self, resting: usize) -> Vec<u16> {
         if self.jobs > resting {
             return Vec::new();
         }
@@ -866,25 +875,25 @@ impl Inner {
     }
 }
 
-/// The machine was refused memory for an event, and has changed nothing. The caller has nothing of a user's in its hands: what this panics with
-/// goes on once the lock is free.
+/// Panics, since the machine was refused memory for an event. It has changed nothing, and the caller holds nothing of a user's. The panic goes on
+/// once the lock is free.
 #[cold]
-fn refused(why: Refused) -> ! {
+fn panic_refused(why: Refused) -> ! {
     panic!("no memory for an event: {why}")
 }
 
-/// What is kept of what a function gave.
+/// The content of a slot for what a function returned.
 #[inline]
-pub(crate) fn kept_of(gave: Gave) -> Held {
+pub(crate) fn content_of(gave: Returned) -> Held {
     match gave {
-        Gave::Value(Val::Nil) => Held::Nothing,
-        Gave::Value(value) => Held::Value(value),
-        Gave::Error(error) => Held::Error(Box::new(error)),
-        Gave::Stage(..) | Gave::Later(_) => unreachable!("a link and what comes later are no answers"),
+        Returned::Value(Val::Nil) => Held::Nothing,
+        Returned::Value(value) => Held::Value(value),
+        Returned::Error(error) => Held::Error(Box::new(error)),
+        Returned::Stage(..) | Returned::Later(_) => unreachable!("a link and what comes later are no answers"),
     }
 }
 
-/// The answer of a stage's function as the machine has it, by what is kept of it.
+/// The machine's answer for the content of a slot.
 #[inline]
 fn answer_of(stage: u16, keeps: &Held) -> Answer {
     match keeps {
@@ -894,20 +903,20 @@ fn answer_of(stage: u16, keeps: &Held) -> Answer {
     }
 }
 
-/// What a worker has in its hands: a stage that it has claimed, what that one's function is called with, and what is kept of what it gave.
+/// A worker's claimed stage, its function's arguments, and the content that the function returned.
 pub(crate) struct Hands {
     pub(crate) task: Claim,
-    pub(crate) given: Given,
-    /// Of which value that is, if it is one: the next may be called with the same, as where many take one value. Slots keep their values, so none is
-    /// dropped here for the last time.
+    pub(crate) given: CallArgs,
+    /// The value that the argument is, if it is one: the next stage may take the same. Slots keep their values, so none is dropped here for the last
+    /// time.
     of: Option<Value>,
     pub(crate) keeps: Held,
 }
 
 impl Hands {
-    /// Keeps a value that the function gave.
+    /// Keeps a value that the function returned.
     #[inline]
-    pub(crate) fn keep(&mut self, value: Val) {
+    pub(crate) fn keep_value(&mut self, value: Val) {
         let keeps = match value {
             Val::Nil => Held::Nothing,
             value => Held::Value(value),
@@ -917,13 +926,13 @@ impl Hands {
     }
 
     pub(crate) fn empty() -> Hands {
-        Hands { task: Claim::default(), given: Given::Nothing, of: None, keeps: Held::Nothing }
+        Hands { task: Claim::default(), given: CallArgs::Nothing, of: None, keeps: Held::Nothing }
     }
 
     #[inline]
-    fn get(&mut self, given: Given, of: Option<Value>) {
+    fn set_args(&mut self, given: CallArgs, of: Option<Value>) {
         self.of = of;
-        if let Given::Nothing | Given::One(Val::Nil | Val::Small(_)) = self.given {
+        if let CallArgs::Nothing | CallArgs::One(Val::Nil | Val::Small(_)) = self.given {
             // Nothing in it is to be dropped, which would take a call.
             forget(replace(&mut self.given, given));
         } else {
@@ -947,9 +956,9 @@ mod tests {
         (0..SLOTS + 9).for_each(|_| drop(source.clone().then(|value| *value)));
         source.complete(1).unwrap();
         for over in [by_calls, by_workers] {
-            assert!(over.0.lock().ledger.rests(), "{}", over.name());
+            assert!(over.0.lock().ledger.is_resting(), "{}", over.name());
             drop(over.promise::<i32>());
-            assert!(!over.0.lock().ledger.rests(), "{}", over.name());
+            assert!(!over.0.lock().ledger.is_resting(), "{}", over.name());
         }
     }
 

@@ -12,7 +12,7 @@ pub(crate) enum Json {
 }
 
 impl Json {
-    pub(crate) fn of(text: &str) -> Json {
+    pub(crate) fn parse(text: &str) -> Json {
         read(&mut text.chars().peekable())
     }
 }

@@ -1,10 +1,10 @@
 //! The library's machine of one request, and when its events were done. One thread at a time has it.
 use crate::error::Refusal;
 use crate::inner::SLOTS;
-use crate::record::Record;
+use crate::record::EventTimes;
 use crate::spawn::CLOCK;
-use crate::word::{self, Form};
-use cf_graph::{Ledger as Words, Limit, Outcome, Plan, PlanBuilder, Refused, Reply, Request, RequestSizes, State, Tale, Task, Told, Value};
+use crate::word::{self, WordForm};
+use cf_graph::{Ledger as Words, Limit, Outcome, Plan, PlanBuilder, Refused, Reply, Request, RequestSizes, SettledStages, State, Tale, Task, Value};
 use std::cell::RefCell;
 use std::mem::take;
 use std::sync::{Mutex, MutexGuard, PoisonError};
@@ -19,7 +19,7 @@ pub(crate) struct Ledger {
     /// Not there where it rests.
     machine: Option<Request>,
     /// What its last call settled.
-    pub(crate) told: Told,
+    pub(crate) told: SettledStages,
     /// For how many stages there was room at first.
     room: u16,
     pub(crate) stages: u16,
@@ -31,7 +31,7 @@ pub(crate) struct Ledger {
     rests_from: u16,
     /// Which stage each relay of this request follows.
     pub(crate) relays: Vec<(u16, u16)>,
-    pub(crate) record: Record,
+    pub(crate) record: EventTimes,
     /// The last moment up to which time has passed for deadlines.
     passed: u64,
 }
@@ -40,7 +40,7 @@ pub(crate) struct Ledger {
 struct Spare {
     machine: Request,
     room: u16,
-    told: Told,
+    told: SettledStages,
     moments: Vec<u32>,
 }
 
@@ -51,7 +51,7 @@ pub(crate) type Replied = (u64, Reply, Vec<(u16, Outcome)>);
 pub(crate) type Hangs = Vec<(bool, [Option<u16>; 3])>;
 
 /// The plan that has no stages, of which all requests are.
-fn nothing() -> Result<MutexGuard<'static, Option<Plan>>, Refused> {
+fn empty_plan() -> Result<MutexGuard<'static, Option<Plan>>, Refused> {
     static NOTHING: Mutex<Option<Plan>> = Mutex::new(None);
     let mut nothing = NOTHING.lock().unwrap_or_else(PoisonError::into_inner);
     if nothing.is_none() {
@@ -61,16 +61,16 @@ fn nothing() -> Result<MutexGuard<'static, Option<Plan>>, Refused> {
 }
 
 /// What the words did, of which nothing is said yet.
-pub(crate) fn tale(words: &[u64], stages: u16) -> Result<Tale, Refused> {
-    match nothing()?.as_mut() {
+pub(crate) fn new_tale(words: &[u64], stages: u16) -> Result<Tale, Refused> {
+    match empty_plan()?.as_mut() {
         Some(plan) => Tale::new(plan, stages, words),
         None => Err(Refused::NO_MEMORY),
     }
 }
 
 /// The words done again on a ledger of their own.
-pub(crate) fn done_again(words: &[u64], stages: u16) -> Result<Vec<Replied>, Refused> {
-    let mut again = match nothing()?.as_mut() {
+pub(crate) fn replay(words: &[u64], stages: u16) -> Result<Vec<Replied>, Refused> {
+    let mut again = match empty_plan()?.as_mut() {
         Some(plan) => Words::new(plan, stages)?,
         None => return Err(Refused::NO_MEMORY),
     };
@@ -89,9 +89,9 @@ pub(crate) fn done_again(words: &[u64], stages: u16) -> Result<Vec<Replied>, Ref
 }
 
 /// Whether the words settle stages just as these were, as they are done again.
-pub(crate) fn comes_again(words: &[u64], outcomes: &[Option<Outcome>]) -> Result<bool, Refused> {
+pub(crate) fn is_replayed(words: &[u64], outcomes: &[Option<Outcome>]) -> Result<bool, Refused> {
     let mut same = vec![None; outcomes.len()];
-    for (_, _, told) in done_again(words, outcomes.len() as u16)? {
+    for (_, _, told) in replay(words, outcomes.len() as u16)? {
         told.into_iter().for_each(|(stage, outcome)| same[usize::from(stage)] = Some(outcome));
     }
     Ok(same == outcomes)
@@ -100,7 +100,7 @@ pub(crate) fn comes_again(words: &[u64], outcomes: &[Option<Outcome>]) -> Result
 impl Ledger {
     pub(crate) fn new(room: u16) -> Result<Ledger, Refusal> {
         let room = room.clamp(1, MOST_STAGES);
-        let Spare { machine, room, told, moments } = kept(room).map_or_else(|| opened(room), Ok).map_err(|_| Refusal::NoLedger)?;
+        let Spare { machine, room, told, moments } = take_spare(room).map_or_else(|| open_machine(room), Ok).map_err(|_| Refusal::NoLedger)?;
         Ok(Ledger {
             machine: Some(machine),
             told,
@@ -110,14 +110,14 @@ impl Ledger {
             words: Vec::new(),
             rests_from: SLOTS + 1,
             relays: Vec::new(),
-            record: Record::over(moments),
+            record: EventTimes::with_room_of(moments),
             passed: 0,
         })
     }
 
     /// The machine, and where it tells what it settles.
     #[inline(always)]
-    fn machine(&mut self) -> Result<(&mut Request, &mut Told), Refused> {
+    fn machine(&mut self) -> Result<(&mut Request, &mut SettledStages), Refused> {
         #[cfg(test)]
         crate::held::memory()?;
         if self.machine.is_none() {
@@ -128,7 +128,7 @@ impl Ledger {
 
     /// The same, or nothing where it rests: then no stage is ready, and none is due.
     #[inline]
-    fn awake(&mut self) -> Option<&mut Request> {
+    fn machine_if_awake(&mut self) -> Option<&mut Request> {
         self.machine.as_mut()
     }
 
@@ -138,17 +138,17 @@ impl Ledger {
     fn rest(&mut self) {
         if let Some(Ok(words)) = self.machine.as_mut().map(Request::words) {
             self.words = words;
-            self.keep(Told::default(), Vec::new());
+            self.keep_machine(SettledStages::default(), Vec::new());
         }
     }
 
     #[cfg(test)]
-    pub(crate) fn rests(&self) -> bool {
+    pub(crate) fn is_resting(&self) -> bool {
         self.machine.is_none()
     }
 
     /// Keeps the machine for a later request of this thread, with the room that it has got, unless enough are kept.
-    fn keep(&mut self, told: Told, moments: Vec<u32>) {
+    fn keep_machine(&mut self, told: SettledStages, moments: Vec<u32>) {
         let (machine, room) = (self.machine.take(), self.room.max(self.stages));
         let _ = KEPT.try_with(|kept| {
             let mut kept = kept.borrow_mut();
@@ -166,7 +166,7 @@ impl Ledger {
     #[inline(never)]
     fn resume(&mut self) -> Result<(), Refused> {
         let twice = MOST_STAGES.min(2 * self.stages);
-        let mut machine = kept(twice).map_or_else(|| opened(twice), Ok)?.machine;
+        let mut machine = take_spare(twice).map_or_else(|| open_machine(twice), Ok)?.machine;
         for word in &self.words {
             machine.apply(*word, LANE, &mut self.told)?;
         }
@@ -181,7 +181,7 @@ impl Ledger {
     pub(crate) fn act(&mut self, word: u64) -> Result<Reply, Refused> {
         let (machine, told) = self.machine()?;
         let reply = machine.apply(word, LANE, told)?;
-        self.record.done(1);
+        self.record.note_events(1);
         Ok(reply)
     }
 
@@ -191,7 +191,7 @@ impl Ledger {
         let held = task.stage().is_some();
         let (machine, told) = self.machine()?;
         machine.step(who, LANE, task, told)?;
-        self.record.done(u64::from(held) + u64::from(task.stage().is_some()));
+        self.record.note_events(u64::from(held) + u64::from(task.stage().is_some()));
         Ok(())
     }
 
@@ -205,24 +205,24 @@ impl Ledger {
 
     /// The stage that a relay of this request follows.
     #[inline]
-    pub(crate) fn followed(&self, relay: u16) -> Option<u16> {
+    pub(crate) fn stage_followed_by(&self, relay: u16) -> Option<u16> {
         self.relays.iter().find(|it| it.0 == relay).map(|it| it.1)
     }
 
     /// Sets a deadline of a stage, at which that gets the value of its own number, or times out.
-    pub(crate) fn deadline(&mut self, stage: u16, moment: u64, gives: bool) -> Result<(), Refused> {
+    pub(crate) fn set_deadline(&mut self, stage: u16, moment: u64, gives: bool) -> Result<(), Refused> {
         let limit = if gives { Limit::Give(Value::Int(i32::from(stage))) } else { Limit::Timeout };
-        self.machine()?.0.deadline(stage, moment, limit)
+        self.machine()?.0.set_deadline(stage, moment, limit)
     }
 
     /// Lets time pass up to a moment. A clock may have told of a later one by now. Where memory is refused, what was due before that is told.
-    pub(crate) fn pass(&mut self, moment: u64) -> Result<(), Refused> {
+    pub(crate) fn pass_time_to(&mut self, moment: u64) -> Result<(), Refused> {
         let passed = self.passed.max(moment);
         self.passed = passed;
         match &mut self.machine {
-            Some(machine) => machine.pass(passed, &mut self.told),
+            Some(machine) => machine.pass_time_to(passed, &mut self.told),
             None => {
-                self.told = Told::default();
+                self.told = SettledStages::default();
                 Ok(())
             }
         }
@@ -230,27 +230,27 @@ impl Ledger {
 
     /// The moment of the deadline that comes next.
     pub(crate) fn next_deadline(&mut self) -> Option<u64> {
-        self.awake()?.next_deadline().expect("the machine is there").map(|next| next.moment)
+        self.machine_if_awake()?.next_deadline().expect("the machine is there").map(|next| next.moment)
     }
 
     /// How many stages are ready.
     #[inline]
-    pub(crate) fn ready(&mut self) -> usize {
-        self.awake().map_or(0, |machine| usize::from(machine.ready(LANE).expect("the lane is there")))
+    pub(crate) fn ready_count(&mut self) -> usize {
+        self.machine_if_awake().map_or(0, |machine| usize::from(machine.ready_count(LANE).expect("the lane is there")))
     }
 
     /// The lowest stage from a number on that is ready.
     pub(crate) fn lowest_ready(&mut self, from: u16) -> Option<u16> {
-        self.awake()?.lowest_ready(from).expect("the machine is there")
+        self.machine_if_awake()?.lowest_ready(from).expect("the machine is there")
     }
 
     pub(crate) fn is_ready(&mut self, stage: u16) -> bool {
-        self.awake().map_or(false, |machine| machine.stage(stage).expect("the stage is there").state == State::Ready)
+        self.machine_if_awake().map_or(false, |machine| machine.stage(stage).expect("the stage is there").state == State::Ready)
     }
 
     /// A stage was shown as settled.
     #[inline]
-    pub(crate) fn shown(&mut self) {
+    pub(crate) fn note_shown(&mut self) {
         self.settled += 1;
     }
 
@@ -264,12 +264,12 @@ impl Ledger {
 
     /// Attaches a stage, whose function has the stage's own number, and gives the number.
     #[inline]
-    pub(crate) fn attach(&mut self, who: u8, form: Form, of: &[u16], has_function: bool) -> Result<u16, Refusal> {
+    pub(crate) fn attach(&mut self, who: u8, form: WordForm, of: &[u16], has_function: bool) -> Result<u16, Refusal> {
         let number = self.stages;
         if number == MOST_STAGES {
             return Err(Refusal::Full);
         }
-        let word = word::attach(who, form, of, if has_function { number } else { 0 });
+        let word = word::encode_attach(who, form, of, if has_function { number } else { 0 });
         let (machine, told) = self.machine().map_err(|_| Refusal::NoLedger)?;
         let mut applied = machine.apply(word, LANE, told);
         if applied == Err(Refused::NO_ROOM) {
@@ -280,14 +280,14 @@ impl Ledger {
             return Err(Refusal::NoLedger);
         }
         applied.expect("a form, and sources that are there");
-        self.record.done(1);
+        self.record.note_events(1);
         self.stages = number + 1;
         Ok(number)
     }
 
     /// Attaches stages that wait for all of these or for one of them, and gives the number of the last.
     pub(crate) fn gather(&mut self, who: u8, form: cf_graph::Form, of: &[u16]) -> Result<u16, Refusal> {
-        if of.len() > usize::from(self.left()) + 1 || self.left() == 0 {
+        if of.len() > usize::from(self.room_left()) + 1 || self.room_left() == 0 {
             return Err(Refusal::Full);
         }
         let (machine, told) = self.machine().map_err(|_| Refusal::NoLedger)?;
@@ -298,24 +298,24 @@ impl Ledger {
                 gathered => break gathered.expect("a form, and sources that are there"),
             }
         };
-        self.record.done(u64::from(root + 1 - self.stages));
+        self.record.note_events(u64::from(root + 1 - self.stages));
         self.stages = root + 1;
         Ok(root)
     }
 
     /// How many stages can be attached yet.
-    pub(crate) fn left(&self) -> u16 {
+    pub(crate) fn room_left(&self) -> u16 {
         MOST_STAGES - self.stages
     }
 
     /// What each stage hangs on.
-    pub(crate) fn hangs(&mut self) -> Hangs {
+    pub(crate) fn dependencies(&mut self) -> Hangs {
         let mut hangs = Vec::with_capacity(usize::from(self.stages));
         for word in self.words() {
-            let parts = word::parts(word);
+            let parts = word::decode(word);
             if parts.kind == word::ATTACH {
-                let (form, of, _) = parts.attached();
-                hangs.push((form == Form::Source as usize, [of.first().copied(), of.get(1).copied(), None]));
+                let (form, of, _) = parts.attach_parts();
+                hangs.push((form == WordForm::Source as usize, [of.first().copied(), of.get(1).copied(), None]));
             } else if parts.kind == word::FINISH && parts.tag == word::LINKS {
                 hangs[usize::from(parts.stage)].1[2] = Some(parts.low as u16);
             }
@@ -333,8 +333,8 @@ impl Ledger {
 
 impl Drop for Ledger {
     fn drop(&mut self) {
-        let (told, moments) = (take(&mut self.told), self.record.room());
-        self.keep(told, moments);
+        let (told, moments) = (take(&mut self.told), self.record.take_room());
+        self.keep_machine(told, moments);
     }
 }
 
@@ -349,7 +349,7 @@ thread_local! {
 }
 
 /// A machine that was kept, with room for so many stages or more.
-fn kept(room: u16) -> Option<Spare> {
+fn take_spare(room: u16) -> Option<Spare> {
     let taken = |kept: &RefCell<Vec<Spare>>| {
         let mut kept = kept.borrow_mut();
         let at = kept.iter().rposition(|it| it.room >= room)?;
@@ -359,12 +359,12 @@ fn kept(room: u16) -> Option<Spare> {
 }
 
 /// A machine of no stages, which settles what it settles by itself as the clock.
-fn opened(room: u16) -> Result<Spare, Refused> {
-    let machine = match nothing()?.as_mut() {
+fn open_machine(room: u16) -> Result<Spare, Refused> {
+    let machine = match empty_plan()?.as_mut() {
         Some(plan) => Request::new(plan, RequestSizes { room, lanes: LANE + 1, own: CLOCK }, &[])?,
         None => return Err(Refused::NO_MEMORY),
     };
-    Ok(Spare { machine, room, told: Told::default(), moments: Vec::new() })
+    Ok(Spare { machine, room, told: SettledStages::default(), moments: Vec::new() })
 }
 
 #[cfg(test)]
@@ -373,7 +373,7 @@ mod tests {
     use crate::word::{CANCEL, COMPLETE, SOME};
 
     fn promise(ledger: &mut Ledger) -> Result<u16, Refusal> {
-        ledger.attach(0, Form::Source, &[], false)
+        ledger.attach(0, WordForm::Source, &[], false)
     }
 
     /// A few, which are as they were opened, but for the room that they have got.
@@ -389,15 +389,15 @@ mod tests {
         let mut ledgers = many(4);
         for ledger in &mut ledgers {
             promise(ledger).unwrap();
-            ledger.record.go_on(1);
+            ledger.record.advance(1);
             promise(ledger).unwrap();
-            ledger.record.go_on(2);
-            assert_eq!((ledger.words().len(), ledger.record.events()), (2, 2));
+            ledger.record.advance(2);
+            assert_eq!((ledger.words().len(), ledger.record.event_count()), (2, 2));
         }
         drop(ledgers);
         assert_eq!(count(), MOST_KEPT);
         let mut again = Ledger::new(3).unwrap();
-        assert_eq!((count(), again.room, again.words(), again.record.events()), (MOST_KEPT - 1, 4, Vec::new(), 0));
+        assert_eq!((count(), again.room, again.words(), again.record.event_count()), (MOST_KEPT - 1, 4, Vec::new(), 0));
         let large = Ledger::new(5).unwrap();
         assert_eq!((count(), large.room), (MOST_KEPT - 1, 5));
         for stage in 0..=SLOTS {
@@ -415,7 +415,7 @@ mod tests {
             promise(&mut grown).unwrap();
             settle(&mut grown, stage, &mut outcomes);
         }
-        assert_eq!((grown.rests(), count()), (true, MOST_KEPT));
+        assert_eq!((grown.is_resting(), count()), (true, MOST_KEPT));
         drop(grown);
         assert_eq!(count(), MOST_KEPT);
         for _ in 0..=SLOTS {
@@ -430,12 +430,12 @@ mod tests {
         for (stage, outcome) in ledger.told.iter() {
             outcomes[usize::from(stage)] = Some(outcome);
         }
-        (0..ledger.told.len()).for_each(|_| ledger.shown());
+        (0..ledger.told.len()).for_each(|_| ledger.note_shown());
         ledger.rest_if_over();
     }
 
     fn settle(ledger: &mut Ledger, stage: u16, outcomes: &mut Vec<Option<Outcome>>) -> Reply {
-        let reply = ledger.act(word::of(COMPLETE, 0, stage, 0)).unwrap();
+        let reply = ledger.act(word::encode(COMPLETE, 0, stage, 0)).unwrap();
         show(ledger, outcomes);
         reply
     }
@@ -455,13 +455,13 @@ mod tests {
         assert!(ledger.machine.is_none());
 
         // It is asked, and goes on resting.
-        ledger.pass(5).unwrap();
+        ledger.pass_time_to(5).unwrap();
         assert_eq!(
-            (ledger.told.len(), ledger.ready(), ledger.lowest_ready(0), ledger.is_ready(late), ledger.next_deadline()),
+            (ledger.told.len(), ledger.ready_count(), ledger.lowest_ready(0), ledger.is_ready(late), ledger.next_deadline()),
             (0, 0, None, false, None)
         );
         let events = 2 * usize::from(SLOTS + 1);
-        assert_eq!((ledger.words().len(), ledger.hangs().len()), (events, usize::from(SLOTS + 1)));
+        assert_eq!((ledger.words().len(), ledger.dependencies().len()), (events, usize::from(SLOTS + 1)));
         assert!(ledger.machine.is_none());
 
         // Something is done to it.
@@ -473,13 +473,13 @@ mod tests {
             assert_eq!((promise(&mut ledger), settle(&mut ledger, stage, &mut outcomes)), (Ok(stage), Reply::Flag(true)));
         }
         assert!(ledger.machine.is_none());
-        assert!(comes_again(&ledger.words(), &outcomes).unwrap());
+        assert!(is_replayed(&ledger.words(), &outcomes).unwrap());
 
         // A stage that it attaches, and one that gathers, go on, too.
         let root = ledger.gather(0, cf_graph::Form::AllOf, &[0, late]).unwrap();
         show(&mut ledger, &mut outcomes);
         assert_eq!((root, ledger.settled, ledger.machine.is_some()), (2 * (SLOTS + 1), ledger.stages, true));
-        assert!(comes_again(&ledger.words(), &outcomes).unwrap());
+        assert!(is_replayed(&ledger.words(), &outcomes).unwrap());
     }
 
     /// What another ledger would settle by the same words, or this one by others.
@@ -490,13 +490,13 @@ mod tests {
             promise(&mut ledger).unwrap();
         }
         let mut outcomes = vec![None; 2];
-        for word in [word::of(COMPLETE, 0, 0, SOME), word::of(COMPLETE, 0, 0, SOME | 1), word::of(CANCEL, 0, 1, 0)] {
+        for word in [word::encode(COMPLETE, 0, 0, SOME), word::encode(COMPLETE, 0, 0, SOME | 1), word::encode(CANCEL, 0, 1, 0)] {
             ledger.act(word).unwrap();
             ledger.told.iter().for_each(|(stage, outcome)| outcomes[usize::from(stage)] = Some(outcome));
         }
         let words = ledger.words();
-        assert!(words.len() == 5 && comes_again(&words, &outcomes).unwrap());
-        let comes = |words: &[u64], outcomes: &[Option<Outcome>]| comes_again(words, outcomes).unwrap_or(false);
+        assert!(words.len() == 5 && is_replayed(&words, &outcomes).unwrap());
+        let comes = |words: &[u64], outcomes: &[Option<Outcome>]| is_replayed(words, outcomes).unwrap_or(false);
         for at in 0..2 {
             let mut other = outcomes.clone();
             other.swap(at, 1 - at);

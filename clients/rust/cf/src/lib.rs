@@ -19,7 +19,7 @@
 //! let told = user.combine(&price, |user, price| format!("{user} pays {price}")).named("told");
 //! assert_eq!(told.wait()?, "Ada pays 49");
 //! assert!(request.history().to_string().contains("told ends: \"Ada pays 49\""));
-//! assert!(request.history().comes_again());
+//! assert!(request.history().is_reproducible());
 //! # Ok(())
 //! # }
 //! ```
@@ -155,6 +155,6 @@ pub use history::History;
 pub use request::{Request, Scope};
 #[cfg(feature = "tokio")]
 pub use runtime::{Blocking, Tasks, TokioClock};
-pub use spans::{Called, Span, SpanFile, Status};
+pub use spans::{CalledFunction, Span, SpanFile, Status};
 pub use spawn::{Inline, Job, Pool, Spawn};
 pub use stage::{AnyStage, ArcOf, CancelOnDrop, Stage};

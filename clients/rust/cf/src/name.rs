@@ -10,20 +10,20 @@ pub(crate) struct Made(fn() -> &'static str, &'static Location<'static>);
 impl Made {
     /// A stage that has this function and is attached here.
     #[track_caller]
-    pub(crate) fn by<F>() -> Made {
+    pub(crate) fn of_function<F>() -> Made {
         Made(type_name::<F>, Location::caller())
     }
 
     /// A stage that has no function, and is called so.
     #[track_caller]
-    pub(crate) fn as_a(name: fn() -> &'static str) -> Made {
+    pub(crate) fn without_function(name: fn() -> &'static str) -> Made {
         Made(name, Location::caller())
     }
 }
 
 impl Made {
     /// Whether it is the same function, handed in at the same place.
-    pub(crate) fn is(self, other: Made) -> bool {
+    pub(crate) fn is_same(self, other: Made) -> bool {
         self.0 as usize == other.0 as usize && std::ptr::eq(self.1, other.1)
     }
 }

@@ -123,9 +123,9 @@ impl Clock for Watched {
         self.0.now()
     }
 
-    fn after(&self, wait: Duration, alarm: Alarm) {
+    fn ring_after(&self, wait: Duration, alarm: Alarm) {
         self.1.runs("a clock");
-        self.0.after(wait, alarm);
+        self.0.ring_after(wait, alarm);
     }
 }
 
@@ -169,7 +169,7 @@ impl Program {
             };
             let describes = program.seen.clone();
             let clock = Watched(program.clock.clone(), program.seen.clone());
-            let request = Request::with_clock(name, spawn, Arc::new(clock)).described(Describe::by(move |_| {
+            let request = Request::with_clock(name, spawn, Arc::new(clock)).described(Describe::from_fn(move |_| {
                 describes.runs("a description");
                 String::new()
             }));
@@ -417,7 +417,7 @@ impl Program {
         if let Some((stage, _)) = self.stages.iter().find(|it| !it.0.is_settled()) {
             return Err(format!("{stage:?} isn't cancelled"));
         }
-        if !self.requests.iter().all(|request| request.history().comes_again()) {
+        if !self.requests.iter().all(|request| request.history().is_reproducible()) {
             return Err("a history doesn't come again".into());
         }
         self.left().map_or(Ok(()), Err)

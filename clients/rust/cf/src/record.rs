@@ -2,7 +2,7 @@
 use std::mem::take;
 
 #[derive(Clone, Debug, Default)]
-pub(crate) struct Record {
+pub(crate) struct EventTimes {
     /// Of each moment at which there were events, but for the last one, how many nanoseconds later it was than the one before, and in the lowest
     /// bits how many events there were. Where these are 0, a part of the while before the next moment, in units of 134 ms.
     moments: Vec<u32>,
@@ -18,21 +18,21 @@ const BITS: u32 = 5;
 const MOST: u64 = (1 << BITS) - 1;
 const LONGEST: u64 = (u32::MAX >> BITS) as u64;
 
-impl Record {
+impl EventTimes {
     /// Of no events, with this room.
-    pub(crate) fn over(moments: Vec<u32>) -> Record {
-        Record { moments, ..Record::default() }
+    pub(crate) fn with_room_of(moments: Vec<u32>) -> EventTimes {
+        EventTimes { moments, ..EventTimes::default() }
     }
 
     /// The room that it had.
-    pub(crate) fn room(&mut self) -> Vec<u32> {
+    pub(crate) fn take_room(&mut self) -> Vec<u32> {
         self.moments.clear();
         take(&mut self.moments)
     }
 
     /// It is this moment now, or a later one if there was one.
     #[inline]
-    pub(crate) fn go_on(&mut self, now: u64) {
+    pub(crate) fn advance(&mut self, now: u64) {
         if now > self.now {
             if self.lately > 0 {
                 self.write_moment();
@@ -48,7 +48,7 @@ impl Record {
 
     /// So many events are done now.
     #[inline]
-    pub(crate) fn done(&mut self, events: u64) {
+    pub(crate) fn note_events(&mut self, events: u64) {
         self.lately += events;
     }
 
@@ -92,10 +92,10 @@ impl Record {
     }
 
     /// The moment of each event.
-    pub(crate) fn times(&self) -> impl Iterator<Item = u64> + '_ {
+    pub(crate) fn moments(&self) -> impl Iterator<Item = u64> + '_ {
         let mut at = 0;
         let written = self.moments.iter().map(move |moment| {
-            let (later, events) = parts(*moment);
+            let (later, events) = unpack(*moment);
             at += if events > 0 { later } else { later * (LONGEST + 1) };
             (at, events)
         });
@@ -103,13 +103,13 @@ impl Record {
     }
 
     /// How many events there were.
-    pub(crate) fn events(&self) -> usize {
-        (self.moments.iter().map(|moment| parts(*moment).1).sum::<u64>() + self.lately) as usize
+    pub(crate) fn event_count(&self) -> usize {
+        (self.moments.iter().map(|moment| unpack(*moment).1).sum::<u64>() + self.lately) as usize
     }
 }
 
 /// How much later a moment was, and how many events there were.
-fn parts(moment: u32) -> (u64, u64) {
+fn unpack(moment: u32) -> (u64, u64) {
     (u64::from(moment >> BITS), u64::from(moment) & MOST)
 }
 
@@ -120,53 +120,53 @@ mod tests {
     /// Around the most events and the longest while that one number says. A moment is written once.
     #[test]
     fn times_are_read_at_the_bounds_of_a_number() {
-        let (mut record, mut wanted, mut at) = (Record::default(), Vec::new(), 0);
+        let (mut record, mut wanted, mut at) = (EventTimes::default(), Vec::new(), 0);
         for later in [1, LONGEST - 1, LONGEST, LONGEST + 1, LONGEST + 2, 2 * LONGEST + 1, 2 * LONGEST + 2] {
             for count in [1, MOST - 1, MOST, MOST + 1, MOST + 2, 2 * MOST, 2 * MOST + 1] {
                 at += later;
                 for _ in 0..count {
-                    record.go_on(at);
+                    record.advance(at);
                     record.lately += 1;
                     wanted.push(at);
                 }
             }
         }
-        assert_eq!((record.times().collect::<Vec<_>>(), record.events()), (wanted.clone(), wanted.len()));
-        let mut one = Record::default();
+        assert_eq!((record.moments().collect::<Vec<_>>(), record.event_count()), (wanted.clone(), wanted.len()));
+        let mut one = EventTimes::default();
         for _ in 0..MOST {
-            one.go_on(1);
+            one.advance(1);
             one.lately += 1;
         }
-        one.go_on(2);
+        one.advance(2);
         assert_eq!(one.moments, [(1 << BITS | MOST) as u32]);
     }
 
     #[test]
     fn times_are_read_as_they_were_written() {
-        let (mut record, mut wanted, mut at) = (Record::default(), Vec::new(), 0);
+        let (mut record, mut wanted, mut at) = (EventTimes::default(), Vec::new(), 0);
         for k in 0..2000_u64 {
             // Up to a week.
             at += if k % 3 == 0 { 1 << (k % 50) } else { 0 };
-            record.go_on(at);
-            record.done(1);
+            record.advance(at);
+            record.note_events(1);
             wanted.push(at);
             // A clock that goes back has stood.
             if k % 500 == 1 {
-                record.go_on(at - 1);
-                record.done(1);
+                record.advance(at - 1);
+                record.note_events(1);
                 wanted.push(at);
             }
         }
         // More at one moment than a number says.
         for _ in 0..70_000 {
-            record.done(1);
+            record.note_events(1);
             wanted.push(at);
         }
-        assert_eq!(record.times().collect::<Vec<_>>(), wanted);
-        record.go_on(at + 5);
-        record.done(1);
+        assert_eq!(record.moments().collect::<Vec<_>>(), wanted);
+        record.advance(at + 5);
+        record.note_events(1);
         wanted.push(at + 5);
-        assert_eq!(record.times().collect::<Vec<_>>(), wanted);
-        assert_eq!((record.events(), Record::default().events(), Record::default().times().count()), (wanted.len(), 0, 0));
+        assert_eq!(record.moments().collect::<Vec<_>>(), wanted);
+        assert_eq!((record.event_count(), EventTimes::default().event_count(), EventTimes::default().moments().count()), (wanted.len(), 0, 0));
     }
 }

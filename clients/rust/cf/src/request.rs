@@ -7,10 +7,10 @@ use crate::ends::{Ending, Ends};
 use crate::error::{BoxError, Error, Refusal};
 use crate::history::History;
 use crate::name::Made;
-use crate::spawn::{here, in_drop, Spawn};
+use crate::spawn::{caller_number, run_in_drop, Spawn};
 use crate::stage::{sealed::Adopted, sealed::Sealed, AnyStage, Stage};
-use crate::value::{self, Call, Gave};
-use crate::word::Form;
+use crate::value::{self, Returned, StageFn};
+use crate::word::WordForm;
 use std::fmt;
 use std::future::Future;
 use std::ops::Deref;
@@ -31,7 +31,7 @@ use std::sync::Arc;
 pub struct Request(pub(crate) Arc<Core>);
 
 impl Request {
-    /// A request without stages, whose functions are run so: by a [`Pool`](crate::Pool), by [`Inline`](crate::Inline), by an `Arc` of any
+    /// Opens a request without stages, with an executor: by a [`Pool`](crate::Pool), by [`Inline`](crate::Inline), by an `Arc` of any
     /// [`Spawn`]. It takes about a microsecond.
     ///
     /// # Panics
@@ -47,7 +47,7 @@ impl Request {
         Request::with_clock(name, Arc::new(spawn), Arc::new(SystemClock))
     }
 
-    /// The same, whose times and timeouts go by this clock.
+    /// Opens a request whose times and timeouts go by this clock.
     ///
     /// # Panics
     ///
@@ -65,8 +65,8 @@ impl Request {
         Request::try_new(name, spawn, clock, ROOM).expect("a ledger for the request")
     }
 
-    /// The same with room for so many stages at first, 16 otherwise. More room is made as it is wanted, by doing all again; a request of known
-    /// size is quicker without that. A thread keeps machines of requests that ended on it, with the room that they have got, for the next ones:
+    /// Opens a request with room for this many stages at first, 16 otherwise. More room is made as it is wanted, by doing all again; a request of
+    /// known size is quicker without that. A thread keeps machines of requests that ended on it, with the room that they have got, for the next ones:
     /// up to eight, for 512 stages together.
     ///
     /// # Errors
@@ -83,7 +83,7 @@ impl Request {
         Core::new(name.into(), spawn, clock, room).map(Request)
     }
 
-    /// Its name.
+    /// The request's name.
     ///
     /// ```
     /// assert_eq!(cf::Request::new("basket 3", cf::Inline).name(), "basket 3");
@@ -121,13 +121,13 @@ impl Request {
     /// assert_eq!(events.load(Ordering::SeqCst), 3);
     /// ```
     pub fn on_end(self, ends: &Ends) -> Request {
-        let ending = Box::new(Ending { ends: ends.clone(), within: Context::here() });
+        let ending = Box::new(Ending { ends: ends.clone(), within: Context::captured() });
         let before = self.0.lock().ending.replace(ending);
         drop(before);
         self
     }
 
-    /// What the function gives.
+    /// Attaches a stage that calls the function.
     ///
     /// ```
     /// let basket = cf::Request::new("basket 3", cf::Inline);
@@ -139,10 +139,10 @@ impl Request {
         F: FnOnce() -> U + Send + 'static,
         U: Send + Sync + 'static,
     {
-        self.attach(Form::Supply, &[], Some(Box::new(move |_| Gave::value(f()))), Made::by::<F>())
+        self.attach(WordForm::Supply, &[], Some(Box::new(move |_| Returned::from_value(f()))), Made::of_function::<F>())
     }
 
-    /// What the function gives, or its error.
+    /// Attaches a stage that calls the function, which may fail.
     ///
     /// ```
     /// let basket = cf::Request::new("basket 3", cf::Inline);
@@ -155,11 +155,11 @@ impl Request {
         U: Send + Sync + 'static,
         E: Into<BoxError>,
     {
-        let call: Call = Box::new(move |_| Gave::result(f().map_err(|error| Error::of(error.into()))));
-        self.attach(Form::Supply, &[], Some(call), Made::by::<F>())
+        let call: StageFn = Box::new(move |_| Returned::from_result(f().map_err(|error| Error::from_boxed(error.into()))));
+        self.attach(WordForm::Supply, &[], Some(call), Made::of_function::<F>())
     }
 
-    /// What the future gives, or its error. It is polled where functions run; a stage that is cancelled or times out drops it.
+    /// Attaches a stage that polls the future. It is polled where functions run; a stage that is cancelled or times out drops it.
     ///
     /// ```
     /// let basket = cf::Request::new("basket 3", cf::Inline);
@@ -172,10 +172,10 @@ impl Request {
         U: Send + Sync + 'static,
         E: Into<BoxError>,
     {
-        self.attach(Form::Supply, &[], Some(Box::new(move |_| later(future))), Made::by::<F>())
+        self.attach(WordForm::Supply, &[], Some(Box::new(move |_| await_future(future))), Made::of_function::<F>())
     }
 
-    /// What somebody completes it with, who has a clone of it.
+    /// Attaches a stage without a function, for any handle of it to complete.
     ///
     /// ```
     /// let basket = cf::Request::new("basket 3", cf::Inline);
@@ -185,7 +185,7 @@ impl Request {
     /// assert_eq!(price.wait().unwrap(), 49);
     /// ```
     pub fn promise<T: Send + Sync + 'static>(&self) -> Stage<T> {
-        self.attach(Form::Source, &[], None, Made::as_a(|| "promise"))
+        self.attach(WordForm::Source, &[], None, Made::without_function(|| "promise"))
     }
 
     /// A stage of this request that ends as the given one does, whose request may be another. A stage of this request is given back itself.
@@ -203,7 +203,7 @@ impl Request {
         };
         let relay = self.promise::<T>().named(format!("relay of {number} of {}", stage.core.name));
         if let Ok(here) = relay.at {
-            stage.core.feed(number, Arc::clone(&self.0), here);
+            stage.core.feed_relay(number, Arc::clone(&self.0), here);
         }
         relay
     }
@@ -216,7 +216,11 @@ impl Request {
     /// basket.all_of([&user as &dyn cf::AnyStage, &price]).wait().unwrap();
     /// ```
     pub fn all_of<'a>(&self, stages: impl IntoIterator<Item = &'a dyn AnyStage>) -> Stage<()> {
-        self.gathered(cf_graph::Form::AllOf, stages.into_iter().map(|stage| stage.adopted(self)).collect(), Made::as_a(|| "all of"))
+        self.attach_gathering(
+            cf_graph::Form::AllOf,
+            stages.into_iter().map(|stage| stage.adopt_into(self)).collect(),
+            Made::without_function(|| "all of"),
+        )
     }
 
     /// What the first has that is settled, be it an error. Of no stages it is never settled. n stages take n - 1.
@@ -227,7 +231,11 @@ impl Request {
     /// assert_eq!(basket.first_of(&quotes).wait().unwrap(), 49);
     /// ```
     pub fn first_of<'a, T: Send + Sync + 'static>(&self, stages: impl IntoIterator<Item = &'a Stage<T>>) -> Stage<T> {
-        self.gathered(cf_graph::Form::AnyOf, stages.into_iter().map(|stage| stage.adopted(self)).collect(), Made::as_a(|| "first of"))
+        self.attach_gathering(
+            cf_graph::Form::AnyOf,
+            stages.into_iter().map(|stage| stage.adopt_into(self)).collect(),
+            Made::without_function(|| "first of"),
+        )
     }
 
     /// The values of all, in this order; else as [`all_of`](Request::all_of). n stages take n.
@@ -238,21 +246,21 @@ impl Request {
     /// assert_eq!(basket.gather(&quotes).wait().unwrap(), [52, 49]);
     /// ```
     pub fn gather<'a, T: Clone + Send + Sync + 'static>(&self, stages: impl IntoIterator<Item = &'a Stage<T>>) -> Stage<Vec<T>> {
-        let row: Vec<Adopted> = stages.into_iter().map(|stage| stage.adopted(self)).collect();
-        let (numbers, root) = self.root(cf_graph::Form::AllOf, &row, Made::as_a(|| "all of"));
+        let row: Vec<Adopted> = stages.into_iter().map(|stage| stage.adopt_into(self)).collect();
+        let (numbers, root) = self.attach_root(cf_graph::Form::AllOf, &row, Made::without_function(|| "all of"));
         // The request would keep itself alive by handles that its own function holds.
         let core = Arc::downgrade(&self.0);
         let values = move || -> Result<Vec<T>, Error> {
             let values = core.upgrade().ok_or(Error::BadAnswer)?.values(&numbers)?;
-            Ok(values.iter().map(|value| value::of::<T>(value).clone()).collect())
+            Ok(values.iter().map(|value| value::downcast_ref::<T>(value).clone()).collect())
         };
-        let call: Call = Box::new(move |_| Gave::result(values()));
-        let all = Stage::<()>::new(&self.0, root).behind(Form::Apply, call, Made::as_a(|| "gather"));
-        self.0.let_go(all.at, relays_of(&row));
+        let call: StageFn = Box::new(move |_| Returned::from_result(values()));
+        let all = Stage::<()>::new(&self.0, root).attach_behind(WordForm::Apply, call, Made::without_function(|| "gather"));
+        self.0.cancel_relays_with(all.at, relays_of(&row));
         all
     }
 
-    /// Cancels all that isn't settled, the last stage first.
+    /// Cancels all open stages, the last one first.
     ///
     /// ```
     /// let basket = cf::Request::new("basket 3", cf::Inline);
@@ -261,8 +269,8 @@ impl Request {
     /// assert!(price.wait().unwrap_err().is_cancelled());
     /// ```
     pub fn cancel_all(&self) {
-        self.looks();
-        self.0.cancel_all(here());
+        self.tell_watch_of_look();
+        self.0.cancel_all(caller_number());
     }
 
     /// Cancels all that is open when this is dropped, as [`cancel_all`](Request::cancel_all) does: a scope that nothing of the request outlives, also
@@ -288,25 +296,25 @@ impl Request {
     /// ```
     #[must_use]
     pub fn history(&self) -> History {
-        self.looks();
-        History::of(&self.0)
+        self.tell_watch_of_look();
+        History::new(&self.0)
     }
 
-    /// Lets who watches it be told that somebody looks at all of its stages.
-    fn looks(&self) {
+    /// Tells a test's observer that all stages are looked at.
+    fn tell_watch_of_look(&self) {
         #[cfg(feature = "testing")]
-        self.0.watched(|watch| watch.looked(self.0.lock().slots.len()));
+        self.0.tell_watch(|watch| watch.note_look(self.0.lock().slots.len()));
     }
 
-    /// A stage of this form behind all of these.
-    fn gathered<T: Send + Sync + 'static>(&self, form: cf_graph::Form, row: Vec<Adopted>, made: Made) -> Stage<T> {
-        let (_, root) = self.root(form, &row, made);
-        self.0.let_go(root, relays_of(&row));
+    /// Attaches a stage of this form behind all of these.
+    fn attach_gathering<T: Send + Sync + 'static>(&self, form: cf_graph::Form, row: Vec<Adopted>, made: Made) -> Stage<T> {
+        let (_, root) = self.attach_root(form, &row, made);
+        self.0.cancel_relays_with(root, relays_of(&row));
         Stage::new(&self.0, root)
     }
 
     /// The numbers of all of these, and that of a stage of this form behind them, unless one of them was refused.
-    fn root(&self, form: cf_graph::Form, row: &[Adopted], made: Made) -> (Vec<u16>, Result<u16, Refusal>) {
+    fn attach_root(&self, form: cf_graph::Form, row: &[Adopted], made: Made) -> (Vec<u16>, Result<u16, Refusal>) {
         let mut numbers = Vec::with_capacity(row.len());
         for it in row {
             match it.at {
@@ -314,12 +322,12 @@ impl Request {
                 Err(why) => return (numbers, Err(why)),
             }
         }
-        let root = self.0.gather(here(), form, &numbers, made);
+        let root = self.0.gather(caller_number(), form, &numbers, made);
         (numbers, root)
     }
 
-    fn attach<U>(&self, form: Form, of: &[u16], call: Option<Call>, made: Made) -> Stage<U> {
-        Stage::new(&self.0, self.0.attach(here(), form, of, call, made))
+    fn attach<U>(&self, form: WordForm, of: &[u16], call: Option<StageFn>, made: Made) -> Stage<U> {
+        Stage::new(&self.0, self.0.attach(caller_number(), form, of, call, made))
     }
 }
 
@@ -342,7 +350,7 @@ impl Deref for Scope {
 
 impl Drop for Scope {
     fn drop(&mut self) {
-        in_drop(|| self.0.cancel_all());
+        run_in_drop(|| self.0.cancel_all());
     }
 }
 
@@ -355,20 +363,20 @@ fn relays_of(row: &[Adopted]) -> Vec<u16> {
 const ROOM: u16 = 16;
 
 /// What a future will give.
-pub(crate) fn later<U, E, F>(future: F) -> Gave
+pub(crate) fn await_future<U, E, F>(future: F) -> Returned
 where
     F: Future<Output = Result<U, E>> + Send + 'static,
     U: Send + Sync + 'static,
     E: Into<BoxError>,
 {
-    Gave::Later(Box::pin(async move { Gave::result(future.await.map_err(|error| Error::of(error.into()))) }))
+    Returned::Later(Box::pin(async move { Returned::from_result(future.await.map_err(|error| Error::from_boxed(error.into()))) }))
 }
 
 impl fmt::Debug for Request {
     fn fmt(&self, f: &mut fmt::Formatter<'_>) -> fmt::Result {
         let inner = self.0.lock();
         let settled = inner.slots.iter().filter(|slot| slot.is_settled()).count();
-        let (stages, events) = (inner.slots.len(), inner.ledger.record.events());
+        let (stages, events) = (inner.slots.len(), inner.ledger.record.event_count());
         drop(inner);
         f.debug_struct("Request").field("name", &self.0.name).field("stages", &stages).field("settled", &settled).field("events", &events).finish()
     }

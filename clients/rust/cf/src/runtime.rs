@@ -69,7 +69,7 @@ impl Spawn for Tasks {
             RuntimeFlavor::MultiThread => StandIn::Tokio,
             _ => StandIn::Nobody,
         };
-        self.runtime.spawn(async move { stands_in.during(|| job.run()) });
+        self.runtime.spawn(async move { stands_in.stand_in_during(|| job.run()) });
         Ok(())
     }
 
@@ -114,7 +114,7 @@ impl Clock for TokioClock {
         self.begun.elapsed()
     }
 
-    fn after(&self, wait: Duration, alarm: Alarm) {
+    fn ring_after(&self, wait: Duration, alarm: Alarm) {
         let (core, number) = (alarm.core.clone(), alarm.number);
         let task = self.runtime.spawn(async move {
             tokio::time::sleep(wait).await;
@@ -216,5 +216,11 @@ mod tests {
             }
             assert_eq!(Arc::strong_count(&alive), 1);
         });
+    }
+
+    #[test]
+    fn as_many_tasks_as_asked_for_and_at_least_one() {
+        let runtime = tokio::runtime::Builder::new_current_thread().build().unwrap();
+        assert_eq!([0, 1, 2].map(|most| Tasks::new(runtime.handle().clone(), most).parallelism()), [1, 1, 2]);
     }
 }

@@ -322,7 +322,7 @@ mod tests {
                 }
                 let at_end = move || {
                     clock.turn(seconds(20));
-                    assert!(stages.iter().all(Stage::is_settled) && request.history().comes_again());
+                    assert!(stages.iter().all(Stage::is_settled) && request.history().is_reproducible());
                 };
                 (plays, Box::new(at_end))
             });

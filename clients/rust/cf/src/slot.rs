@@ -1,33 +1,33 @@
 //! What a stage's number stands for.
 use crate::core::Core;
 use crate::error::Error;
-use crate::value::{Call, Val};
+use crate::value::{StageFn, Val};
 use cf_graph::{Cause, Outcome, Value};
 use std::mem::forget;
 use std::sync::Arc;
 
 pub(crate) struct Slot {
     pub(crate) held: Held,
-    /// The place of what histories call it, where it was given no name.
+    /// The index of its name in histories, if the user gave none.
     pub(crate) made: u16,
-    /// What the machine told of it, and the number that belongs to that: the stage from which a value or an error came.
+    /// The stage from which its value or error came.
     number: u16,
-    told: Told,
-    /// Whether there is more of it: what few stages have.
+    told: SlotState,
+    /// Whether it has an [`Extra`](crate::inner::Extra).
     pub(crate) has_extra: bool,
-    /// Whether the machine has it follow another one of its request.
+    /// Whether it follows another stage of its request.
     pub(crate) follows: bool,
 }
 
-/// A function to be called, and then what that gave.
+/// A stage's function, and then what it returned.
 pub(crate) enum Held {
     Nothing,
-    Call(Call),
+    Call(StageFn),
     Value(Val),
     Error(Box<Error>),
-    /// A request, where the lock isn't to be held while it is dropped.
+    /// A request, which must not be dropped under the lock.
     Core(#[allow(dead_code)] Arc<Core>),
-    /// What stops a timer as it is dropped.
+    /// Stops a timer when dropped.
     #[cfg(feature = "tokio")]
     Timer(#[allow(dead_code)] Box<dyn std::any::Any + Send>),
 }
@@ -40,7 +40,7 @@ impl Default for Held {
 }
 
 #[derive(Clone, Copy, PartialEq, Eq)]
-enum Told {
+enum SlotState {
     Waits,
     Nil,
     Value,
@@ -58,17 +58,17 @@ enum Fault {
 
 impl Slot {
     #[inline]
-    pub(crate) fn new(made: u16, call: Option<Call>) -> Slot {
+    pub(crate) fn new(made: u16, call: Option<StageFn>) -> Slot {
         let held = match call {
             Some(call) => Held::Call(call),
             None => Held::Nothing,
         };
-        Slot { held, made, number: 0, told: Told::Waits, has_extra: false, follows: false }
+        Slot { held, made, number: 0, told: SlotState::Waits, has_extra: false, follows: false }
     }
 
     /// Drops what it holds.
     #[inline]
-    pub(crate) fn let_go(self) {
+    pub(crate) fn drop_content(self) {
         match self.held {
             // To drop it would take a call.
             Held::Nothing | Held::Value(Val::Nil | Val::Small(_)) => forget(self.held),
@@ -76,23 +76,23 @@ impl Slot {
         }
     }
 
-    /// Whether there is more to be done where it is settled than to keep with what: it has its function yet, or what few stages have.
+    /// Whether settling it takes more than keeping the outcome: it still has its function, or an extra.
     #[inline]
-    pub(crate) fn has_more(&self) -> bool {
+    pub(crate) fn needs_more_than_outcome(&self) -> bool {
         self.has_extra || self.follows || matches!(self.held, Held::Call(_))
     }
 
     #[inline]
     pub(crate) fn is_settled(&self) -> bool {
-        self.told != Told::Waits
+        self.told != SlotState::Waits
     }
 
-    /// Keeps what it was settled with, and the stage from which an error came that has no code.
+    /// Keeps its outcome, and the origin of an error without a code.
     #[inline]
     pub(crate) fn settle(&mut self, outcome: Outcome, from: u16) {
         (self.told, self.number) = match outcome {
-            Outcome::Value(Value::Nil) => (Told::Nil, 0),
-            Outcome::Value(Value::Int(number)) => (Told::Value, number as u16),
+            Outcome::Value(Value::Nil) => (SlotState::Nil, 0),
+            Outcome::Value(Value::Int(number)) => (SlotState::Value, number as u16),
             Outcome::Fault { cause, wrapped } => {
                 let (fault, number) = match cause {
                     Cause::Thrown(code) => (Fault::Thrown, code as u16),
@@ -101,20 +101,20 @@ impl Slot {
                     Cause::BadAnswer => (Fault::BadAnswer, from),
                     cause => unreachable!("{cause:?} is a cause of another library"),
                 };
-                (if wrapped { Told::Wrapped(fault) } else { Told::Fault(fault) }, number)
+                (if wrapped { SlotState::Wrapped(fault) } else { SlotState::Fault(fault) }, number)
             }
         };
     }
 
-    /// What it was settled with.
+    /// Its outcome, if it is settled.
     #[inline]
     pub(crate) fn outcome(&self) -> Option<Outcome> {
         let (fault, wrapped) = match self.told {
-            Told::Waits => return None,
-            Told::Nil => return Some(Outcome::Value(Value::Nil)),
-            Told::Value => return Some(Outcome::Value(Value::Int(i32::from(self.number)))),
-            Told::Fault(fault) => (fault, false),
-            Told::Wrapped(fault) => (fault, true),
+            SlotState::Waits => return None,
+            SlotState::Nil => return Some(Outcome::Value(Value::Nil)),
+            SlotState::Value => return Some(Outcome::Value(Value::Int(i32::from(self.number)))),
+            SlotState::Fault(fault) => (fault, false),
+            SlotState::Wrapped(fault) => (fault, true),
         };
         let cause = match fault {
             Fault::Thrown => Cause::Thrown(u32::from(self.number)),
@@ -125,16 +125,16 @@ impl Slot {
         Some(Outcome::Fault { cause, wrapped })
     }
 
-    /// The stage from which its error came, unless it has none, or was cancelled.
+    /// The stage from which its error came. None without an error, and if it was cancelled.
     #[inline]
     pub(crate) fn blamed(&self) -> Option<u16> {
         match self.told {
-            Told::Fault(fault) | Told::Wrapped(fault) if fault != Fault::Cancelled => Some(self.number),
+            SlotState::Fault(fault) | SlotState::Wrapped(fault) if fault != Fault::Cancelled => Some(self.number),
             _ => None,
         }
     }
 
-    /// The error that it holds, if it is the one that failed first.
+    /// The error, if it came from this stage.
     pub(crate) fn error(&self) -> Option<&Error> {
         match &self.held {
             Held::Error(error) => Some(error),
@@ -142,7 +142,7 @@ impl Slot {
         }
     }
 
-    /// The value that it gave.
+    /// The value, if its function returned one.
     #[inline]
     pub(crate) fn value(&self) -> Option<&Val> {
         match &self.held {

@@ -1,8 +1,8 @@
 //! A history as OpenTelemetry's spans, which may be added to a file. Names and attributes are those of `cf_look trace --spans`.
-use crate::describe::{escape, is_unseen};
+use crate::describe::{is_unseen, push_escaped};
 use crate::history::History;
 use crate::spawn::FIRST_WORKER;
-use crate::word::{self, Form, Parts, ATTACH, CLAIM, FINISH, LINKS, THROWS};
+use crate::word::{self, Parts, WordForm, ATTACH, CLAIM, FINISH, LINKS, THROWS};
 use cf_graph::{Claimed, Finished, Outcome, Reply};
 use std::collections::hash_map::RandomState;
 use std::collections::BTreeMap;
@@ -31,7 +31,7 @@ pub struct Span {
     /// The finish; of the request, and of what isn't finished, the last event.
     pub end: SystemTime,
     /// Whose function was called, by whom; none of the request.
-    pub call: Option<Called>,
+    pub call: Option<CalledFunction>,
     /// The stages to whose spans it has a link.
     pub sources: Vec<u16>,
     /// How the stage ended.
@@ -50,7 +50,7 @@ pub struct Span {
 /// ```
 #[derive(Clone, Debug, PartialEq, Eq)]
 #[non_exhaustive]
-pub struct Called {
+pub struct CalledFunction {
     /// The number of the stage, `cf.stage`.
     pub stage: u16,
     /// Who called it, `cf.caller`.
@@ -180,7 +180,7 @@ fn quoted(text: &str) -> String {
         match letter {
             '"' => quoted += "\\\"",
             '\\' => quoted += "\\\\",
-            letter if is_unseen(letter) => escape(&mut quoted, letter),
+            letter if is_unseen(letter) => push_escaped(&mut quoted, letter),
             letter => quoted.push(letter),
         }
     }
@@ -205,7 +205,7 @@ impl History {
     /// ```
     #[must_use]
     pub fn spans(&self) -> Vec<Span> {
-        Reading::of(self).spans()
+        Reading::new(self).spans()
     }
 }
 
@@ -225,17 +225,17 @@ struct Reading<'a> {
 }
 
 impl<'a> Reading<'a> {
-    fn of(history: &'a History) -> Reading<'a> {
+    fn new(history: &'a History) -> Reading<'a> {
         let times = history.times().map(|at| history.since() + at).collect();
         let inner = vec![false; history.names().len()];
         let (shapes, calls) = (Vec::new(), BTreeMap::new());
         let mut it = Reading { history, times, shapes, calls, ends: BTreeMap::new(), failed: BTreeMap::new(), inner };
         let mut running = [0_usize; 64];
-        for (place, (word, reply, told)) in history.replies().into_iter().enumerate() {
-            it.read(place, word::parts(word), reply, &mut running);
+        for (place, (word, reply, told)) in history.replay().into_iter().enumerate() {
+            it.read(place, word::decode(word), reply, &mut running);
             it.ends.extend(told);
         }
-        let waited: Vec<u16> = it.shapes.iter().flat_map(|(_, of)| of.clone()).chain(history.relayed()).collect();
+        let waited: Vec<u16> = it.shapes.iter().flat_map(|(_, of)| of.clone()).chain(history.relayed_stages()).collect();
         waited.into_iter().for_each(|stage| it.inner[usize::from(stage)] = true);
         it
     }
@@ -244,10 +244,10 @@ impl<'a> Reading<'a> {
         let who = usize::from(parts.who);
         match (parts.kind, reply) {
             (ATTACH, Reply::Attached(Some(stage))) => {
-                let (form, of, _) = parts.attached();
+                let (form, of, _) = parts.attach_parts();
                 self.shapes.push((form, of));
                 self.inner[usize::from(stage)] |= parts.who >= FIRST_WORKER && running[who] > 0;
-                if form == Form::Compose as usize || form == Form::ExceptionallyCompose as usize {
+                if form == WordForm::Compose as usize || form == WordForm::ExceptionallyCompose as usize {
                     self.inner[usize::from(stage) - 1] = true; // its relay
                 }
             }
@@ -285,7 +285,7 @@ impl<'a> Reading<'a> {
         for (stage, (who, claim, finish)) in self.calls.clone() {
             let (form, of) = &self.shapes[usize::from(stage)];
             let sources = of.iter().copied().filter(|source| self.calls.contains_key(source)).collect();
-            let call = Some(Called { stage, caller: crate::history::caller(who), form: word::FORM_NAMES[*form] });
+            let call = Some(CalledFunction { stage, caller: crate::history::caller(who), form: word::FORM_NAMES[*form] });
             let (start, end) = (self.times[claim], finish.map_or(end, |place| self.times[place]));
             let (name, failed) = (self.history.names()[usize::from(stage)].clone(), self.failed.remove(&stage));
             spans.push(Span { name, start, end, call, sources, status: self.status(stage), failed });

@@ -1,4 +1,4 @@
-//! Who runs the functions of stages that are ready.
+//! Executors, which run the functions of ready stages.
 use crate::core::Core;
 use crate::task::Polling;
 use std::any::Any;
@@ -11,44 +11,44 @@ use std::sync::{Arc, Condvar, Mutex, MutexGuard, PoisonError};
 use std::thread::{self, JoinHandle, LocalKey};
 use std::time::Duration;
 
-/// What somebody's code panicked with.
+/// The payload of a panic.
 pub(crate) type Payload = Box<dyn Any + Send>;
 
-/// Does it, and keeps what it panics with, unless something is kept. A payload that panics as it is dropped is let go.
-pub(crate) fn guarded<T>(panicked: &mut Option<Payload>, act: impl FnOnce() -> T) -> Option<T> {
+/// Runs `act`, and keeps the first panic. A payload that panics as it is dropped is leaked.
+pub(crate) fn catch_panic<T>(panicked: &mut Option<Payload>, act: impl FnOnce() -> T) -> Option<T> {
     match catch_unwind(AssertUnwindSafe(act)) {
         Ok(did) => return Some(did),
         Err(payload) if panicked.is_none() => *panicked = Some(payload),
-        Err(payload) => forget(payload),
+        Err(payload) => forget_payload(payload),
     }
     None
 }
 
-/// Does it on a thread that goes on, whatever it panics with.
-pub(crate) fn quietly(act: impl FnOnce()) {
-    catch_unwind(AssertUnwindSafe(act)).unwrap_or_else(forget);
+/// Runs `act`, and swallows a panic, so that the thread goes on.
+pub(crate) fn swallow_panic(act: impl FnOnce()) {
+    catch_unwind(AssertUnwindSafe(act)).unwrap_or_else(forget_payload);
 }
 
-/// Does it in a `Drop`: what it panics with goes on, unless the thread unwinds already. Then one more panic would end the process.
-pub(crate) fn in_drop(act: impl FnOnce()) {
+/// Runs `act` in a `Drop`. A panic goes on, unless the thread unwinds already: a second panic would end the process.
+pub(crate) fn run_in_drop(act: impl FnOnce()) {
     if thread::panicking() {
-        quietly(act);
+        swallow_panic(act);
     } else {
         act();
     }
 }
 
-fn forget(payload: Payload) {
+fn forget_payload(payload: Payload) {
     if let Err(again) = catch_unwind(AssertUnwindSafe(|| drop(payload))) {
         std::mem::forget(again);
     }
 }
 
 /// A turn of a request's work: it runs functions that are ready, one after the other, or polls the future of one. [`Spawn`] has an example.
-/// One that is dropped lets what it would have run fail with [`Refusal::Closed`](crate::Refusal::Closed).
-pub struct Job(Option<Turn>);
+/// If it is dropped, what it would have run fails with [`Refusal::Closed`](crate::Refusal::Closed).
+pub struct Job(Option<JobKind>);
 
-pub(crate) enum Turn {
+pub(crate) enum JobKind {
     Work(Arc<Core>),
     Poll(Arc<Polling>),
 }
@@ -57,30 +57,30 @@ impl Drop for Job {
     fn drop(&mut self) {
         match self.0.take() {
             None => {}
-            Some(Turn::Work(core)) => in_drop(|| in_turn(&REFUSED, core, |core| core.refuse())),
-            Some(Turn::Poll(polling)) => in_drop(|| polling.refuse()),
+            Some(JobKind::Work(core)) => run_in_drop(|| do_in_turn(&REFUSED, core, |core| core.refuse_ready())),
+            Some(JobKind::Poll(polling)) => run_in_drop(|| polling.refuse_stage()),
         }
     }
 }
 
 impl Job {
-    pub(crate) fn new(turn: Turn) -> Job {
+    pub(crate) fn new(turn: JobKind) -> Job {
         Job(Some(turn))
     }
 
-    /// What it is to do.
+    /// The job's work.
     #[cfg(feature = "testing")]
-    pub(crate) fn turn(&self) -> Option<&Turn> {
+    pub(crate) fn kind(&self) -> Option<&JobKind> {
         self.0.as_ref()
     }
 
-    /// Takes over what it is to do.
+    /// Takes over the job's work.
     #[cfg(feature = "testing")]
-    pub(crate) fn into_turn(mut self) -> Option<Turn> {
+    pub(crate) fn into_kind(mut self) -> Option<JobKind> {
         self.0.take()
     }
 
-    /// Does it. A function that panics makes its stage fail. Only a waker or a `Drop` of somebody's that panics gets through.
+    /// Runs the job. A function that panics fails its stage. Only a panic of a waker or a `Drop` goes on to the caller.
     ///
     /// ```
     /// struct Threads;
@@ -96,8 +96,8 @@ impl Job {
         let turn = self.0.take();
         as_worker(|who| match turn {
             None => {}
-            Some(Turn::Work(core)) => core.work(who, Core::TURN),
-            Some(Turn::Poll(polling)) => polling.poll(),
+            Some(JobKind::Work(core)) => core.work(who, Core::TURN),
+            Some(JobKind::Poll(polling)) => polling.poll(),
         });
     }
 }
@@ -105,14 +105,14 @@ impl Job {
 impl fmt::Debug for Job {
     fn fmt(&self, f: &mut fmt::Formatter<'_>) -> fmt::Result {
         match &self.0 {
-            Some(Turn::Work(core)) => write!(f, "Job(functions of {:?})", core.name),
+            Some(JobKind::Work(core)) => write!(f, "Job(functions of {:?})", core.name),
             _ => f.write_str("Job(a future)"),
         }
     }
 }
 
-/// Who runs the functions of stages that are ready: threads, a thread pool, an async runtime. A request asks for as many jobs as it has ready
-/// stages, and at most [`parallelism`](Spawn::parallelism) at a time; a job runs up to 64 functions, and then goes to the end of the line.
+/// An executor, which runs the functions of ready stages: threads, a thread pool, an async runtime. A request asks for as many jobs as it has ready
+/// stages, and at most [`parallelism`](Spawn::parallelism) at a time. A job runs up to 64 functions, and then goes to the end of the queue.
 ///
 /// ```
 /// use cf::{Job, Request, Spawn};
@@ -131,18 +131,18 @@ impl fmt::Debug for Job {
 /// assert_eq!(import.supply(|| 20).then(|n| n + 1).wait().unwrap(), 21);
 /// ```
 pub trait Spawn: Send + Sync + 'static {
-    /// Runs the job soon, on any thread, or gives it back where it takes no more, whereupon what is ready fails with
-    /// [`Refusal::Closed`](crate::Refusal::Closed). It must not run it while it holds a lock that a function of a stage might take. Where it
-    /// panics, its caller does.
+    /// Runs the job soon, on any thread. An executor that takes no more jobs gives it back, and the ready stages fail with
+    /// [`Refusal::Closed`](crate::Refusal::Closed). It must not run the job under a lock that a stage's function might take. A panic goes on to the
+    /// caller.
     fn spawn(&self, job: Job) -> Result<(), Job>;
 
-    /// How many jobs of one request it may run at a time. One whose function waits for a stage isn't counted meanwhile.
+    /// The most jobs of one request at a time. A job whose function waits for a stage isn't counted meanwhile.
     fn parallelism(&self) -> usize {
         1
     }
 
-    /// What tells it from other executors. A function that waits for a stage lets its thread run what that stage needs, where the thread is one
-    /// of the executor by which that is to be run. A type whose clones share their threads has to give the same number for all of them.
+    /// The executor's number. A function that waits for a stage lets its thread run what that stage needs, if that is to run on an executor of the
+    /// same number. Clones that share their threads must have one number.
     ///
     /// ```
     /// use std::sync::Arc;
@@ -161,7 +161,7 @@ pub trait Spawn: Send + Sync + 'static {
         self as *const Self as *const () as usize
     }
 
-    /// Whether it is [`Inline`], whose jobs a request begins by itself.
+    /// Whether it is [`Inline`], whose jobs the request itself begins.
     #[doc(hidden)]
     fn is_inline(&self) -> bool {
         false
@@ -195,30 +195,30 @@ pub(crate) const FIRST_WORKER: u8 = 3;
 pub(crate) const MOST_CALLERS: u8 = 64;
 
 thread_local! {
-    /// The number of this thread as a worker, once it is one.
+    /// This thread's number as a worker, once it is one.
     static WORKER: Cell<u8> = const { Cell::new(CALLER) };
-    /// Who this thread is at present: a worker while it runs a job, and else a caller.
+    /// This thread's number as a caller: a worker's while it runs a job.
     static HERE: Cell<u8> = const { Cell::new(CALLER) };
-    /// The requests whose functions this thread is running, the innermost last, and whether each runs by a job that is counted.
+    /// The requests whose functions this thread runs, the innermost last, and whether each runs in a counted job.
     static RUNNING: RefCell<Vec<(Arc<Core>, bool)>> = const { RefCell::new(Vec::new()) };
-    /// Who serves the thread's executor while the thread waits.
+    /// The stand-in for the thread while it waits.
     static STANDS_IN: RefCell<StandIn> = const { RefCell::new(StandIn::Nobody) };
 }
 
-/// Who serves an executor while one of its threads waits.
+/// The stand-in for an executor's thread while that waits.
 #[derive(Clone)]
 pub(crate) enum StandIn {
-    /// The thread itself has to, as far as that goes.
+    /// None: the thread itself runs what it can.
     Nobody,
     /// A spare thread of a pool.
-    Pool(Arc<Shared>),
+    Pool(Arc<PoolState>),
     /// A thread of tokio, to which the runtime hands over.
     #[cfg(feature = "tokio")]
     Tokio,
 }
 
 impl StandIn {
-    pub(crate) fn here() -> StandIn {
+    pub(crate) fn current() -> StandIn {
         STANDS_IN.try_with(|stands_in| stands_in.borrow().clone()).unwrap_or(StandIn::Nobody)
     }
 
@@ -226,7 +226,7 @@ impl StandIn {
         !matches!(self, StandIn::Nobody)
     }
 
-    /// Whether the thread may run what a stage needs. One of tokio wakes no future that gave way on it before it is back in its runtime.
+    /// Whether the thread may run what a stage needs. A thread of tokio wakes futures that yielded only once it is back in its runtime.
     pub(crate) fn may_help(&self) -> bool {
         match self {
             #[cfg(feature = "tokio")]
@@ -235,7 +235,7 @@ impl StandIn {
         }
     }
 
-    /// Lets this thread rest.
+    /// Blocks this thread by `rests`.
     pub(crate) fn rest<T>(&self, rests: impl FnOnce() -> T) -> T {
         match self {
             #[cfg(feature = "tokio")]
@@ -244,8 +244,8 @@ impl StandIn {
         }
     }
 
-    /// Does something on a thread for which this one stands in as long as that takes.
-    pub(crate) fn during(self, act: impl FnOnce()) {
+    /// Runs `act` on a thread that has this stand-in meanwhile.
+    pub(crate) fn stand_in_during(self, act: impl FnOnce()) {
         struct Back(StandIn);
         impl Drop for Back {
             fn drop(&mut self) {
@@ -258,11 +258,11 @@ impl StandIn {
     }
 }
 
-/// A thread that does nothing but wait. The jobs that it is in aren't counted, so that others are asked for, and its pool may start a spare one.
+/// A thread that only waits. Its jobs aren't counted, so that others are asked for, and its pool may start a spare thread.
 pub(crate) struct Resting {
     cores: Vec<Arc<Core>>,
-    pool: Option<Arc<Shared>>,
-    /// Whether somebody else runs what is ready meanwhile.
+    pool: Option<Arc<PoolState>>,
+    /// Whether another thread runs what is ready meanwhile.
     pub(crate) is_stood_in: bool,
 }
 
@@ -272,27 +272,27 @@ impl Resting {
         let cores: Vec<Arc<Core>> = RUNNING.try_with(counted).unwrap_or_default();
         let (pool, is_stood_in) = match stands_in {
             StandIn::Nobody => (None, false),
-            StandIn::Pool(pool) => (Some(Arc::clone(pool)), pool.rests()),
+            StandIn::Pool(pool) => (Some(Arc::clone(pool)), pool.begin_rest()),
             #[cfg(feature = "tokio")]
             StandIn::Tokio => (None, true),
         };
         let resting = Resting { cores, pool, is_stood_in };
-        resting.cores.iter().for_each(Core::rests);
+        resting.cores.iter().for_each(Core::begin_rest);
         resting
     }
 }
 
 impl Drop for Resting {
     fn drop(&mut self) {
-        self.cores.iter().for_each(|core| core.goes_on());
+        self.cores.iter().for_each(|core| core.end_rest());
         if let Some(pool) = &self.pool {
             pool.lock().running += 1;
         }
     }
 }
 
-/// The number of this thread as a worker: the next of all when it runs its first job, round and round.
-pub(crate) fn worker() -> u8 {
+/// This thread's number as a worker. It takes the next number, round and round, when it runs its first job.
+pub(crate) fn worker_number() -> u8 {
     static NEXT: AtomicUsize = AtomicUsize::new(0);
     WORKER.with(|worker| {
         if worker.get() == CALLER {
@@ -303,18 +303,18 @@ pub(crate) fn worker() -> u8 {
     })
 }
 
-/// Who this thread is to a request that it calls.
-pub(crate) fn here() -> u8 {
+/// This thread's number as a caller of requests.
+pub(crate) fn caller_number() -> u8 {
     HERE.with(Cell::get)
 }
 
-/// Does something as a worker.
+/// Runs `act` as a worker.
 pub(crate) fn as_worker<T>(act: impl FnOnce(u8) -> T) -> T {
-    let who = worker();
+    let who = worker_number();
     as_caller(who, || act(who))
 }
 
-/// Does something as the caller of this number.
+/// Runs `act` as the caller of this number.
 pub(crate) fn as_caller<T>(who: u8, act: impl FnOnce() -> T) -> T {
     struct Back(u8);
     impl Drop for Back {
@@ -326,8 +326,8 @@ pub(crate) fn as_caller<T>(who: u8, act: impl FnOnce() -> T) -> T {
     act()
 }
 
-/// Lets it be known that this thread runs functions of a request, by a job that is counted or otherwise, until what is given back is dropped.
-pub(crate) fn running(core: &Arc<Core>, is_job: bool) -> Running {
+/// Notes that this thread runs functions of a request, in a counted job or not, until the guard is dropped.
+pub(crate) fn mark_running(core: &Arc<Core>, is_job: bool) -> Running {
     let _ = RUNNING.try_with(|running| running.borrow_mut().push((Arc::clone(core), is_job)));
     Running
 }
@@ -336,31 +336,31 @@ pub(crate) struct Running;
 
 impl Drop for Running {
     fn drop(&mut self) {
-        // What it was may be dropped here, so the row isn't held then.
+        // This may drop the request, so the list isn't borrowed then.
         drop(RUNNING.try_with(|running| running.borrow_mut().pop()));
     }
 }
 
-/// The requests whose functions this thread is running, the innermost last.
-pub(crate) fn run_here() -> Vec<Arc<Core>> {
+/// The requests whose functions this thread runs, the innermost last.
+pub(crate) fn requests_run_here() -> Vec<Arc<Core>> {
     RUNNING.try_with(|running| running.borrow().iter().map(|it| Arc::clone(&it.0)).collect()).unwrap_or_default()
 }
 
-/// What comes while the like of it is done waits here for its end, so that the stack stays flat.
-pub(crate) struct Row<T>(RefCell<Waiting<T>>);
+/// A queue for work that comes while work of its kind is done, so that the stack stays flat.
+pub(crate) struct TurnQueue<T>(RefCell<Waiting<T>>);
 
 struct Waiting<T> {
-    /// Whether one is done at present.
+    /// Whether work is being done.
     is_taken: bool,
     next: Option<VecDeque<T>>,
 }
 
-impl<T> Row<T> {
-    pub(crate) const fn new() -> Row<T> {
-        Row(RefCell::new(Waiting { is_taken: false, next: None }))
+impl<T> TurnQueue<T> {
+    pub(crate) const fn new() -> TurnQueue<T> {
+        TurnQueue(RefCell::new(Waiting { is_taken: false, next: None }))
     }
 
-    /// The next that has come; or none, and then none is done.
+    /// Takes the next piece of work. Without one, the queue is free.
     #[inline]
     fn pop(&self) -> Option<T> {
         let mut waiting = self.0.borrow_mut();
@@ -376,14 +376,14 @@ impl<T> Row<T> {
 }
 
 thread_local! {
-    static INLINE: Row<Job> = const { Row::new() };
-    static REFUSED: Row<Arc<Core>> = const { Row::new() };
+    static INLINE: TurnQueue<Job> = const { TurnQueue::new() };
+    static REFUSED: TurnQueue<Arc<Core>> = const { TurnQueue::new() };
 }
 
-/// Does it, and what comes meanwhile, one after another. One that panics doesn't keep the others from being done.
-pub(crate) fn in_turn<T>(row: &'static LocalKey<Row<T>>, first: T, act: impl Fn(T)) {
+/// Does `first` and the work that comes meanwhile, one after another, also if some of it panics.
+pub(crate) fn do_in_turn<T>(row: &'static LocalKey<TurnQueue<T>>, first: T, act: impl Fn(T)) {
     let mut first = Some(first);
-    // A thread that ends has no row any more, and does what comes at once.
+    // A thread that ends has no queue any more, and does its work at once.
     let _ = row.try_with(|row| {
         let mut waiting = row.0.borrow_mut();
         if waiting.is_taken {
@@ -392,30 +392,30 @@ pub(crate) fn in_turn<T>(row: &'static LocalKey<Row<T>>, first: T, act: impl Fn(
     });
     let mut panicked = None;
     if let Some(first) = first {
-        take_turn(row, || act(first), &act, &mut panicked);
+        do_turns(row, || act(first), &act, &mut panicked);
     }
     if let Some(payload) = panicked {
         resume_unwind(payload);
     }
 }
 
-/// The same, where nothing of the row is done at present.
-fn take_turn<T>(row: &'static LocalKey<Row<T>>, first: impl FnOnce(), act: impl Fn(T), panicked: &mut Option<Payload>) {
+/// Does `first` and the work that comes meanwhile, where the queue is free.
+fn do_turns<T>(row: &'static LocalKey<TurnQueue<T>>, first: impl FnOnce(), act: impl Fn(T), panicked: &mut Option<Payload>) {
     let _ = row.try_with(|row| row.0.borrow_mut().is_taken = true);
-    guarded(panicked, first);
-    while let Some(next) = row.try_with(Row::pop).ok().flatten() {
-        guarded(panicked, || act(next));
+    catch_panic(panicked, first);
+    while let Some(next) = row.try_with(TurnQueue::pop).ok().flatten() {
+        catch_panic(panicked, || act(next));
     }
 }
 
-/// Whether [`Inline`] would run a job at once that came now, and not behind another one.
+/// Whether [`Inline`] would run a job at once, and not behind another one.
 pub(crate) fn is_inline_free() -> bool {
     INLINE.try_with(|row| !row.0.borrow().is_taken).unwrap_or(false)
 }
 
-/// Runs this as a job of [`Inline`], which is free, and then the jobs that came meanwhile.
-pub(crate) fn inline(job: impl FnOnce(), panicked: &mut Option<Payload>) {
-    take_turn(&INLINE, job, Job::run, panicked);
+/// Runs `job` as a job of [`Inline`], which is free, and then the jobs that came meanwhile.
+pub(crate) fn run_inline(job: impl FnOnce(), panicked: &mut Option<Payload>) {
+    do_turns(&INLINE, job, Job::run, panicked);
 }
 
 /// Runs each function at once, on the thread by which its stage became ready, and polls a future on the thread that wakes it: one whose waker
@@ -431,7 +431,7 @@ pub struct Inline;
 
 impl Spawn for Inline {
     fn spawn(&self, job: Job) -> Result<(), Job> {
-        in_turn(&INLINE, job, Job::run);
+        do_in_turn(&INLINE, job, Job::run);
         Ok(())
     }
 
@@ -444,7 +444,7 @@ impl Spawn for Inline {
     }
 }
 
-/// Threads of std. Clones are the same threads. Dropping the last clone lets them end once nothing waits, and waits for them.
+/// Threads of std. Clones share them. Dropping the last clone waits until no job is left and the threads have ended.
 ///
 /// While a function waits for a stage, a spare thread runs others in its place, so that as many go on as the pool has threads.
 ///
@@ -457,13 +457,13 @@ impl Spawn for Inline {
 pub struct Pool(Arc<Threads>);
 
 #[derive(Debug)]
-struct Threads(Arc<Shared>);
+struct Threads(Arc<PoolState>);
 
 #[derive(Debug)]
-pub(crate) struct Shared {
+pub(crate) struct PoolState {
     queue: Mutex<Queue>,
     came: Condvar,
-    /// How many jobs run at a time.
+    /// The most jobs at a time.
     most: usize,
 }
 
@@ -472,24 +472,24 @@ struct Queue {
     jobs: VecDeque<Job>,
     /// Threads that run a job and don't rest in it.
     running: usize,
-    /// Threads that have no job, those that have just been started among them.
+    /// Threads without a job, also those that have just been started.
     idle: usize,
     threads: Vec<JoinHandle<()>>,
     closed: bool,
 }
 
-/// How long a spare thread stays that has nothing to do.
+/// How long an idle spare thread stays.
 const SPARE: Duration = Duration::from_secs(1);
 
-impl Shared {
+impl PoolState {
     fn lock(&self) -> MutexGuard<'_, Queue> {
         self.queue.lock().unwrap_or_else(PoisonError::into_inner)
     }
 
-    /// Starts a thread more, unless the system refuses it. The next job that comes tries again.
-    fn start(self: &Arc<Shared>, queue: &mut Queue) -> bool {
+    /// Starts one more thread, unless the system refuses it. The next job tries again.
+    fn start_thread(self: &Arc<PoolState>, queue: &mut Queue) -> bool {
         let shared = Arc::clone(self);
-        let serves = move || StandIn::Pool(Arc::clone(&shared)).during(|| shared.serve());
+        let serves = move || StandIn::Pool(Arc::clone(&shared)).stand_in_during(|| shared.run_jobs());
         let started = thread::Builder::new().name(format!("cf {}", queue.threads.len())).spawn(serves);
         queue.idle += usize::from(started.is_ok());
         let is_started = started.is_ok();
@@ -497,18 +497,18 @@ impl Shared {
         is_started
     }
 
-    /// Sees to it that a thread comes for each job that may run now: one that is idle has to be woken, or one is started. Whether one is to be
-    /// woken; an error where none comes.
-    fn hire(self: &Arc<Shared>, queue: &mut Queue) -> Result<bool, ()> {
+    /// Finds a thread for each job that may run now, and starts one if too few are idle. Says whether an idle one is to be woken; an error if there
+    /// is no thread.
+    fn hire(self: &Arc<PoolState>, queue: &mut Queue) -> Result<bool, ()> {
         let wanted = queue.jobs.len().min(self.most.saturating_sub(queue.running));
-        if wanted > queue.idle && !self.start(queue) && queue.running == 0 && queue.idle == 0 {
+        if wanted > queue.idle && !self.start_thread(queue) && queue.running == 0 && queue.idle == 0 {
             return Err(());
         }
         Ok(wanted > 0)
     }
 
-    /// A thread rests in its job, so another may run one. Whether there is one for what is queued.
-    fn rests(self: &Arc<Shared>) -> bool {
+    /// Notes that a thread waits in its job, so another one may run. Says whether there is a thread for the queue.
+    fn begin_rest(self: &Arc<PoolState>) -> bool {
         let mut queue = self.lock();
         queue.running -= 1;
         let hired = self.hire(&mut queue);
@@ -519,7 +519,7 @@ impl Shared {
         hired.is_ok()
     }
 
-    fn serve(&self) {
+    fn run_jobs(&self) {
         let mut queue = self.lock();
         loop {
             let next = if queue.running < self.most { queue.jobs.pop_front() } else { None };
@@ -528,7 +528,7 @@ impl Shared {
                 queue.running += 1;
                 drop(queue);
                 // A waker that panics doesn't end the thread.
-                quietly(|| job.run());
+                swallow_panic(|| job.run());
                 queue = self.lock();
                 queue.running -= 1;
                 queue.idle += 1;
@@ -554,23 +554,23 @@ impl Shared {
 }
 
 impl Pool {
-    /// So many threads, at least one. It takes some 20 µs a thread. Those that the system doesn't start now are tried again when jobs come.
+    /// Starts this many threads, at least one. It takes some 20 µs a thread. If the system refuses some, it tries again when jobs come.
     ///
     /// ```
     /// let pool = cf::Pool::new(2);
     /// assert_eq!(cf::Spawn::parallelism(&pool), 2);
     /// ```
     pub fn new(threads: usize) -> Pool {
-        let shared = Arc::new(Shared { queue: Mutex::default(), came: Condvar::new(), most: threads.max(1) });
+        let shared = Arc::new(PoolState { queue: Mutex::default(), came: Condvar::new(), most: threads.max(1) });
         let mut queue = shared.lock();
-        let _ = (0..shared.most).all(|_| shared.start(&mut queue));
+        let _ = (0..shared.most).all(|_| shared.start_thread(&mut queue));
         drop(queue);
         Pool(Arc::new(Threads(shared)))
     }
 }
 
 impl Spawn for Pool {
-    /// A job is given back where no thread is there, and the system starts none.
+    /// Gives a job back if there is no thread and the system starts none.
     fn spawn(&self, job: Job) -> Result<(), Job> {
         let shared = &self.0 .0;
         let mut queue = shared.lock();
@@ -613,8 +613,7 @@ impl Drop for Threads {
     }
 }
 
-/// Functions on a pool of rayon. Where a waker or a `Drop` of somebody's panics, the pool's own handler of panics is called; rayon ends the
-/// process where it has none.
+/// Functions on a pool of rayon. If a waker or a `Drop` panics, rayon calls the pool's own handler of panics, and ends the process without one.
 ///
 /// ```
 /// let pool = std::sync::Arc::new(rayon::ThreadPoolBuilder::new().num_threads(2).build().unwrap());

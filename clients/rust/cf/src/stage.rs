@@ -12,9 +12,9 @@
 //! - `Stage` is a handle: the request's `Core`, the stage's number or why there is none, and the place of this handle's
 //!   waker. Clones share the stage and have wakers of their own.
 //! - `Core` (core.rs) is the request: its executor, its clock, and one mutex.
-//! - `Inner` (inner.rs) stands under that mutex. It has the `Ledger` (the library's machine, and the `Record` of the moments of
+//! - `Inner` (inner.rs) stands under that mutex. It has the `Ledger` (the library's machine, and the `EventTimes` of the moments of
 //!   events), a `Slot` for each stage, `Extra`s for the few stages that have more: a future that is polled, relays; and the
-//!   `Limit`s of stages.
+//!   `StageLimit`s of stages.
 //! - A `Slot` (slot.rs) holds the stage's function until that is claimed, and then what the function gave: a value or an
 //!   error. It also holds what the machine told. A value's number in words is that of the stage that gave it, and so is an
 //!   error's; stages behind it hold the number alone.
@@ -36,13 +36,13 @@
 //!
 //! 1. The clock is asked what time it is. Then the lock is taken.
 //! 2. The machine does one word, settles the relays that follow a stage that is settled now, and tells all that it has settled.
-//!    `Inner::show` takes that: of each stage the slot is written, its function is kept for dropping, and its wakers are taken.
+//!    `Inner::show_settled` takes that: of each stage the slot is written, its function is kept for dropping, and its wakers are taken.
 //!    Polls read slots under the same lock, so whoever is told an outcome can also see the outcomes of all earlier words.
 //! 3. `Inner::cancel_relays` cancels relays that nobody needs any more, each by a word, which may settle more.
 //! 4. `Inner::hire` asks for one job, if the machine has more ready stages than jobs are coming, and fewer jobs run than may.
-//! 5. Where `Inline` would begin the job at once, it is begun under the same hold (`Core::begin_here`): the thread claims the
+//! 5. Where `Inline` would begin the job at once, it is begun under the same hold (`Core::begin_inline`): the thread claims the
 //!    stage, and runs the job in the place where the executor would.
-//! 6. The lock is given back. `Core::tell` tells what came of it, in this order: the clock is asked for an alarm, jobs go to the
+//! 6. The lock is given back. `Core::tell_all` tells what came of it, in this order: the clock is asked for an alarm, jobs go to the
 //!    executor, wakers are called, futures of settled stages are dropped, relays of other requests are settled, relays are hung
 //!    on other requests' stages or taken off, and at last values and functions are dropped. A relay of another request is a
 //!    change there; what it has yet to tell of further requests is added to this list, so a row of requests takes no stack.
@@ -65,15 +65,15 @@
 //! isn't counted (`Resting`), and a pool may start a spare thread.
 //!
 //! **Relays.** A stage of another request can't be a source. A *relay* takes its place: a source of this request that is
-//! settled as that stage is. `Core::feed` hangs it there. That stage then keeps this request alive until either is settled; so
-//! a relay that was made for one stage alone is cancelled once that is settled (`let_go`). A composing stage has a relay right
+//! settled as that stage is. `Core::feed_relay` hangs it there. That stage then keeps this request alive until either is settled; so
+//! a relay that was made for one stage alone is cancelled once that is settled (`cancel_relays_with`). A composing stage has a relay right
 //! below it. Its finish links to the stage that its function gave, where that is a lower one of the request, and else to the
 //! relay.
 //!
 //! **Deadlines.** The machine keeps them, by moments in nanoseconds since the request began, and settles by the caller `CLOCK`
-//! what is due. A stage's `Limit`s say what it gets then: a value, or an error with the while that it had. The request asks its
-//! clock for one `Alarm` at a time, at the first deadline (`Awaited`), and for another where an earlier deadline comes.
-//! `Core::rung` lets time pass up to the alarm's moment, and asks for the next one. An alarm keeps no request alive. It is
+//! what is due. A stage's `StageLimit`s say what it gets then: a value, or an error with the while that it had. The request asks its
+//! clock for one `Alarm` at a time, at the first deadline (`AwaitedAlarm`), and for another where an earlier deadline comes.
+//! `Core::ring_alarm` lets time pass up to the alarm's moment, and asks for the next one. An alarm keeps no request alive. It is
 //! wanted until it is rung, another is asked for, or all stages that have deadlines are settled. One that is wanted and dropped
 //! lets these stages fail with `Refusal::NoClock`.
 //!
@@ -81,18 +81,18 @@
 //! there is none. Where there is none, the call gives a handle of a stage that has failed with `Refusal::Full`: its `at` is an
 //! error, and nothing was attached.
 //!
-//! **Which code calls a user's.** `Core::work` and `Core::help_by` (a stage's function), `Polling::poll` (a future), `Core::tell` (wakers, and the
-//! `Drop` of values, functions, errors and futures), `Core::spawn` (`Spawn::spawn`), `Core::now` and `Core::tell` (`Clock`),
+//! **Which code calls a user's.** `Core::work` and `Core::help_by` (a stage's function), `Polling::poll` (a future), `Core::tell_all` (wakers,
+//! and the `Drop` of values, functions, errors and futures), `Core::spawn` (`Spawn::spawn`), `Core::now` and `Core::tell_all` (`Clock`),
 //! `Core::poll` (cloning and dropping a waker), and histories and `Debug` (`Describe`, `Display` of errors).
 use crate::core::Core;
-use crate::describe::escaped;
+use crate::describe::escape_text;
 use crate::error::{BoxError, Error, Refusal};
 use crate::help::Helper;
 use crate::name::Made;
-use crate::request::{later, Request};
-use crate::spawn::{here, in_drop, Resting, StandIn, CALLER};
-use crate::value::{self, Call, Gave, Given, Val};
-use crate::word::Form;
+use crate::request::{await_future, Request};
+use crate::spawn::{caller_number, run_in_drop, Resting, StandIn, CALLER};
+use crate::value::{self, CallArgs, Returned, StageFn, Val};
+use crate::word::WordForm;
 use sealed::Sealed;
 use std::borrow::Cow;
 use std::fmt;
@@ -105,8 +105,8 @@ use std::task::{Context, Poll, Wake, Waker};
 use std::thread::{self, Thread};
 use std::time::{Duration, Instant};
 
-/// A stage: a handle, whose clones are the same stage. Dropping all of them doesn't cancel it ([`cancel_on_drop`](Stage::cancel_on_drop)
-/// does), since what hangs on it may need it.
+/// A stage. This is a handle, whose clones are the same stage. Dropping all handles doesn't cancel it, since other stages may depend on it;
+/// [`cancel_on_drop`](Stage::cancel_on_drop) does.
 ///
 /// It is a future of `Result<T, Error>`, which any runtime may poll, by many tasks at a time, and again once it was ready. What is attached
 /// takes the handle itself, as the methods of futures do: with `&self` the extension traits of the crate `futures`, where they are in scope,
@@ -122,37 +122,37 @@ use std::time::{Duration, Instant};
 pub struct Stage<T> {
     pub(crate) core: Arc<Core>,
     pub(crate) at: Result<u16, Refusal>,
-    waits: Waits,
+    waits: KeptWaker,
     of: PhantomData<fn() -> T>,
 }
 
-/// Where the waker of a handle is kept, once that has waited: its request, its stage, and the place. It is forgotten with the handle.
-struct Waits(Option<(Arc<Core>, u16, u32)>);
+/// The place of a handle's waker, once the handle has waited: its request, its stage, and the index. The waker is forgotten with the handle.
+struct KeptWaker(Option<(Arc<Core>, u16, u32)>);
 
-impl Waits {
+impl KeptWaker {
     #[cold]
-    fn forget(&mut self) {
+    fn forget_now(&mut self) {
         if let Some((core, number, place)) = self.0.take() {
-            core.forget(number, place);
+            core.forget_waker(number, place);
         }
     }
 }
 
-impl Drop for Waits {
+impl Drop for KeptWaker {
     #[inline]
     fn drop(&mut self) {
         if self.0.is_some() {
-            self.forget();
+            self.forget_now();
         }
     }
 }
 
 impl<T> Stage<T> {
     pub(crate) fn new(core: &Arc<Core>, at: Result<u16, Refusal>) -> Stage<T> {
-        Stage { core: Arc::clone(core), at, waits: Waits(None), of: PhantomData }
+        Stage { core: Arc::clone(core), at, waits: KeptWaker(None), of: PhantomData }
     }
 
-    /// Its number in the request's history. A stage that was refused has none.
+    /// The stage's number in the request's history. A refused stage has none.
     ///
     /// ```
     /// let request = cf::Request::new("order 17", cf::Inline);
@@ -162,7 +162,7 @@ impl<T> Stage<T> {
         self.at.ok()
     }
 
-    /// Its request.
+    /// The stage's request.
     ///
     /// ```
     /// let request = cf::Request::new("order 17", cf::Inline);
@@ -172,7 +172,7 @@ impl<T> Stage<T> {
         Request(Arc::clone(&self.core))
     }
 
-    /// Gives it a name, by which histories speak of it. The stage itself is given back.
+    /// Names the stage in histories, and gives the stage back.
     ///
     /// ```
     /// let request = cf::Request::new("order 17", cf::Inline);
@@ -186,34 +186,33 @@ impl<T> Stage<T> {
         self
     }
 
-    /// Whether it has a value or an error.
+    /// Whether the stage has a value or an error.
     ///
     /// ```
     /// let request = cf::Request::new("order 17", cf::Inline);
     /// assert!(!request.promise::<u32>().is_settled());
     /// ```
     pub fn is_settled(&self) -> bool {
-        self.reads();
+        self.tell_watch_of_read();
         self.at.map_or(true, |number| self.core.lock().slot(number).is_settled())
     }
 
-    /// Lets who watches the request be told that somebody reads the stage.
+    /// Tells a test's observer that the stage is read.
     #[inline]
-    fn reads(&self) {
+    fn tell_watch_of_read(&self) {
         #[cfg(feature = "testing")]
-        self.at.into_iter().for_each(|number| self.core.watched(|watch| watch.read(number)));
+        self.at.into_iter().for_each(|number| self.core.tell_watch(|watch| watch.note_read(number)));
     }
 
-    fn told(&self) -> Option<Result<Val, Error>> {
-        self.reads();
+    fn end_if_settled(&self) -> Option<Result<Val, Error>> {
+        self.tell_watch_of_read();
         match self.at {
             Ok(number) => self.core.peek(number),
             Err(why) => Some(Err(why.into())),
         }
     }
 
-    /// Settles it with an error, unless it is settled; whether it did. An [`Error::Cancelled`] cancels it, and an [`Error::TimedOut`] lets it time
-    /// out.
+    /// Fails the stage, unless it is settled. True if this call did. An [`Error::Cancelled`] cancels it, and an [`Error::TimedOut`] times it out.
     ///
     /// ```
     /// let request = cf::Request::new("order 17", cf::Inline);
@@ -222,11 +221,11 @@ impl<T> Stage<T> {
     /// assert_eq!(price.wait().unwrap_err().to_string(), "no stock");
     /// ```
     pub fn fail(&self, error: impl Into<BoxError>) -> bool {
-        self.at.map_or(false, |number| self.core.settle(here(), number, Err(Error::of(error.into()))).is_ok())
+        self.at.map_or(false, |number| self.core.settle(caller_number(), number, Err(Error::from_boxed(error.into()))).is_ok())
     }
 
-    /// Cancels it, unless it is settled; whether it is cancelled then. A function that runs isn't stopped, its answer comes too late; a
-    /// future that is polled is dropped.
+    /// Cancels the stage, unless it is settled. True if it is cancelled then. A function that runs isn't stopped, and its answer comes too late; a
+    /// future is dropped.
     ///
     /// ```
     /// let request = cf::Request::new("order 17", cf::Inline);
@@ -235,10 +234,10 @@ impl<T> Stage<T> {
     /// assert!(price.wait().unwrap_err().is_cancelled());
     /// ```
     pub fn cancel(&self) -> bool {
-        self.at.map_or(false, |number| self.core.settle(here(), number, Err(Error::Cancelled)).is_ok())
+        self.at.map_or(false, |number| self.core.settle(caller_number(), number, Err(Error::Cancelled)).is_ok())
     }
 
-    /// Cancels the stage when this is dropped. It is a future as the stage is.
+    /// Gives a future of the stage that cancels it when dropped.
     ///
     /// ```
     /// let request = cf::Request::new("order 17", cf::Inline);
@@ -250,9 +249,8 @@ impl<T> Stage<T> {
         CancelOnDrop(self)
     }
 
-    /// Lets it fail with [`Error::TimedOut`], unless it is settled after this while, by the request's clock. The stage itself is given back, to be gone
-    /// on with. Of several limits of a stage the first that comes settles it. A function that runs goes on, and its answer comes too late; a future is
-    /// dropped.
+    /// Fails the stage with [`Error::TimedOut`] after `wait` by the request's clock, unless it is settled, and gives the stage back. Of several
+    /// limits the first that comes settles it. A function that runs goes on, and its answer comes too late; a future is dropped.
     ///
     /// ```
     /// use std::time::Duration;
@@ -262,13 +260,13 @@ impl<T> Stage<T> {
     /// ```
     pub fn or_timeout(self, wait: Duration) -> Stage<T> {
         if let Ok(number) = self.at {
-            self.core.limit(number, wait, None);
+            self.core.set_limit(number, wait, None);
         }
         self
     }
 
-    /// From which stage its error came: the number of the one whose function gave the error, or which was failed with it or timed out. None
-    /// where it has no error, or was cancelled.
+    /// The number of the stage from which the error came: its function returned the error, or it was failed or timed out. None without an error, and
+    /// if the stage was cancelled.
     ///
     /// ```
     /// let request = cf::Request::new("order 17", cf::Inline);
@@ -277,12 +275,12 @@ impl<T> Stage<T> {
     /// assert_eq!(told.blamed(), price.number());
     /// ```
     pub fn blamed(&self) -> Option<u16> {
-        self.reads();
+        self.tell_watch_of_read();
         self.core.lock().slot(self.at.ok()?).blamed()
     }
 
     pub(crate) fn poll_value(&mut self, cx: &mut Context<'_>) -> Poll<Result<Val, Error>> {
-        self.reads();
+        self.tell_watch_of_read();
         let number = match self.at {
             Ok(number) => number,
             Err(why) => return Poll::Ready(Err(why.into())),
@@ -298,22 +296,22 @@ impl<T> Stage<T> {
     fn wait_value(&self, wait: Option<Duration>) -> Option<Result<Val, Error>> {
         // A function may wait, and somebody else goes on with its runtime if that can be.
         #[cfg(feature = "tokio")]
-        if here() == CALLER && wait != Some(Duration::ZERO) {
+        if caller_number() == CALLER && wait != Some(Duration::ZERO) {
             crate::runtime::may_block();
         }
-        if let Some(told) = self.told() {
+        if let Some(told) = self.end_if_settled() {
             return Some(told);
         }
         let stage = self.at.ok()?;
         #[cfg(feature = "testing")]
-        if self.core.watch.as_ref().map_or(false, |watch| watch.wait(&self.core, stage, wait)) {
-            return self.told();
+        if self.core.watch.as_ref().map_or(false, |watch| watch.wait_for_stage(&self.core, stage, wait)) {
+            return self.end_if_settled();
         }
         let until = wait.and_then(|wait| Instant::now().checked_add(wait));
         let parked = Arc::new(Parked { thread: thread::current(), is_woken: AtomicBool::new(false) });
         let waker = Waker::from(Arc::clone(&parked));
         let mut waiting = self.clone();
-        let (mut context, mut helper, stands_in) = (Context::from_waker(&waker), Helper::new(&waker), StandIn::here());
+        let (mut context, mut helper, stands_in) = (Context::from_waker(&waker), Helper::new(&waker), StandIn::current());
         loop {
             if let Poll::Ready(told) = waiting.poll_value(&mut context) {
                 return Some(told);
@@ -322,63 +320,63 @@ impl<T> Stage<T> {
             crate::search::turn();
             // How long a function takes isn't known, so none is begun where the wait has to end at a moment.
             let may_help = until.is_none() && stands_in.may_help();
-            if may_help && helper.helps(&self.core, stage, stands_in.is_there()) {
+            if may_help && helper.help_stage(&self.core, stage, stands_in.is_there()) {
                 continue;
             }
-            let resting = (here() != CALLER).then(|| Resting::new(&stands_in));
+            let resting = (caller_number() != CALLER).then(|| Resting::new(&stands_in));
             let is_alone = stands_in.is_there() && resting.as_ref().map_or(false, |resting| !resting.is_stood_in);
-            if may_help && is_alone && helper.helps(&self.core, stage, false) {
+            if may_help && is_alone && helper.help_stage(&self.core, stage, false) {
                 continue;
             }
             if !stands_in.rest(|| parked.rest(until)) {
-                return self.told();
+                return self.end_if_settled();
             }
         }
     }
 
-    pub(crate) fn gave(self) -> Gave {
+    pub(crate) fn into_returned(self) -> Returned {
         match self.at {
-            Ok(number) => Gave::Stage(Arc::clone(&self.core), number),
-            Err(why) => Gave::Error(why.into()),
+            Ok(number) => Returned::Stage(Arc::clone(&self.core), number),
+            Err(why) => Returned::Error(why.into()),
         }
     }
 
     // Attaching.
 
-    pub(crate) fn behind<U>(self, form: Form, call: Call, made: Made) -> Stage<U> {
+    pub(crate) fn attach_behind<U>(self, form: WordForm, call: StageFn, made: Made) -> Stage<U> {
         let Stage { core, at, waits, .. } = self;
-        let at = behind(&core, at, form, call, made);
+        let at = attach_behind(&core, at, form, call, made);
         drop(waits);
-        Stage { core, at, waits: Waits(None), of: PhantomData }
+        Stage { core, at, waits: KeptWaker(None), of: PhantomData }
     }
 
-    fn behind_both<O: Send + Sync + 'static, U>(&self, form: Form, other: &Stage<O>, call: Call, made: Made) -> Stage<U> {
-        let other = self.at.map(|_| other.adopted(&self.request()));
+    fn attach_behind_both<O: Send + Sync + 'static, U>(&self, form: WordForm, other: &Stage<O>, call: StageFn, made: Made) -> Stage<U> {
+        let other = self.at.map(|_| other.adopt_into(&self.request()));
         let both = self.at.and_then(|first| Ok([first, other?.at?]));
-        let at = both.and_then(|of| self.core.attach(here(), form, &of, Some(call), made));
+        let at = both.and_then(|of| self.core.attach(caller_number(), form, &of, Some(call), made));
         let relay = other.ok().filter(|other| other.is_relay).and_then(|other| other.at.ok());
-        self.core.let_go(at, relay.into_iter().collect());
+        self.core.cancel_relays_with(at, relay.into_iter().collect());
         Stage::new(&self.core, at)
     }
 
-    fn composing<U>(&self, form: Form, call: Call, made: Made) -> Stage<U> {
-        Stage::new(&self.core, self.at.and_then(|number| self.core.attach_composing(here(), form, number, call, made)))
+    fn attach_composing<U>(&self, form: WordForm, call: StageFn, made: Made) -> Stage<U> {
+        Stage::new(&self.core, self.at.and_then(|number| self.core.attach_composing(caller_number(), form, number, call, made)))
     }
 }
 
-/// A stage of this form behind one.
-fn behind(core: &Arc<Core>, at: Result<u16, Refusal>, form: Form, call: Call, made: Made) -> Result<u16, Refusal> {
-    core.attach(here(), form, &[at?], Some(call), made)
+/// Attaches a stage of this form behind one.
+fn attach_behind(core: &Arc<Core>, at: Result<u16, Refusal>, form: WordForm, call: StageFn, made: Made) -> Result<u16, Refusal> {
+    core.attach(caller_number(), form, &[at?], Some(call), made)
 }
 
-/// What wakes a thread that waits.
+/// The waker of a waiting thread.
 struct Parked {
     thread: Thread,
     is_woken: AtomicBool,
 }
 
 impl Parked {
-    /// Rests until it is woken, or up to a moment. Whether it is woken.
+    /// Parks until it is woken, or up to a moment. Says whether it was woken.
     fn rest(self: &Arc<Parked>, until: Option<Instant>) -> bool {
         while !self.is_woken.swap(false, Ordering::SeqCst) {
             #[cfg(test)]
@@ -409,7 +407,7 @@ impl Wake for Parked {
 }
 
 impl<T: Send + Sync + 'static> Stage<T> {
-    /// What the function gives of the value. Attaching takes about 0.1 µs, and the claim and the finish of a function 0.25.
+    /// Calls the function with the value. Attaching takes about 0.1 µs, and the claim and the finish of a function 0.25.
     ///
     /// ```
     /// let request = cf::Request::new("order 17", cf::Inline);
@@ -421,10 +419,10 @@ impl<T: Send + Sync + 'static> Stage<T> {
         F: FnOnce(&T) -> U + Send + 'static,
         U: Send + Sync + 'static,
     {
-        self.behind(Form::Apply, Box::new(move |given| Gave::value(f(given.one()))), Made::by::<F>())
+        self.attach_behind(WordForm::Apply, Box::new(move |given| Returned::from_value(f(given.one()))), Made::of_function::<F>())
     }
 
-    /// What the function gives of the value, or its error.
+    /// Calls the function, which may fail, with the value.
     ///
     /// ```
     /// let request = cf::Request::new("order 17", cf::Inline);
@@ -438,11 +436,11 @@ impl<T: Send + Sync + 'static> Stage<T> {
         U: Send + Sync + 'static,
         E: Into<BoxError>,
     {
-        let call = move |given: &Given| Gave::result(f(given.one()).map_err(|error| Error::of(error.into())));
-        self.behind(Form::Apply, Box::new(call), Made::by::<F>())
+        let call = move |given: &CallArgs| Returned::from_result(f(given.one()).map_err(|error| Error::from_boxed(error.into())));
+        self.attach_behind(WordForm::Apply, Box::new(call), Made::of_function::<F>())
     }
 
-    /// What the future gives that the function makes of the value. A stage that is cancelled or times out drops it.
+    /// Calls the function with the value, and polls the future that it returns. A stage that is cancelled or times out drops the future.
     ///
     /// ```
     /// let request = cf::Request::new("order 17", cf::Inline);
@@ -457,10 +455,10 @@ impl<T: Send + Sync + 'static> Stage<T> {
         U: Send + Sync + 'static,
         E: Into<BoxError>,
     {
-        self.behind(Form::Apply, Box::new(move |given| later(f(given.arc()))), Made::by::<F>())
+        self.attach_behind(WordForm::Apply, Box::new(move |given| await_future(f(given.arc()))), Made::of_function::<F>())
     }
 
-    /// What the stage gives that the function makes of the value: a stage of this request or another. It takes two stages of the request.
+    /// Calls the function with the value, and ends as the stage that it returns, which may be another request's. It takes two stages of the request.
     ///
     /// ```
     /// let request = cf::Request::new("order 17", cf::Inline);
@@ -474,10 +472,10 @@ impl<T: Send + Sync + 'static> Stage<T> {
         F: FnOnce(&T) -> Stage<U> + Send + 'static,
         U: Send + Sync + 'static,
     {
-        self.composing(Form::Compose, Box::new(move |given| f(given.one()).gave()), Made::by::<F>())
+        self.attach_composing(WordForm::Compose, Box::new(move |given| f(given.one()).into_returned()), Made::of_function::<F>())
     }
 
-    /// What the function gives of both values. The other stage may be another request's, for which this one takes a stage more.
+    /// Calls the function with both values. The other stage may be another request's, which takes one more stage of this request.
     ///
     /// ```
     /// let request = cf::Request::new("order 17", cf::Inline);
@@ -491,14 +489,14 @@ impl<T: Send + Sync + 'static> Stage<T> {
         O: Send + Sync + 'static,
         U: Send + Sync + 'static,
     {
-        let call = move |given: &Given| {
+        let call = move |given: &CallArgs| {
             let (first, second) = given.two();
-            Gave::value(f(first, second))
+            Returned::from_value(f(first, second))
         };
-        self.behind_both(Form::Combine, other, Box::new(call), Made::by::<F>())
+        self.attach_behind_both(WordForm::Combine, other, Box::new(call), Made::of_function::<F>())
     }
 
-    /// What the function gives of the value that is there first. Where the first that is settled failed, so does this.
+    /// Calls the function with the value of the stage that is settled first. If that failed, so does this.
     ///
     /// ```
     /// let request = cf::Request::new("order 17", cf::Inline);
@@ -511,10 +509,10 @@ impl<T: Send + Sync + 'static> Stage<T> {
         F: FnOnce(&T) -> U + Send + 'static,
         U: Send + Sync + 'static,
     {
-        self.behind_both(Form::ApplyEither, other, Box::new(move |given| Gave::value(f(given.one()))), Made::by::<F>())
+        self.attach_behind_both(WordForm::ApplyEither, other, Box::new(move |given| Returned::from_value(f(given.one()))), Made::of_function::<F>())
     }
 
-    /// What the function gives of the value or the error.
+    /// Calls the function with the value or the error.
     ///
     /// ```
     /// let request = cf::Request::new("order 17", cf::Inline);
@@ -527,10 +525,14 @@ impl<T: Send + Sync + 'static> Stage<T> {
         F: FnOnce(Result<&T, &Error>) -> U + Send + 'static,
         U: Send + Sync + 'static,
     {
-        self.behind(Form::Handle, Box::new(move |given| Gave::value(f(given.got().map(value::of)))), Made::by::<F>())
+        self.attach_behind(
+            WordForm::Handle,
+            Box::new(move |given| Returned::from_value(f(given.outcome().map(value::downcast_ref)))),
+            Made::of_function::<F>(),
+        )
     }
 
-    /// The same value or error, once the function was called with it. A panic of the function counts where there was a value.
+    /// Calls the function with the value or the error, and ends with the same. A panic of the function fails it if there was a value.
     ///
     /// ```
     /// let request = cf::Request::new("order 17", cf::Inline);
@@ -542,14 +544,14 @@ impl<T: Send + Sync + 'static> Stage<T> {
     where
         F: FnOnce(Result<&T, &Error>) + Send + 'static,
     {
-        let call = move |given: &Given| {
-            f(given.got().map(value::of));
-            Gave::Value(Val::Nil)
+        let call = move |given: &CallArgs| {
+            f(given.outcome().map(value::downcast_ref));
+            Returned::Value(Val::Nil)
         };
-        self.behind(Form::WhenComplete, Box::new(call), Made::by::<F>())
+        self.attach_behind(WordForm::WhenComplete, Box::new(call), Made::of_function::<F>())
     }
 
-    /// The value, or what the function gives of the error.
+    /// Ends with the value, or calls the function with the error.
     ///
     /// ```
     /// let request = cf::Request::new("order 17", cf::Inline);
@@ -561,14 +563,14 @@ impl<T: Send + Sync + 'static> Stage<T> {
     where
         F: FnOnce(&Error) -> T + Send + 'static,
     {
-        let call = move |given: &Given| match given.got() {
-            Ok(value) => Gave::Value(value.clone()),
-            Err(error) => Gave::value(f(error)),
+        let call = move |given: &CallArgs| match given.outcome() {
+            Ok(value) => Returned::Value(value.clone()),
+            Err(error) => Returned::from_value(f(error)),
         };
-        self.behind(Form::Exceptionally, Box::new(call), Made::by::<F>())
+        self.attach_behind(WordForm::Exceptionally, Box::new(call), Made::of_function::<F>())
     }
 
-    /// The value, or what the stage gives that the function makes of the error. It takes two stages of the request.
+    /// Ends with the value, or calls the function with the error and ends as the stage that it returns. It takes two stages of the request.
     ///
     /// ```
     /// let request = cf::Request::new("order 17", cf::Inline);
@@ -581,20 +583,20 @@ impl<T: Send + Sync + 'static> Stage<T> {
     where
         F: FnOnce(&Error) -> Stage<T> + Send + 'static,
     {
-        let call = move |given: &Given| match given.got() {
-            Ok(value) => Gave::Value(value.clone()),
-            Err(error) => f(error).gave(),
+        let call = move |given: &CallArgs| match given.outcome() {
+            Ok(value) => Returned::Value(value.clone()),
+            Err(error) => f(error).into_returned(),
         };
-        self.composing(Form::ExceptionallyCompose, Box::new(call), Made::by::<F>())
+        self.attach_composing(WordForm::ExceptionallyCompose, Box::new(call), Made::of_function::<F>())
     }
 
-    // Who settles it.
+    // Settling.
 
-    /// Settles it with a value, unless it is settled.
+    /// Completes the stage with a value, unless it is settled.
     ///
     /// # Errors
     ///
-    /// Where it is settled the value is given back.
+    /// The value, if the stage is settled already.
     ///
     /// ```
     /// let request = cf::Request::new("order 17", cf::Inline);
@@ -607,16 +609,16 @@ impl<T: Send + Sync + 'static> Stage<T> {
             Ok(number) => number,
             Err(_) => return Err(value),
         };
-        match self.core.settle(here(), number, Ok(Val::of(value))) {
+        match self.core.settle(caller_number(), number, Ok(Val::new(value))) {
             Ok(()) => Ok(()),
             Err(back) => {
-                let back: Arc<T> = value::arc_of(back.unwrap_or_else(|_| unreachable!("a value was handed in")));
+                let back: Arc<T> = value::downcast_arc(back.unwrap_or_else(|_| unreachable!("a value was handed in")));
                 Err(Arc::try_unwrap(back).unwrap_or_else(|back| unreachable!("{} others have seen it", Arc::strong_count(&back))))
             }
         }
     }
 
-    /// Gives it the value, unless it is settled after this while, by the request's clock. The stage itself is given back.
+    /// Completes the stage with the value after `wait` by the request's clock, unless it is settled, and gives the stage back.
     ///
     /// ```
     /// use std::time::Duration;
@@ -625,28 +627,28 @@ impl<T: Send + Sync + 'static> Stage<T> {
     /// ```
     pub fn complete_on_timeout(self, value: T, wait: Duration) -> Stage<T> {
         if let Ok(number) = self.at {
-            self.core.limit(number, wait, Some(Val::of(value)));
+            self.core.set_limit(number, wait, Some(Val::new(value)));
         }
         self
     }
 
-    // What it holds.
+    // Reading.
 
-    /// What it holds at present, behind an `Arc`, if it is settled.
+    /// The result behind an `Arc`, if the stage is settled.
     ///
     /// ```
     /// let request = cf::Request::new("order 17", cf::Inline);
     /// assert_eq!(*request.supply(|| 49).peek_arc().unwrap().unwrap(), 49);
     /// ```
     pub fn peek_arc(&self) -> Option<Result<Arc<T>, Error>> {
-        self.told().map(|told| told.map(value::arc_of))
+        self.end_if_settled().map(|told| told.map(value::downcast_arc))
     }
 
-    /// Blocks the thread until it is settled, for values that can't be cloned, as [`wait`](Stage::wait) does.
+    /// Blocks the thread until the stage is settled, as [`wait`](Stage::wait) does, for values that can't be cloned.
     ///
     /// # Errors
     ///
-    /// What the stage failed with.
+    /// The error of the stage.
     ///
     /// # Panics
     ///
@@ -658,10 +660,10 @@ impl<T: Send + Sync + 'static> Stage<T> {
     /// assert_eq!(request.supply(|| Large(49)).wait_arc().unwrap().0, 49);
     /// ```
     pub fn wait_arc(&self) -> Result<Arc<T>, Error> {
-        self.wait_value(None).unwrap_or(Err(Error::BadAnswer)).map(value::arc_of)
+        self.wait_value(None).unwrap_or(Err(Error::BadAnswer)).map(value::downcast_arc)
     }
 
-    /// A future of the value behind an `Arc`, for values that can't be cloned.
+    /// Gives a future of the value behind an `Arc`, for values that can't be cloned.
     ///
     /// ```
     /// struct Large(u32);
@@ -675,7 +677,7 @@ impl<T: Send + Sync + 'static> Stage<T> {
 }
 
 impl<T: Clone + Send + Sync + 'static> Stage<T> {
-    /// What it holds at present, if it is settled.
+    /// The result, if the stage is settled.
     ///
     /// ```
     /// let request = cf::Request::new("order 17", cf::Inline);
@@ -683,10 +685,10 @@ impl<T: Clone + Send + Sync + 'static> Stage<T> {
     /// assert_eq!(request.supply(|| 49).peek().unwrap().unwrap(), 49);
     /// ```
     pub fn peek(&self) -> Option<Result<T, Error>> {
-        self.told().map(cloned)
+        self.end_if_settled().map(clone_value)
     }
 
-    /// Blocks the thread until it is settled. Where a function calls this, its thread runs what the stage needs, and a pool starts a spare thread
+    /// Blocks the thread until the stage is settled. In a function, the thread meanwhile runs what the stage needs, and a pool starts a spare thread
     /// for the rest, so that a pool of one thread goes on.
     ///
     /// # Errors
@@ -695,19 +697,19 @@ impl<T: Clone + Send + Sync + 'static> Stage<T> {
     ///
     /// # Panics
     ///
-    /// With the feature `tokio`, in an async task of tokio, as tokio's own calls do that block: await the stage there. Without the feature nobody
-    /// sees that it is one, and the task holds up a thread of its runtime.
+    /// With the feature `tokio`, in an async task of tokio, as tokio's own blocking calls do: await the stage there. Without the feature the task
+    /// holds up a thread of its runtime.
     ///
     /// ```
     /// let request = cf::Request::new("order 17", cf::Pool::new(1));
     /// assert_eq!(request.supply(|| 49).wait().unwrap(), 49);
     /// ```
     pub fn wait(&self) -> Result<T, Error> {
-        self.wait_value(None).map_or(Err(Error::BadAnswer), cloned)
+        self.wait_value(None).map_or(Err(Error::BadAnswer), clone_value)
     }
 
-    /// Blocks the thread until it is settled, but no longer than this: None where it isn't then. The stage goes on. The thread runs no function
-    /// meanwhile, since it can't know how long that would take.
+    /// Blocks the thread until the stage is settled, for `wait` at most. None if it isn't settled then; the stage goes on. The thread runs no
+    /// function meanwhile, since that could take longer.
     ///
     /// # Panics
     ///
@@ -720,23 +722,23 @@ impl<T: Clone + Send + Sync + 'static> Stage<T> {
     /// ```
     #[must_use = "None says that it isn't settled"]
     pub fn wait_timeout(&self, wait: Duration) -> Option<Result<T, Error>> {
-        self.wait_value(Some(wait)).map(cloned)
+        self.wait_value(Some(wait)).map(clone_value)
     }
 }
 
-fn cloned<T: Clone + 'static>(told: Result<Val, Error>) -> Result<T, Error> {
-    told.map(|value| value::of::<T>(&value).clone())
+fn clone_value<T: Clone + 'static>(told: Result<Val, Error>) -> Result<T, Error> {
+    told.map(|value| value::downcast_ref::<T>(&value).clone())
 }
 
 impl<T: Clone + Send + Sync + 'static> Future for Stage<T> {
     type Output = Result<T, Error>;
 
     fn poll(mut self: Pin<&mut Self>, cx: &mut Context<'_>) -> Poll<Self::Output> {
-        self.poll_value(cx).map(cloned)
+        self.poll_value(cx).map(clone_value)
     }
 }
 
-/// A future of a stage's value behind an `Arc`: what [`Stage::arc`] gives.
+/// A future of a stage's value behind an `Arc`, made by [`Stage::arc`].
 ///
 /// ```
 /// struct Large(u32);
@@ -752,11 +754,11 @@ impl<T: Send + Sync + 'static> Future for ArcOf<T> {
     type Output = Result<Arc<T>, Error>;
 
     fn poll(mut self: Pin<&mut Self>, cx: &mut Context<'_>) -> Poll<Self::Output> {
-        self.0.poll_value(cx).map(|told| told.map(value::arc_of))
+        self.0.poll_value(cx).map(|told| told.map(value::downcast_arc))
     }
 }
 
-/// A stage that is cancelled when this is dropped: what [`Stage::cancel_on_drop`] gives.
+/// A future of a stage that cancels the stage when dropped, made by [`Stage::cancel_on_drop`].
 ///
 /// ```
 /// let request = cf::Request::new("order 17", cf::Inline);
@@ -773,13 +775,13 @@ impl<T: Clone + Send + Sync + 'static> Future for CancelOnDrop<T> {
     type Output = Result<T, Error>;
 
     fn poll(mut self: Pin<&mut Self>, cx: &mut Context<'_>) -> Poll<Self::Output> {
-        self.0.poll_value(cx).map(cloned)
+        self.0.poll_value(cx).map(clone_value)
     }
 }
 
 impl<T> Drop for CancelOnDrop<T> {
     fn drop(&mut self) {
-        in_drop(|| {
+        run_in_drop(|| {
             self.0.cancel();
         });
     }
@@ -798,12 +800,12 @@ impl<T> fmt::Debug for Stage<T> {
             Err(why) => return write!(f, "Stage(refused: {why})"),
         };
         let inner = self.core.lock();
-        let (name, told, describe) = (escaped(&inner.name(number)), inner.told(number), inner.describe.clone());
+        let (name, told, describe) = (escape_text(&inner.name(number)), inner.end_of(number), inner.describe.clone());
         drop(inner);
         match told {
             None => write!(f, "Stage({number} {name}, pending)"),
             Some(Ok(_)) => write!(f, "Stage({number} {name}, value)"),
-            Some(Err(error)) => write!(f, "Stage({number} {name}, error: {})", escaped(&describe.tell(Err(&error)))),
+            Some(Err(error)) => write!(f, "Stage({number} {name}, error: {})", escape_text(&describe.tell(Err(&error)))),
         }
     }
 }
@@ -816,17 +818,17 @@ pub(crate) mod sealed {
     pub struct Adopted {
         /// Its number in the request.
         pub at: Result<u16, Refusal>,
-        /// Whether it was made to stand for a stage of another request.
+        /// Whether it is a relay of another request's stage.
         pub is_relay: bool,
     }
 
     pub trait Sealed {
-        /// The stage of this request that ends as this one.
-        fn adopted(&self, by: &Request) -> Adopted;
+        /// Gives the stage of the request `by` that ends as this one.
+        fn adopt_into(&self, by: &Request) -> Adopted;
     }
 }
 
-/// A stage of any type: what [`Request::all_of`] takes.
+/// A stage of any type, for [`Request::all_of`].
 ///
 /// ```
 /// let request = cf::Request::new("order 17", cf::Inline);
@@ -837,7 +839,7 @@ pub(crate) mod sealed {
 pub trait AnyStage: sealed::Sealed {}
 
 impl<T: Send + Sync + 'static> sealed::Sealed for Stage<T> {
-    fn adopted(&self, by: &Request) -> sealed::Adopted {
+    fn adopt_into(&self, by: &Request) -> sealed::Adopted {
         let is_relay = !Arc::ptr_eq(&self.core, &by.0);
         sealed::Adopted { at: if is_relay { by.adopt(self).at } else { self.at }, is_relay }
     }

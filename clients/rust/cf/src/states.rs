@@ -1,6 +1,6 @@
 //! What each call does in each state of a request, as one table: open, behind each of its ends, behind a panic, and in the midst of something else.
 use crate::held::refuse_memory;
-use crate::spawn::{here, is_inline_free, run_here, StandIn, CALLER};
+use crate::spawn::{caller_number, is_inline_free, requests_run_here, StandIn, CALLER};
 use crate::{Error, HandClock, Job, Refusal, Request, Spawn, Stage};
 use std::future::Future;
 use std::panic::{catch_unwind, AssertUnwindSafe};
@@ -46,7 +46,7 @@ impl On {
 
 /// How a call ends.
 type End = Box<dyn FnOnce() -> String + Send>;
-type Call = fn(&On) -> End;
+type StageFn = fn(&On) -> End;
 
 fn ends(stage: Stage<i32>) -> End {
     Box::new(move || match stage.peek() {
@@ -78,7 +78,7 @@ impl Wake for Rings {
 const STATES: [&str; 9] = ["open", "closed", "cancelled", "over", "full", "left by a panic", "without memory", "unwinding", "in a function"];
 
 #[rustfmt::skip]
-const TABLE: [(&str, Call, [&str; STATES.len()]); 16] = [
+const TABLE: [(&str, StageFn, [&str; STATES.len()]); 16] = [
     //                            open         closed       cancelled    over         full         panic        no memory    unwinding    function
     ("supply", supplies,         ["3",         "closed",    "3",         "3",         "full",      "3",         "no memory", "3",         "3"]),
     ("spawn", spawns,            ["3",         "closed",    "3",         "3",         "full",      "3",         "no memory", "3",         "3"]),
@@ -189,7 +189,7 @@ fn awaits(on: &On) -> End {
 }
 
 fn tells(on: &On) -> End {
-    says(on.request.history().comes_again())
+    says(on.request.history().is_reproducible())
 }
 
 /// Does something while its thread unwinds.
@@ -203,7 +203,7 @@ impl Drop for Unwinds<'_> {
 }
 
 /// Brings a request into a state, and makes a call there. How that ends.
-fn called(state: &str, call: Call) -> String {
+fn called(state: &str, call: StageFn) -> String {
     let executor = Directly::default();
     let on = On::new(&executor);
     let mut ended: Option<End> = None;
@@ -213,7 +213,7 @@ fn called(state: &str, call: Call) -> String {
         "over" => {
             on.gate.complete(1).unwrap();
             (0..crate::inner::SLOTS).for_each(|k| on.request.promise().complete(k).unwrap());
-            assert!(on.request.0.lock().ledger.rests());
+            assert!(on.request.0.lock().ledger.is_resting());
         }
         "full" => drop((0..4095).map(|_| on.request.promise::<i32>()).collect::<Vec<_>>()),
         "left by a panic" => {
@@ -249,12 +249,12 @@ fn called(state: &str, call: Call) -> String {
     refuse_memory(None);
     let told = if made.is_err() { "panics".into() } else { ended.expect("it was called")() };
     // The thread is a caller again, and the request goes on with what it can.
-    assert_eq!((here(), run_here().len(), is_inline_free(), StandIn::here().is_there()), (CALLER, 0, true, false));
+    assert_eq!((caller_number(), requests_run_here().len(), is_inline_free(), StandIn::current().is_there()), (CALLER, 0, true, false));
     if !matches!(state, "closed" | "full") {
         assert_eq!(on.request.supply(|| 8).then(|n| n + 1).wait_timeout(Duration::ZERO).expect("it goes on").unwrap(), 9);
     }
     on.request.cancel_all();
-    assert!(on.gate.is_settled() && on.request.history().comes_again());
+    assert!(on.gate.is_settled() && on.request.history().is_reproducible());
     told
 }
 

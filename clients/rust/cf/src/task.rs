@@ -1,21 +1,21 @@
 //! Futures that stages' functions gave, and their wakers.
 use crate::core::Core;
 use crate::error::{Error, Panic, Refusal};
-use crate::spawn::{quietly, running, Job, Turn, CLOCK};
-use crate::value::{Gave, Later};
+use crate::spawn::{mark_running, swallow_panic, Job, JobKind, CLOCK};
+use crate::value::{Returned, StageResultFuture};
 use std::panic::{catch_unwind, resume_unwind, AssertUnwindSafe};
 use std::sync::atomic::{AtomicBool, AtomicU8, Ordering};
 use std::sync::{Arc, Mutex, PoisonError, TryLockError};
 use std::task::{Context, Poll, Wake, Waker};
 
 /// A future that a stage's function gave. A stage that is settled otherwise drops it. It doesn't keep its request alive: its wakers do.
-pub(crate) struct Task {
+pub(crate) struct StageFuture {
     stage: u16,
     who: u8,
     /// Where it stands: [`RESTS`], [`QUEUED`], [`POLLED`] or [`WOKEN`].
     at: AtomicU8,
     is_stopped: AtomicBool,
-    future: Mutex<Option<Later>>,
+    future: Mutex<Option<StageResultFuture>>,
 }
 
 /// Nobody has it, until a waker is called.
@@ -30,14 +30,14 @@ const WOKEN: u8 = 3;
 /// What a task's wakers are, and what is polled.
 pub(crate) struct Polling {
     core: Arc<Core>,
-    task: Arc<Task>,
+    task: Arc<StageFuture>,
 }
 
 impl Polling {
     /// Polls a future for the first time, unless its stage is settled meanwhile.
-    pub(crate) fn begin(core: &Arc<Core>, who: u8, stage: u16, future: Later) {
+    pub(crate) fn poll_first(core: &Arc<Core>, who: u8, stage: u16, future: StageResultFuture) {
         let (at, is_stopped) = (AtomicU8::new(QUEUED), AtomicBool::new(false));
-        let task = Arc::new(Task { stage, who, at, is_stopped, future: Mutex::new(Some(future)) });
+        let task = Arc::new(StageFuture { stage, who, at, is_stopped, future: Mutex::new(Some(future)) });
         let mut inner = core.lock();
         let is_late = inner.slot(stage).is_settled();
         if !is_late {
@@ -59,7 +59,7 @@ impl Polling {
         if task.at.compare_exchange(QUEUED, POLLED, Ordering::SeqCst, Ordering::SeqCst).is_err() {
             return;
         }
-        let _running = running(core, false);
+        let _running = mark_running(core, false);
         let waker = Waker::from(Arc::clone(&self));
         let mut held = task.future.lock().unwrap_or_else(PoisonError::into_inner);
         let polled = match held.as_mut() {
@@ -79,48 +79,48 @@ impl Polling {
                 crate::search::turn();
                 if task.at.compare_exchange(POLLED, RESTS, Ordering::SeqCst, Ordering::SeqCst).is_err() {
                     task.at.store(QUEUED, Ordering::SeqCst);
-                    self.queue();
+                    self.ask_for_poll();
                 }
                 return;
             }
             Ok(Poll::Ready(gave)) => gave,
-            Err(payload) => Gave::Error(Error::Panicked(Panic::of(payload))),
+            Err(payload) => Returned::Error(Error::Panicked(Panic::new(payload))),
         };
         let ended = held.take();
         drop(held);
-        quietly(|| drop(ended));
+        swallow_panic(|| drop(ended));
         #[cfg(feature = "testing")]
         if let Some(watch) = &core.watch {
-            return watch.gave(task.stage, gave);
+            return watch.take_returned(task.stage, gave);
         }
-        core.end(task.who, task.stage, gave);
+        core.finish(task.who, task.stage, gave);
     }
 
     /// Polls a future for which a job is to come yet.
-    pub(crate) fn again(core: &Arc<Core>, task: Arc<Task>) {
+    pub(crate) fn poll_again(core: &Arc<Core>, task: Arc<StageFuture>) {
         Arc::new(Polling { core: Arc::clone(core), task }).poll();
     }
 
     /// Lets a job poll it, or a worker that waits.
-    fn queue(self: Arc<Polling>) {
+    fn ask_for_poll(self: Arc<Polling>) {
         let core = Arc::clone(&self.core);
-        core.spawn(Job::new(Turn::Poll(self)));
+        core.spawn(Job::new(JobKind::Poll(self)));
         core.wake_helpers();
     }
 
     /// Whose future it is.
     #[cfg(feature = "testing")]
-    pub(crate) fn of(&self) -> (&Arc<Core>, u16) {
+    pub(crate) fn core_and_stage(&self) -> (&Arc<Core>, u16) {
         (&self.core, self.task.stage)
     }
 
     /// Lets its stage fail, since nobody polls it any more.
-    pub(crate) fn refuse(&self) {
+    pub(crate) fn refuse_stage(&self) {
         let _ = self.core.settle(CLOCK, self.task.stage, Err(Refusal::Closed.into()));
     }
 }
 
-impl Task {
+impl StageFuture {
     pub(crate) fn is_queued(&self) -> bool {
         self.at.load(Ordering::SeqCst) == QUEUED
     }
@@ -143,7 +143,7 @@ impl Task {
         };
         if future.is_some() {
             let dropped = catch_unwind(AssertUnwindSafe(|| drop(future)));
-            core.end(self.who, self.stage, Gave::Error(Error::Cancelled));
+            core.finish(self.who, self.stage, Returned::Error(Error::Cancelled));
             dropped.unwrap_or_else(|payload| resume_unwind(payload));
         }
     }
@@ -159,7 +159,7 @@ impl Wake for Polling {
             _ => None,
         };
         if self.task.at.fetch_update(Ordering::SeqCst, Ordering::SeqCst, woken) == Ok(RESTS) {
-            self.queue();
+            self.ask_for_poll();
         }
     }
 }

@@ -11,7 +11,7 @@ use std::sync::Arc;
 pub(crate) enum Val {
     Nil,
     Small(Small),
-    Shared(Arc<dyn Shared>),
+    Shared(Arc<dyn SharedValue>),
 }
 
 macro_rules! small {
@@ -70,7 +70,7 @@ macro_rules! small {
 
 impl Val {
     #[inline]
-    pub(crate) fn of<T: Send + Sync + 'static>(value: T) -> Val {
+    pub(crate) fn new<T: Send + Sync + 'static>(value: T) -> Val {
         let any: &dyn Any = &value;
         if any.is::<()>() {
             return Val::Nil;
@@ -82,19 +82,19 @@ impl Val {
     }
 
     #[inline]
-    pub(crate) fn any(&self) -> &dyn Any {
+    pub(crate) fn as_any(&self) -> &dyn Any {
         match self {
             Val::Nil => &(),
             Val::Small(small) => small.any(),
-            Val::Shared(value) => (**value).any(),
+            Val::Shared(value) => (**value).as_any(),
         }
     }
 
-    fn shared(self) -> Arc<dyn Any + Send + Sync> {
+    fn into_shared(self) -> Arc<dyn Any + Send + Sync> {
         match self {
             Val::Nil => Arc::new(()),
             Val::Small(small) => small.shared(),
-            Val::Shared(value) => value.shared(),
+            Val::Shared(value) => value.into_shared(),
         }
     }
 
@@ -109,19 +109,19 @@ impl Val {
 }
 
 /// A value of any type, which knows the type's name.
-pub(crate) trait Shared: Send + Sync {
-    fn any(&self) -> &dyn Any;
-    fn shared(self: Arc<Self>) -> Arc<dyn Any + Send + Sync>;
+pub(crate) trait SharedValue: Send + Sync {
+    fn as_any(&self) -> &dyn Any;
+    fn into_shared(self: Arc<Self>) -> Arc<dyn Any + Send + Sync>;
     fn type_name(&self) -> &'static str;
 }
 
-impl<T: Send + Sync + 'static> Shared for T {
+impl<T: Send + Sync + 'static> SharedValue for T {
     #[inline]
-    fn any(&self) -> &dyn Any {
+    fn as_any(&self) -> &dyn Any {
         self
     }
 
-    fn shared(self: Arc<T>) -> Arc<dyn Any + Send + Sync> {
+    fn into_shared(self: Arc<T>) -> Arc<dyn Any + Send + Sync> {
         self
     }
 
@@ -133,7 +133,7 @@ impl<T: Send + Sync + 'static> Shared for T {
 small!(Bool bool, Char char, I8 i8, U8 u8, I16 i16, U16 u16, I32 i32, U32 u32, I64 i64, U64 u64, Isize isize, Usize usize, F32 f32, F64 f64);
 
 /// What a function is called with.
-pub(crate) enum Given {
+pub(crate) enum CallArgs {
     Nothing,
     One(Val),
     Two(Val, Val),
@@ -141,74 +141,74 @@ pub(crate) enum Given {
 }
 
 /// What a function gave.
-pub(crate) enum Gave {
+pub(crate) enum Returned {
     Value(Val),
     Error(Error),
     /// A stage, of this request or another, whose outcome is taken.
     Stage(Arc<Core>, u16),
     /// What this will give, once it is ready.
-    Later(Later),
+    Later(StageResultFuture),
 }
 
-pub(crate) type Later = Pin<Box<dyn Future<Output = Gave> + Send>>;
+pub(crate) type StageResultFuture = Pin<Box<dyn Future<Output = Returned> + Send>>;
 
 /// A stage's function. What it is called with stays with the worker, for whom the next stage may be called with the same.
-pub(crate) type Call = Box<dyn FnOnce(&Given) -> Gave + Send>;
+pub(crate) type StageFn = Box<dyn FnOnce(&CallArgs) -> Returned + Send>;
 
-impl Gave {
+impl Returned {
     #[inline]
-    pub(crate) fn value<U: Send + Sync + 'static>(value: U) -> Gave {
-        Gave::Value(Val::of(value))
+    pub(crate) fn from_value<U: Send + Sync + 'static>(value: U) -> Returned {
+        Returned::Value(Val::new(value))
     }
 
-    pub(crate) fn result<U: Send + Sync + 'static>(result: Result<U, Error>) -> Gave {
+    pub(crate) fn from_result<U: Send + Sync + 'static>(result: Result<U, Error>) -> Returned {
         match result {
-            Ok(value) => Gave::value(value),
-            Err(error) => Gave::Error(error),
+            Ok(value) => Returned::from_value(value),
+            Err(error) => Returned::Error(error),
         }
     }
 }
 
 /// The value of a stage, whose type the stage's own type says.
 #[inline]
-pub(crate) fn of<T: 'static>(value: &Val) -> &T {
+pub(crate) fn downcast_ref<T: 'static>(value: &Val) -> &T {
     let found = match value {
         Val::Small(small) => small.get(),
-        value => value.any().downcast_ref(),
+        value => value.as_any().downcast_ref(),
     };
     found.expect("a stage's value is of its type")
 }
 
-pub(crate) fn arc_of<T: Send + Sync + 'static>(value: Val) -> Arc<T> {
-    value.shared().downcast().unwrap_or_else(|_| unreachable!("a stage's value is of its type"))
+pub(crate) fn downcast_arc<T: Send + Sync + 'static>(value: Val) -> Arc<T> {
+    value.into_shared().downcast().unwrap_or_else(|_| unreachable!("a stage's value is of its type"))
 }
 
-impl Given {
+impl CallArgs {
     #[inline]
     pub(crate) fn one<T: 'static>(&self) -> &T {
         match self {
-            Given::One(value) | Given::Got(Ok(value)) => of(value),
+            CallArgs::One(value) | CallArgs::Got(Ok(value)) => downcast_ref(value),
             _ => unreachable!("the stage's form has one value"),
         }
     }
 
     pub(crate) fn arc<T: Send + Sync + 'static>(&self) -> Arc<T> {
         match self {
-            Given::One(value) => arc_of(value.clone()),
+            CallArgs::One(value) => downcast_arc(value.clone()),
             _ => unreachable!("the stage's form has one value"),
         }
     }
 
     pub(crate) fn two<T: 'static, U: 'static>(&self) -> (&T, &U) {
         match self {
-            Given::Two(first, second) => (of(first), of(second)),
+            CallArgs::Two(first, second) => (downcast_ref(first), downcast_ref(second)),
             _ => unreachable!("the stage's form has two values"),
         }
     }
 
-    pub(crate) fn got(&self) -> Result<&Val, &Error> {
+    pub(crate) fn outcome(&self) -> Result<&Val, &Error> {
         match self {
-            Given::Got(got) => got.as_ref(),
+            CallArgs::Got(got) => got.as_ref(),
             _ => unreachable!("the stage's form has an outcome"),
         }
     }

@@ -6,13 +6,13 @@ use std::task::Waker;
 /// place.
 #[derive(Default)]
 pub(crate) struct Wakers {
-    places: Vec<Place>,
+    places: Vec<WakerPlace>,
     free: u32,
     /// The first places of rows, by their stages, up to the last stage for which somebody has waited.
     firsts: Vec<u32>,
 }
 
-struct Place {
+struct WakerPlace {
     waker: Option<Waker>,
     before: u32,
     next: u32,
@@ -20,7 +20,7 @@ struct Place {
 
 impl Wakers {
     #[inline]
-    fn place(&mut self, number: u32) -> &mut Place {
+    fn place(&mut self, number: u32) -> &mut WakerPlace {
         &mut self.places[number as usize - 1]
     }
 
@@ -31,7 +31,7 @@ impl Wakers {
             self.firsts.resize(stage + 1, 0);
         }
         let first = self.firsts[stage];
-        let place = Place { waker: Some(waker), before: 0, next: first };
+        let place = WakerPlace { waker: Some(waker), before: 0, next: first };
         let number = match self.free {
             0 => {
                 self.places.push(place);
@@ -61,8 +61,8 @@ impl Wakers {
     }
 
     /// Takes a place out of a stage's row, and gives back its waker.
-    pub(crate) fn forget(&mut self, stage: u16, number: u32) -> Option<Waker> {
-        let Place { waker, before, next } = self.place(number);
+    pub(crate) fn remove(&mut self, stage: u16, number: u32) -> Option<Waker> {
+        let WakerPlace { waker, before, next } = self.place(number);
         let (waker, before, next) = (waker.take(), *before, *next);
         match before {
             0 => self.firsts[usize::from(stage)] = next,
@@ -77,13 +77,13 @@ impl Wakers {
 
     /// Whether somebody waits for a stage.
     #[inline]
-    pub(crate) fn has(&self, stage: u16) -> bool {
+    pub(crate) fn has_waker(&self, stage: u16) -> bool {
         self.firsts.get(usize::from(stage)).map_or(false, |first| *first > 0)
     }
 
     /// Takes all wakers of a stage's row.
     #[inline]
-    pub(crate) fn take(&mut self, stage: u16, to: &mut Vec<Waker>) {
+    pub(crate) fn take_all(&mut self, stage: u16, to: &mut Vec<Waker>) {
         let mut number = self.firsts.get_mut(usize::from(stage)).map_or(0, take);
         while number > 0 {
             let place = self.place(number);
@@ -139,12 +139,12 @@ mod tests {
                 }
                 5 | 6 if !kept[row].is_empty() => {
                     let (number, bell) = kept[row].swap_remove(at % kept[row].len());
-                    wakers.forget(stages[row], number).unwrap().wake();
+                    wakers.remove(stages[row], number).unwrap().wake();
                     assert_eq!(bell.0.load(Ordering::SeqCst), 1);
                 }
                 7 if at % 40 == 0 => {
                     let mut all = Vec::new();
-                    wakers.take(stages[row], &mut all);
+                    wakers.take_all(stages[row], &mut all);
                     assert_eq!((all.len(), wakers.firsts[usize::from(stages[row])]), (kept[row].len(), 0));
                     all.into_iter().for_each(Waker::wake);
                     assert!(kept[row].drain(..).all(|(_, bell)| bell.0.load(Ordering::SeqCst) == 1));

@@ -19,7 +19,7 @@ pub(crate) const BAD_ANSWER: u64 = 1 << 32;
 
 /// Forms of stages, by their numbers in cf.h.
 #[derive(Clone, Copy, Debug, PartialEq, Eq)]
-pub(crate) enum Form {
+pub(crate) enum WordForm {
     Source = 0,
     Supply = 1,
     Apply = 3,
@@ -54,16 +54,16 @@ pub(crate) const FORM_NAMES: [&str; 19] = [
     "exceptionallyCompose",
 ];
 
-pub(crate) fn of(kind: u64, who: u8, stage: u16, tail: u64) -> u64 {
+pub(crate) fn encode(kind: u64, who: u8, stage: u16, tail: u64) -> u64 {
     kind | u64::from(who) << 48 | u64::from(stage) << 36 | tail
 }
 
 /// The word with another caller.
-pub(crate) fn by(who: u8, word: u64) -> u64 {
+pub(crate) fn with_caller(who: u8, word: u64) -> u64 {
     word & !(63 << 48) | u64::from(who) << 48
 }
 
-pub(crate) fn attach(who: u8, form: Form, of: &[u16], function: u16) -> u64 {
+pub(crate) fn encode_attach(who: u8, form: WordForm, of: &[u16], function: u16) -> u64 {
     let source = |k: usize| u64::from(of.get(k).copied().unwrap_or(0));
     ATTACH | u64::from(who) << 48 | source(0) << 36 | (of.len() as u64) << 32 | (form as u64) << 24 | source(1) << 12 | u64::from(function)
 }
@@ -78,13 +78,13 @@ pub(crate) struct Parts {
     pub(crate) low: u32,
 }
 
-pub(crate) fn parts(word: u64) -> Parts {
+pub(crate) fn decode(word: u64) -> Parts {
     Parts { kind: word >> 56 << 56, who: (word >> 48 & 63) as u8, stage: (word >> 36 & 4095) as u16, tag: word & 15 << 32, low: word as u32 }
 }
 
 impl Parts {
     /// Of an attach: the form's number, the sources, the function.
-    pub(crate) fn attached(self) -> (usize, Vec<u16>, u16) {
+    pub(crate) fn attach_parts(self) -> (usize, Vec<u16>, u16) {
         let of = [self.stage, (self.low >> 12 & 4095) as u16];
         ((self.low >> 24) as usize, of[..(self.tag >> 32) as usize].to_vec(), (self.low & 4095) as u16)
     }

@@ -90,5 +90,5 @@ fn a_full_request_refuses_and_goes_on() {
     assert_eq!(over.number(), None);
     first_link.complete(0).unwrap();
     assert_eq!(last_link.wait().unwrap(), 4095, "the stack stays flat");
-    assert!(full.history().comes_again());
+    assert!(full.history().is_reproducible());
 }

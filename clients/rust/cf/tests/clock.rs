@@ -87,8 +87,8 @@ fn a_timeout_that_never_comes_leaves_the_stage() {
         fn now(&self) -> Duration {
             SystemClock.now()
         }
-        fn after(&self, _wait: Duration, alarm: Alarm) {
-            SystemClock.after(Duration::MAX, alarm);
+        fn ring_after(&self, _wait: Duration, alarm: Alarm) {
+            SystemClock.ring_after(Duration::MAX, alarm);
         }
     }
     let _alone = alone();
@@ -139,7 +139,7 @@ fn an_alarm_that_is_dropped_lets_its_stage_fail() {
         fn now(&self) -> Duration {
             SystemClock.now()
         }
-        fn after(&self, _wait: Duration, alarm: Alarm) {
+        fn ring_after(&self, _wait: Duration, alarm: Alarm) {
             if self.1 {
                 self.0.lock().unwrap().push(alarm);
             }
@@ -159,6 +159,6 @@ fn an_alarm_that_is_dropped_lets_its_stage_fail() {
         assert!(matches!(clocked_stage.wait(), Err(Error::Refused(Refusal::NoClock))));
         assert!(matches!(given.wait(), Err(Error::Refused(Refusal::NoClock))));
         assert_eq!((settled.wait().is_ok(), behind.wait().unwrap()), (keeps, 3));
-        assert!(clocked.history().comes_again());
+        assert!(clocked.history().is_reproducible());
     }
 }

@@ -61,7 +61,7 @@ fn the_last_ends_are_told() {
 
 #[test]
 fn what_is_told_is_described() {
-    let by = Describe::by(|_| std::thread::current().name().unwrap_or("none").into());
+    let by = Describe::from_fn(|_| std::thread::current().name().unwrap_or("none").into());
     for (describe, text) in [(Describe::Nothing, "ends: -"), (by, "ends: cf ends")] {
         let (ends, told) = told(History::to_string);
         Request::new("a", Inline).described(describe).on_end(&ends).supply(|| "token").wait().unwrap();

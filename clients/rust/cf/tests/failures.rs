@@ -32,7 +32,7 @@ fn timed_out<T: Clone + Debug + Send + Sync + 'static>(failed_stage: &Stage<T>) 
 fn is_done_again(failing: &Request) {
     let history = failing.history();
     assert_eq!(cf_graph::run_script(history.script().as_bytes()), Ok(history.report()));
-    assert!(history.comes_again());
+    assert!(history.is_reproducible());
 }
 
 #[test]

@@ -82,7 +82,7 @@ fn a_large_request_goes_on_once_it_was_over() {
     clock.turn(2 * pause);
     let is_true = |events| {
         let history = large.history();
-        assert_eq!((history.words().len(), history.comes_again()), (events, true));
+        assert_eq!((history.words().len(), history.is_reproducible()), (events, true));
         assert_eq!(cf_graph::run_script(history.script().as_bytes()), Ok(history.report()));
     };
     is_true(102 + 2 + 200);
@@ -173,7 +173,7 @@ fn a_stage_that_is_settled_keeps_no_relay() {
         let freed = Request::new("short", Inline);
         freed.promise().complete(Arc::clone(&alive)).unwrap();
         way(&freed, &shutdown, &config);
-        assert!(freed.history().comes_again());
+        assert!(freed.history().is_reproducible());
         drop(freed);
         assert_eq!(Arc::strong_count(&alive), 1, "way {k}");
     }

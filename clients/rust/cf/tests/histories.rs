@@ -54,7 +54,7 @@ fn no_text_looks_like_an_event() {
     assert!(!has_odd(&format!("{odd:?}")) && !format!("{odd:?}").contains('\u{200b}'));
     let account = odd.account();
     assert!(account.ends_with('\n') && !has_odd(account.trim_end()), "{account:?}");
-    assert!(!has_odd(&odd.script()) && odd.comes_again());
+    assert!(!has_odd(&odd.script()) && odd.is_reproducible());
 }
 
 /// What reads well stays: blanks, a backslash, letters of all scripts. A `;` is one in a line of its own.
@@ -169,7 +169,7 @@ fn nothing_is_told() {
 
 #[test]
 fn a_function_says_what_is_told() {
-    let describe = Describe::by(|ended| match ended {
+    let describe = Describe::from_fn(|ended| match ended {
         Ok(value) if value.is::<Card>() => "a\ncard".into(),
         Ok(_) => "v".repeat(70),
         Err(error) => error.downcast_ref::<Declined>().map_or(String::from("other"), |_| "declined;".into()),
@@ -226,7 +226,7 @@ fn what_cannot_be_told_is_a_question_mark() {
         other => panic!("{other:?}"),
     }
 
-    let (recorded, _) = secret(Some(Describe::by(|ended| if ended.is_ok() { panic_any(Drops) } else { "told".into() })));
+    let (recorded, _) = secret(Some(Describe::from_fn(|ended| if ended.is_ok() { panic_any(Drops) } else { "told".into() })));
     let told = ends(&whole(|| recorded.history()));
     assert_eq!((&told[0][..], &told[4][..]), ("0 token: ?", "4 refused: told"));
 }
@@ -253,7 +253,7 @@ fn a_function_is_asked_under_no_lock() {
         let price = recorded.supply(|| 49);
         let (calls, looks) = (Arc::new(AtomicUsize::new(0)), Looks(price.clone()));
         let counts = Arc::clone(&calls);
-        let recorded = recorded.described(Describe::by(move |_| {
+        let recorded = recorded.described(Describe::from_fn(move |_| {
             counts.fetch_add(1, Ordering::SeqCst);
             format!("{:?}", looks.0.peek().unwrap().unwrap())
         }));
@@ -272,7 +272,7 @@ fn a_function_is_asked_under_no_lock() {
 /// A history holds values where all is told of them, and else what is told alone.
 #[test]
 fn a_history_holds_what_it_tells() {
-    for (describe, holds) in [(Describe::All, 1), (Describe::Types, 0), (Describe::Nothing, 0), (Describe::by(|_| "told".into()), 0)] {
+    for (describe, holds) in [(Describe::All, 1), (Describe::Types, 0), (Describe::Nothing, 0), (Describe::from_fn(|_| "told".into()), 0)] {
         let alive = Arc::new(());
         let recorded = Request::new("holds", Inline).described(describe.clone());
         let (value, error) = (Arc::clone(&alive), Held(Arc::clone(&alive)));
@@ -283,7 +283,7 @@ fn a_history_holds_what_it_tells() {
         assert_eq!(Arc::strong_count(&alive), 1 + 2 * holds, "{describe:?}");
         let copy = history.clone();
         drop(history);
-        assert!(copy.comes_again());
+        assert!(copy.is_reproducible());
         drop(copy);
         assert_eq!(Arc::strong_count(&alive), 1);
     }
@@ -340,7 +340,7 @@ fn what_is_late_and_what_never_came_is_told() {
     assert_eq!(history.times().count(), 13);
     assert_eq!(member(&history.account(), "outcomes"), r#""value 0","pending","pending","value 3","fault cancelled raw""#);
     assert!(history.report().ends_with("stage 0 value 0\nstage 1 pending\nstage 2 pending\nstage 3 value 3\nstage 4 fault cancelled raw\n"));
-    assert!(history.comes_again());
+    assert!(history.is_reproducible());
     // It stays as it is.
     let before = texts(&history);
     never.complete(1).unwrap();
@@ -407,7 +407,7 @@ fn a_page_is_what_a_program_prints() {
     let (paged, other) = (Request::new("page 9", Inline), Request::new("order 9", Inline));
     let account = paged.history().account();
     assert!(account.contains("page 9"), "{account}");
-    assert_eq!(paged.history().page_by("grep").unwrap(), account);
-    let refused = other.history().page_by("grep").unwrap_err();
+    assert_eq!(paged.history().page_made_by("grep").unwrap(), account);
+    let refused = other.history().page_made_by("grep").unwrap_err();
     assert_eq!(refused.to_string(), "cf_look ended with exit status: 1: ");
 }

@@ -74,7 +74,7 @@ fn a_job_of_a_future_that_is_dropped_lets_it_fail() {
     assert!(future.is_settled());
     assert!(matches!(future.wait(), Err(Error::Refused(Refusal::Closed))));
     assert_eq!(Arc::strong_count(&alive), 1, "the future is dropped");
-    assert!(of_jobs.history().comes_again());
+    assert!(of_jobs.history().is_reproducible());
 }
 
 /// More functions than a job runs, behind one stage, and no more than one job at a time.

@@ -137,7 +137,7 @@ fn a_clock_that_panics_leaves_no_stage_pending() {
             assert!(self.0.fetch_add(1, Ordering::SeqCst) % 3 != 2, "in a clock");
             Duration::MAX
         }
-        fn after(&self, _wait: Duration, alarm: Alarm) {
+        fn ring_after(&self, _wait: Duration, alarm: Alarm) {
             drop(alarm);
         }
     }
@@ -146,7 +146,7 @@ fn a_clock_that_panics_leaves_no_stage_pending() {
         for k in 0..20 {
             assert_eq!(panicking.supply(move || k).then(|k| k + 1).wait().unwrap(), k + 1);
         }
-        assert!(panicking.history().comes_again());
+        assert!(panicking.history().is_reproducible());
     });
 }
 
@@ -197,7 +197,7 @@ fn a_thread_that_unwinds_tells_all() {
         fn now(&self) -> Duration {
             Duration::ZERO
         }
-        fn after(&self, _wait: Duration, alarm: Alarm) {
+        fn ring_after(&self, _wait: Duration, alarm: Alarm) {
             self.0.lock().unwrap().push(alarm);
         }
     }

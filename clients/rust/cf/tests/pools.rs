@@ -3,6 +3,7 @@ mod common;
 
 use cf::{Alarm, Clock, Job, Pool, Request, Spawn, Stage};
 use common::{comes_back, Yields, LONG, SHORT};
+use std::cell::RefCell;
 use std::panic::{set_hook, take_hook};
 use std::sync::atomic::{AtomicBool, AtomicUsize, Ordering};
 use std::sync::mpsc::{channel, Sender};
@@ -253,7 +254,7 @@ impl Clock for Tells {
         Duration::ZERO
     }
 
-    fn after(&self, _wait: Duration, _alarm: Alarm) {}
+    fn ring_after(&self, _wait: Duration, _alarm: Alarm) {}
 }
 
 impl Drop for Tells {
@@ -278,4 +279,62 @@ fn a_pool_goes_on_one_of_its_own_threads() {
     goes_on.send(()).unwrap();
     let by = told.recv_timeout(LONG).unwrap();
     assert!(by != thread::current().id() && !panicked.lock().unwrap().contains(&by));
+}
+
+/// Tells that its thread ends.
+struct Thread(Sender<()>);
+
+impl Drop for Thread {
+    fn drop(&mut self) {
+        let _nobody_waits = self.0.send(());
+    }
+}
+
+thread_local! {
+    static ENDS: RefCell<Option<Thread>> = const { RefCell::new(None) };
+}
+
+/// While the one function waits, another runs on a thread more. Once both are done, one of the two threads goes.
+#[test]
+fn a_spare_thread_goes() {
+    let ((ends, end), pooled) = (channel(), Request::new("spare", Pool::new(1)));
+    let is_told = move || ENDS.with(|told| *told.borrow_mut() = Some(Thread(ends.clone())));
+    let (gate, tells) = (pooled.promise::<i32>(), is_told.clone());
+    let waits = gate.clone();
+    let waited = pooled.supply(move || {
+        tells();
+        waits.wait().unwrap()
+    });
+    pooled.supply(is_told).wait().unwrap();
+    gate.complete(1).unwrap();
+    assert_eq!(waited.wait().unwrap(), 1);
+    end.recv_timeout(LONG).expect("both are kept");
+}
+
+/// One thread, for which nobody stands in.
+struct One(Mutex<Sender<Job>>);
+
+impl Spawn for One {
+    fn spawn(&self, job: Job) -> Result<(), Job> {
+        self.0.lock().unwrap().send(job).map_err(|refused| refused.0)
+    }
+}
+
+/// It runs a function that it waits for, in which it waits for one of that function's own request.
+#[test]
+fn a_worker_that_waits_runs_functions_of_what_it_runs_meanwhile() {
+    let (sends, jobs) = channel::<Job>();
+    thread::spawn(move || jobs.into_iter().for_each(Job::run));
+    let executor = Arc::new(One(Mutex::new(sends)));
+    let [one, two] = ["one", "two"].map(|name| Request::new(name, Arc::clone(&executor)));
+    let waited = one.supply(move || {
+        let (gate, by) = (Request::new("three", Arc::clone(&executor)).promise::<i32>(), two.clone());
+        let needs = two.supply(move || {
+            let opens = gate.clone();
+            drop(by.supply(move || opens.complete(4)));
+            gate.wait().unwrap()
+        });
+        needs.wait().unwrap()
+    });
+    assert_eq!(waited.wait_timeout(LONG).expect("it runs what opens the gate").unwrap(), 4);
 }

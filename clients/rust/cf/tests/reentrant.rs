@@ -2,7 +2,7 @@
 //! request as they are dropped, functions that settle their own stage.
 mod common;
 
-use cf::{Error, Inline, Pool, Request, Stage};
+use cf::{Error, Inline, Pool, Refusal, Request, Stage};
 use common::{comes_back, poll, Directly, Looks, Yields};
 use std::cell::RefCell;
 use std::future::Future;
@@ -72,7 +72,7 @@ fn a_late_answer_is_dropped_without_the_lock() {
         reentered_gate.complete(1).unwrap();
         source.complete(2).unwrap();
         assert!(composed.wait().unwrap_err().is_cancelled());
-        assert!(reentered.history().comes_again());
+        assert!(reentered.history().is_reproducible());
     });
 }
 
@@ -160,7 +160,7 @@ fn a_function_settles_its_own_stage() {
                 (0, Ok(7)) | (1, Err(Error::Cancelled)) | (2, Err(Error::Failed(_))) => {}
                 (_, other) => panic!("{other:?}"),
             }
-            assert!(reentered.history().comes_again());
+            assert!(reentered.history().is_reproducible());
         });
     }
 }
@@ -196,4 +196,16 @@ fn a_function_that_another_attaches_is_called_behind_it() {
     });
     assert!(attached.wait_arc().unwrap().is_settled());
     assert_eq!(*called.lock().unwrap(), ["ends", "attached"]);
+}
+
+/// There is no room for what it composes.
+#[test]
+fn a_refused_function_is_dropped_without_the_lock() {
+    comes_back(|| {
+        let reentered = Request::new("full", Inline);
+        let (source, looks) = (reentered.promise::<i32>(), Looks(reentered.supply(|| 1)));
+        while reentered.promise::<i32>().peek().is_none() {}
+        let composed = source.compose(move |_| looks.0.clone());
+        assert!(matches!(composed.wait(), Err(Error::Refused(Refusal::Full))));
+    });
 }

@@ -30,7 +30,7 @@ async fn stages_are_futures() {
         assert_eq!(try_join_all(numbers.clone()).await.unwrap().len(), 40);
         let failed = on_runtime.try_supply(|| Err::<i32, _>("no"));
         assert_eq!(try_join_all(numbers.iter().chain([&failed]).cloned()).await.unwrap_err().to_string(), "no");
-        assert!(on_runtime.history().comes_again());
+        assert!(on_runtime.history().is_reproducible());
     }
 }
 
@@ -120,7 +120,7 @@ async fn futures_can_be_stages() {
         Ok::<i32, Error>(1)
     });
     assert_eq!(panics.await.unwrap_err().to_string(), "a function panicked: in a future");
-    assert!(on_runtime.history().comes_again());
+    assert!(on_runtime.history().is_reproducible());
 }
 
 struct Drops(Arc<AtomicBool>);

@@ -55,7 +55,7 @@ fn a_compose_that_waits_ends_as_the_later_stage() {
             later.complete(5).unwrap();
             assert_eq!(composed.wait().unwrap(), 5);
         }
-        assert!(r.history().comes_again());
+        assert!(r.history().is_reproducible());
     }
 }
 
@@ -112,7 +112,7 @@ fn many_that_are_settled_are_gathered_at_once() {
     assert!(r.all_of(numbers.iter().map(|it| it as &dyn cf::AnyStage)).is_settled());
     assert_eq!(r.first_of(&numbers).peek().unwrap().unwrap(), 0);
     assert_eq!(r.history().words().len(), 9 * 3 + 2 * 8);
-    assert!(r.history().comes_again());
+    assert!(r.history().is_reproducible());
 }
 
 /// By its function and the line that attaches it, also where one closure is handed in at two lines.
@@ -166,7 +166,7 @@ fn composing_takes_a_stage_of_this_request_or_another() {
         }
     });
     assert!(cancelled.wait().unwrap_err().is_cancelled());
-    assert!(r.history().comes_again());
+    assert!(r.history().is_reproducible());
 }
 
 #[test]

@@ -36,7 +36,7 @@ fn alarms_ring_in_their_order() {
     assert_eq!(*order.lock().unwrap(), [1, 1, 2, 3]);
     let times: Vec<Duration> = timed.history().times().collect();
     assert_eq!(times.last(), Some(&Duration::from_secs(3)));
-    assert!(timed.history().comes_again());
+    assert!(timed.history().is_reproducible());
 }
 
 /// Of several limits of one stage the first settles it, and of those of one moment the one that was set first.
@@ -55,7 +55,7 @@ fn the_first_limit_of_a_stage_settles_it() {
     assert!(late.wait().unwrap_err().to_string().contains("after 3s") && timeout_first.wait().unwrap_err().is_timeout());
     let history = timed.history();
     assert_eq!(history.words().len(), 6 + 5, "a word for each stage that no other one settles: {history}");
-    assert!(history.comes_again());
+    assert!(history.is_reproducible());
 }
 
 /// A moment that no number tells is never reached, and keeps no other one from being.
@@ -79,7 +79,7 @@ fn a_request_asks_for_one_alarm_at_a_time() {
         fn now(&self) -> Duration {
             Duration::ZERO
         }
-        fn after(&self, wait: Duration, alarm: Alarm) {
+        fn ring_after(&self, wait: Duration, alarm: Alarm) {
             self.0.lock().unwrap().push((wait, alarm));
         }
     }
@@ -107,7 +107,7 @@ fn a_request_asks_for_one_alarm_at_a_time() {
     assert!(early.wait().unwrap_err().is_timeout());
     assert!(stages[0].cancel() && stages[1].complete(1).is_ok() && stages[2].cancel());
     assert_eq!(waits(), [(5, false), (5, false)]);
-    assert!(timed.history().comes_again());
+    assert!(timed.history().is_reproducible());
 }
 
 #[test]
@@ -199,7 +199,7 @@ impl Clock for Stands {
         Duration::ZERO
     }
 
-    fn after(&self, _wait: Duration, alarm: Alarm) {
+    fn ring_after(&self, _wait: Duration, alarm: Alarm) {
         self.0.lock().unwrap().push(alarm);
     }
 }

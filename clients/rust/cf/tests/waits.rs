@@ -82,7 +82,7 @@ fn one_thread_waits_for_functions() {
             by.supply(|| 3).compose(move |_| inner.supply(|| 7)).wait().unwrap()
         });
         assert_eq!(composed.wait().unwrap(), 7);
-        assert!(waiting.history().comes_again());
+        assert!(waiting.history().is_reproducible());
     });
 }
 
@@ -97,7 +97,7 @@ fn one_thread_waits_for_futures() {
         let (by, other) = (waiting.clone(), one_thread("other"));
         let behind = waiting.supply(move || by.adopt(&other.spawn(Yields(2)).then(|n| n + 1)).wait().unwrap());
         assert_eq!(behind.wait().unwrap(), 6);
-        assert!(waiting.history().comes_again());
+        assert!(waiting.history().is_reproducible());
     });
 }
 

@@ -48,7 +48,7 @@ pub fn replayed(plan: &mut Plan, room: u16, mut closed: Closed) -> Graph {
     let mut again = plan.graph(room).unwrap();
     let replies: Vec<Reply> = words.iter().map(|&word| again.apply(word).unwrap()).collect();
     let mut placed = vec![false; words.len()];
-    for caller in 0..closed.callers() {
+    for caller in 0..closed.caller_count() {
         let mut last = 0;
         for record in closed.records(caller).unwrap() {
             let place = match record {
@@ -67,8 +67,8 @@ pub fn replayed(plan: &mut Plan, room: u16, mut closed: Closed) -> Graph {
     }
     assert!(placed.into_iter().all(|is| is));
     let mut graph = closed.graph().unwrap();
-    assert_eq!(graph.stages(), again.stages());
-    for stage in 0..graph.stages().unwrap() {
+    assert_eq!(graph.stage_count(), again.stage_count());
+    for stage in 0..graph.stage_count().unwrap() {
         assert_eq!(graph.outcome(stage), again.outcome(stage));
     }
     graph

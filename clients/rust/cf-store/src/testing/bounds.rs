@@ -61,26 +61,26 @@ impl Bounds {
     }
 
     /// Whether a call may be answered so once more.
-    pub(super) fn allows(&self, answer: Answer) -> bool {
+    pub(super) fn allows(&self, answer: CallFate) -> bool {
         match answer {
-            Answer::Told => true,
-            Answer::Lost => self.lost > 0,
-            Answer::Unanswered => self.unanswered > 0,
-            Answer::Late => self.late > 0,
-            Answer::Silent | Answer::SilentStands => self.silent > 0,
-            Answer::SilentLate => self.silent > 0 && self.late > 0,
+            CallFate::Told => true,
+            CallFate::Lost => self.lost > 0,
+            CallFate::Unanswered => self.unanswered > 0,
+            CallFate::Late => self.late > 0,
+            CallFate::Silent | CallFate::SilentStands => self.silent > 0,
+            CallFate::SilentLate => self.silent > 0 && self.late > 0,
         }
     }
 
     /// What is left behind an answer.
-    pub(super) fn take(&mut self, answer: Answer) {
+    pub(super) fn count_down(&mut self, answer: CallFate) {
         match answer {
-            Answer::Told => {}
-            Answer::Lost => self.lost -= 1,
-            Answer::Unanswered => self.unanswered -= 1,
-            Answer::Late => self.late -= 1,
-            Answer::Silent | Answer::SilentStands => self.silent -= 1,
-            Answer::SilentLate => {
+            CallFate::Told => {}
+            CallFate::Lost => self.lost -= 1,
+            CallFate::Unanswered => self.unanswered -= 1,
+            CallFate::Late => self.late -= 1,
+            CallFate::Silent | CallFate::SilentStands => self.silent -= 1,
+            CallFate::SilentLate => {
                 self.silent -= 1;
                 self.late -= 1;
             }
@@ -90,7 +90,7 @@ impl Bounds {
 
 /// What becomes of a call.
 #[derive(Clone, Copy, Debug, PartialEq, Eq)]
-pub(super) enum Answer {
+pub(super) enum CallFate {
     Told,
     Lost,
     Unanswered,
@@ -102,36 +102,60 @@ pub(super) enum Answer {
     SilentLate,
 }
 
-impl Answer {
+impl CallFate {
     /// Whether it stands at once.
-    pub(super) fn stands(self) -> bool {
-        matches!(self, Answer::Told | Answer::Unanswered | Answer::SilentStands)
+    pub(super) fn is_done(self) -> bool {
+        matches!(self, CallFate::Told | CallFate::Unanswered | CallFate::SilentStands)
     }
 
     pub(super) fn is_late(self) -> bool {
-        matches!(self, Answer::Late | Answer::SilentLate)
+        matches!(self, CallFate::Late | CallFate::SilentLate)
     }
 
     pub(super) fn is_silent(self) -> bool {
-        matches!(self, Answer::Silent | Answer::SilentStands | Answer::SilentLate)
+        matches!(self, CallFate::Silent | CallFate::SilentStands | CallFate::SilentLate)
     }
 
     pub(super) fn text(self) -> &'static str {
         match self {
-            Answer::Told => "",
-            Answer::Lost => "; it never comes to the store",
-            Answer::Unanswered => "; it stands, and the answer is lost",
-            Answer::Late => "; it is on its way, and no answer comes",
-            Answer::Silent => "; the store is silent for a minute, and it never comes there",
-            Answer::SilentStands => "; it stands, and the store is silent for a minute",
-            Answer::SilentLate => "; it is on its way, and the store is silent for a minute",
+            CallFate::Told => "",
+            CallFate::Lost => "; it never comes to the store",
+            CallFate::Unanswered => "; it stands, and the answer is lost",
+            CallFate::Late => "; it is on its way, and no answer comes",
+            CallFate::Silent => "; the store is silent for a minute, and it never comes there",
+            CallFate::SilentStands => "; it stands, and the store is silent for a minute",
+            CallFate::SilentLate => "; it is on its way, and the store is silent for a minute",
         }
     }
 }
 
 /// Of functions, and of what a test goes on with.
-pub(super) const OF_CALLS: &[Answer] = &[Answer::Told];
-pub(super) const OF_READS: &[Answer] = &[Answer::Told, Answer::Silent];
-pub(super) const OF_WRITES: &[Answer] = &[Answer::Told, Answer::Lost, Answer::Unanswered, Answer::Silent, Answer::SilentStands];
-pub(super) const OF_PUTS: &[Answer] =
-    &[Answer::Told, Answer::Lost, Answer::Unanswered, Answer::Late, Answer::Silent, Answer::SilentStands, Answer::SilentLate];
+pub(super) const OF_CALLS: &[CallFate] = &[CallFate::Told];
+pub(super) const OF_READS: &[CallFate] = &[CallFate::Told, CallFate::Silent];
+pub(super) const OF_WRITES: &[CallFate] = &[CallFate::Told, CallFate::Lost, CallFate::Unanswered, CallFate::Silent, CallFate::SilentStands];
+pub(super) const OF_PUTS: &[CallFate] =
+    &[CallFate::Told, CallFate::Lost, CallFate::Unanswered, CallFate::Late, CallFate::Silent, CallFate::SilentStands, CallFate::SilentLate];
+
+#[cfg(test)]
+mod tests {
+    use super::*;
+
+    #[test]
+    fn what_has_gone_wrong_goes_wrong_once_less() {
+        let all = Bounds { lost: 2, unanswered: 2, late: 2, silent: 2, killed: 2, slow: 2 };
+        let left = [
+            (CallFate::Told, all),
+            (CallFate::Lost, all.lost(1)),
+            (CallFate::Unanswered, all.unanswered(1)),
+            (CallFate::Late, all.late(1)),
+            (CallFate::Silent, all.silent(1)),
+            (CallFate::SilentStands, all.silent(1)),
+            (CallFate::SilentLate, all.silent(1).late(1)),
+        ];
+        for (answer, wanted) in left {
+            let mut bounds = all;
+            bounds.count_down(answer);
+            assert_eq!(bounds, wanted, "{answer:?}");
+        }
+    }
+}

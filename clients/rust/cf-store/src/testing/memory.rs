@@ -1,18 +1,18 @@
 //! A store in memory, which keeps what an engine keeps.
-use super::rows::locked;
+use super::rows::lock;
 use crate::error::StoreError;
-use crate::store::{Mark, News, Opened, Put, Store, Timer};
+use crate::store::{Mark, Opened, Put, Store, Timer, WordCounts};
 use cf_graph::Entry;
 use std::collections::BTreeMap;
 use std::sync::Mutex;
 use std::time::Duration;
 
 #[derive(Default)]
-pub(crate) struct Memory(Mutex<Kept>);
+pub(crate) struct Memory(Mutex<MemoryState>);
 
 #[derive(Default)]
-struct Kept {
-    rows: BTreeMap<String, Row>,
+struct MemoryState {
+    rows: BTreeMap<String, StoredRow>,
     beats: BTreeMap<u64, i64>,
     /// With the number of each, and how many were made.
     timers: BTreeMap<(i64, u16), (u32, Timer)>,
@@ -22,7 +22,7 @@ struct Kept {
 }
 
 /// What stands of a request.
-struct Row {
+struct StoredRow {
     opened: Opened,
     is_closed: bool,
     entries: Vec<Entry>,
@@ -31,38 +31,38 @@ struct Row {
     changed: i64,
 }
 
-impl Kept {
-    fn row(&mut self, name: &str, number: i64) -> Result<&mut Row, StoreError> {
+impl MemoryState {
+    fn row(&mut self, name: &str, number: i64) -> Result<&mut StoredRow, StoreError> {
         self.rows.get_mut(name).filter(|row| row.opened.number == number).ok_or_else(|| StoreError::Gone(name.into()))
     }
 }
 
 impl Memory {
     pub(crate) fn is_open(&self, name: &str) -> bool {
-        locked(&self.0).rows.get(name).map_or(false, |row| !row.is_closed)
+        lock(&self.0).rows.get(name).map_or(false, |row| !row.is_closed)
     }
 
     /// The timers, with the number of each.
     pub(super) fn timers(&self) -> Vec<(u32, Timer)> {
-        locked(&self.0).timers.values().cloned().collect()
+        lock(&self.0).timers.values().cloned().collect()
     }
 }
 
 impl Store for Memory {
     fn open(&self, name: &str, plan: &str) -> Result<Opened, StoreError> {
-        let kept = &mut *locked(&self.0);
+        let kept = &mut *lock(&self.0);
         let opened = Opened { name: name.into(), plan: plan.into(), opened: 0.0, number: kept.rows.len() as i64 + 1 };
         kept.changes += 1;
-        let row = || Row { opened, is_closed: false, entries: Vec::new(), payloads: BTreeMap::new(), changed: kept.changes };
+        let row = || StoredRow { opened, is_closed: false, entries: Vec::new(), payloads: BTreeMap::new(), changed: kept.changes };
         Ok(kept.rows.entry(name.into()).or_insert_with(row).opened.clone())
     }
 
     fn find(&self, name: &str) -> Result<Option<Opened>, StoreError> {
-        Ok(locked(&self.0).rows.get(name).map(|row| row.opened.clone()))
+        Ok(lock(&self.0).rows.get(name).map(|row| row.opened.clone()))
     }
 
     fn append(&self, put: Put<'_>) -> Result<Option<Vec<Entry>>, StoreError> {
-        let mut kept = locked(&self.0);
+        let mut kept = lock(&self.0);
         let change = kept.changes + 1;
         let row = kept.row(put.request, put.number)?;
         if row.entries.len() != put.at {
@@ -77,16 +77,16 @@ impl Store for Memory {
     }
 
     fn read(&self, name: &str, number: i64, at: usize) -> Result<Vec<Entry>, StoreError> {
-        Ok(locked(&self.0).row(name, number)?.entries.get(at..).map_or(Vec::new(), <[Entry]>::to_vec))
+        Ok(lock(&self.0).row(name, number)?.entries.get(at..).map_or(Vec::new(), <[Entry]>::to_vec))
     }
 
     fn payload(&self, name: &str, number: i64, place: usize) -> Result<Option<Vec<u8>>, StoreError> {
-        Ok(locked(&self.0).row(name, number)?.payloads.get(&place).cloned())
+        Ok(lock(&self.0).row(name, number)?.payloads.get(&place).cloned())
     }
 
-    fn news(&self, since: Option<Mark>) -> Result<(News, Mark), StoreError> {
-        let kept = locked(&self.0);
-        let is_told = |row: &Row| since.map_or(!row.is_closed, |(since, _)| row.changed > since);
+    fn news(&self, since: Option<Mark>) -> Result<(WordCounts, Mark), StoreError> {
+        let kept = lock(&self.0);
+        let is_told = |row: &StoredRow| since.map_or(!row.is_closed, |(since, _)| row.changed > since);
         let rows = kept.rows.iter().filter(|it| is_told(it.1));
         let news = rows.map(|(name, row)| (name.clone(), (!row.is_closed).then_some(row.entries.len())));
         Ok((news.collect(), (kept.changes, 0)))
@@ -97,7 +97,7 @@ impl Store for Memory {
     }
 
     fn end(&self, name: &str, number: i64, at: usize) -> Result<bool, StoreError> {
-        let mut kept = locked(&self.0);
+        let mut kept = lock(&self.0);
         let row = kept.row(name, number)?;
         let closes = !row.is_closed && row.entries.len() == at;
         row.is_closed |= closes;
@@ -108,16 +108,16 @@ impl Store for Memory {
     }
 
     fn beat(&self, session: u64) -> Result<(), StoreError> {
-        *locked(&self.0).beats.entry(session).or_default() += 1;
+        *lock(&self.0).beats.entry(session).or_default() += 1;
         Ok(())
     }
 
     fn beats(&self) -> Result<BTreeMap<u64, i64>, StoreError> {
-        Ok(locked(&self.0).beats.clone())
+        Ok(lock(&self.0).beats.clone())
     }
 
     fn drop_beat(&self, session: u64) -> Result<(), StoreError> {
-        locked(&self.0).beats.remove(&session);
+        lock(&self.0).beats.remove(&session);
         Ok(())
     }
 
@@ -130,7 +130,7 @@ impl Store for Memory {
     }
 
     fn set_timer(&self, timer: &Timer) -> Result<(), StoreError> {
-        let mut kept = locked(&self.0);
+        let mut kept = lock(&self.0);
         kept.row(&timer.request, timer.number)?;
         kept.timers_made += 1;
         let made = kept.timers_made;
@@ -139,11 +139,11 @@ impl Store for Memory {
     }
 
     fn due(&self, now: f64) -> Result<Vec<Timer>, StoreError> {
-        Ok(locked(&self.0).timers.values().filter(|it| it.1.due <= now).map(|it| it.1.clone()).collect())
+        Ok(lock(&self.0).timers.values().filter(|it| it.1.due <= now).map(|it| it.1.clone()).collect())
     }
 
     fn drop_timer(&self, timer: &Timer) -> Result<(), StoreError> {
-        locked(&self.0).timers.remove(&(timer.number, timer.stage));
+        lock(&self.0).timers.remove(&(timer.number, timer.stage));
         Ok(())
     }
 }

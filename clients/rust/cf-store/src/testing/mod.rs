@@ -46,9 +46,9 @@ use crate::functions::Functions;
 use crate::history::History;
 use cf::testing::{Failure, StoredHistory, World};
 use cf_graph::Entry;
-use rows::{end_of, ended, locked, Rows};
+use rows::{end_text, lock, read_end, Rows};
 use serde_json::Value;
-use sharing::{Shared, Shop};
+use sharing::{ServiceCore, SharedStore};
 use std::any::Any;
 use std::fmt;
 use std::sync::Arc;
@@ -71,8 +71,8 @@ pub trait Stores {
 
 impl Stores for World {
     fn store(&self, bounds: Bounds) -> WorldStore {
-        let shop = Arc::new(Shop::new(self.seam(), bounds));
-        self.seam().keep(|| Arc::new(Shared(Arc::clone(&shop))));
+        let shop = Arc::new(SharedStore::new(self.seam(), bounds));
+        self.seam().keep_store(|| Arc::new(ServiceCore(Arc::clone(&shop))));
         WorldStore(shop)
     }
 }
@@ -176,7 +176,7 @@ impl ProcessOptions {
 
 /// Rows in memory that processes of a world share: what [`Stores::store`] gives. A clone is the same store.
 #[derive(Clone)]
-pub struct WorldStore(Arc<Shop>);
+pub struct WorldStore(Arc<SharedStore>);
 
 impl WorldStore {
     /// A process with a service over this store, which works on the requests that it has opened, and runs functions on one thread. `name` is what it
@@ -204,13 +204,13 @@ impl WorldStore {
 
     /// Says that a registered function shares with others no more than what has these names, as [`World::touches`] does. Nothing checks that.
     pub fn touches(&self, function: &str, names: &[&'static str]) {
-        self.0.mark(function, names);
+        self.0.set_marks(function, names);
     }
 
     /// The value or the error that the first stage of this name ended with, by all words that stand. Nothing where it isn't settled.
     pub fn outcome(&self, request: &str, stage: &str) -> Option<Result<Value, Error>> {
         self.0.touch_row(request, false);
-        self.0.rows.ask(request, |view| Rows::numbered(view, stage).and_then(|number| end_of(view, number))).flatten()
+        self.0.rows.ask_view(request, |view| Rows::stage_number(view, stage).and_then(|number| read_end(view, number))).flatten()
     }
 
     /// Whether the first stage of this name is settled, by all words that stand.
@@ -223,11 +223,11 @@ impl WorldStore {
         let mut told = Vec::new();
         for name in self.0.rows.names() {
             self.0.touch_row(&name, false);
-            let line = |view: &mut crate::view::View, stage| {
-                let said = view.said(stage).map_or_else(|_| format!("stage {stage}"), |said| said.name);
-                format!("{name}: {said} {}", ended(view, stage))
+            let line = |view: &mut crate::view::RowView, stage| {
+                let said = view.stage_spec(stage).map_or_else(|_| format!("stage {stage}"), |said| said.name);
+                format!("{name}: {said} {}", end_text(view, stage))
             };
-            let lines = self.0.rows.ask(&name, |view| (0..view.len() as u16).map(|stage| line(view, stage)).collect::<Vec<_>>());
+            let lines = self.0.rows.ask_view(&name, |view| (0..view.stage_count() as u16).map(|stage| line(view, stage)).collect::<Vec<_>>());
             told.extend(lines.unwrap_or_default());
         }
         told
@@ -262,13 +262,13 @@ impl WorldStore {
 
     /// The claims that processes were told to be theirs: the process's name, the request's, and the stage. For what has to hold at the end.
     pub fn granted(&self) -> Vec<(String, String, u16)> {
-        locked(&self.0.told).granted.clone()
+        lock(&self.0.told).granted.clone()
     }
 
     /// The words that processes were told to stand: the process's name, the request's, the place, which is counted from 1, and the word. For what has
     /// to hold at the end.
     pub fn answered(&self) -> Vec<(String, String, usize, u64)> {
-        locked(&self.0.told).answered.clone()
+        lock(&self.0.told).answered.clone()
     }
 
     /// The requests' names, and the entries of each, in the order in which they were opened.

@@ -1,15 +1,15 @@
 //! A process of a world: a service over the world's store, whose threads, clock and chance are the search's.
 use super::bounds::{OF_CALLS, OF_PUTS, OF_READS, OF_WRITES};
-use super::sharing::Shop;
+use super::sharing::SharedStore;
 use super::transaction::WorldTransaction;
 use crate::error::{Failed, StoreError};
-use crate::functions::panicked;
+use crate::functions::failed_by_panic;
 use crate::host::Host;
-use crate::request::Given;
-use crate::service::{Job, Service};
-use crate::store::{Mark, News, Opened, Put, Store, Timer, Transaction};
-use crate::view::View;
-use cf::testing::{Seam, Waits};
+use crate::request::Returned;
+use crate::service::{Service, ServiceJob};
+use crate::store::{Mark, Opened, Put, Store, Timer, Transaction, WordCounts};
+use crate::view::RowView;
+use cf::testing::{Seam, WaitsFor};
 use cf_graph::Entry;
 use std::collections::BTreeMap;
 use std::fmt;
@@ -24,7 +24,7 @@ use std::time::{Duration, Instant};
 /// do, is a move for each call of the store.
 #[derive(Clone)]
 pub struct Process {
-    pub(super) shop: Arc<Shop>,
+    pub(super) shop: Arc<SharedStore>,
     pub(super) number: u16,
     pub(super) service: Arc<Service>,
 }
@@ -34,7 +34,7 @@ impl Process {
     /// it.
     pub fn calls<R>(&self, name: &str, call: impl FnOnce() -> R + Send + 'static) {
         self.shop.touch_process(self.number, true);
-        self.shop.work(self.number, |work| {
+        self.shop.ask_work(self.number, |work| {
             let number = work.made;
             work.made += 1;
             work.callers.push_back((number, name.into(), Box::new(move || drop(call()))));
@@ -44,13 +44,13 @@ impl Process {
     /// The time of its own clock, which is the world's and what it is ahead of that.
     pub fn now(&self) -> Duration {
         self.shop.touch_process(self.number, false);
-        self.shop.work(self.number, |work| work.clock)
+        self.shop.ask_work(self.number, |work| work.clock)
     }
 
     /// Whether it was killed.
     pub fn is_dead(&self) -> bool {
         self.shop.touch_process(self.number, false);
-        self.shop.work(self.number, |work| work.is_dead)
+        self.shop.ask_work(self.number, |work| work.is_dead)
     }
 }
 
@@ -70,7 +70,7 @@ impl fmt::Debug for Process {
 
 /// Time, chance, locks and threads of a process.
 pub(super) struct ProcessHost {
-    pub(super) shop: Arc<Shop>,
+    pub(super) shop: Arc<SharedStore>,
     pub(super) number: u16,
     /// The moment of time zero.
     pub(super) zero: Instant,
@@ -78,15 +78,15 @@ pub(super) struct ProcessHost {
 
 impl Host for ProcessHost {
     fn now(&self) -> Instant {
-        self.zero + self.shop.work(self.number, |work| work.clock)
+        self.zero + self.shop.ask_work(self.number, |work| work.clock)
     }
 
     /// What comes next is a move in any case.
     fn sleep(&self, _wait: Duration) {}
 
     /// SplitMix64, by the process's number.
-    fn number(&self, bits: u32) -> u64 {
-        let drawn = self.shop.work(self.number, |work| {
+    fn random_bits(&self, bits: u32) -> u64 {
+        let drawn = self.shop.ask_work(self.number, |work| {
             work.drawn += 1;
             work.drawn
         });
@@ -101,14 +101,14 @@ impl Host for ProcessHost {
     }
 
     /// Requests that were closed are kept, unless somebody is to be told of their last words.
-    fn takes(&self, job: Job) -> Option<Job> {
-        if matches!(&job, Job::LetGo(leaving) if !self.shop.matters(self.number, &leaving.inner.name)) {
+    fn take_job(&self, job: ServiceJob) -> Option<ServiceJob> {
+        if matches!(&job, ServiceJob::LetGo(leaving) if !self.shop.matters(self.number, &leaving.inner.name)) {
             return None;
         }
         if self.shop.own_thread(self.number).is_none() {
             self.shop.touch_process(self.number, true);
         }
-        self.shop.work(self.number, |work| {
+        self.shop.ask_work(self.number, |work| {
             let number = work.made;
             work.made += 1;
             work.queue.push_back((number, Arc::new(job)));
@@ -116,65 +116,65 @@ impl Host for ProcessHost {
         None
     }
 
-    fn until_free(&self, view: &Arc<Mutex<View>>) {
+    fn wait_until_free(&self, view: &Arc<Mutex<RowView>>) {
         if self.shop.own_thread(self.number).is_none() {
             self.shop.touch_process(self.number, false);
         }
-        let is_held = |view: &Mutex<View>| matches!(view.try_lock(), Err(TryLockError::WouldBlock));
+        let is_held = |view: &Mutex<RowView>| matches!(view.try_lock(), Err(TryLockError::WouldBlock));
         while is_held(view) && !self.shop.seam.is_over() {
             let view = Arc::clone(view);
-            self.shop.seam.wait("a lock".into(), Waits::Until(Box::new(move || !is_held(&view))));
+            self.shop.seam.wait("a lock".into(), WaitsFor::Until(Box::new(move || !is_held(&view))));
         }
     }
 
-    fn until(&self, name: &str, is_so: Arc<dyn Fn() -> bool + Send + Sync>, wait: Option<Duration>) {
+    fn wait_until(&self, name: &str, is_so: Arc<dyn Fn() -> bool + Send + Sync>, wait: Option<Duration>) {
         match (wait, self.shop.own_thread(self.number)) {
             (Some(wait), Some(thread)) => {
                 let (is_so, name) = (Arc::clone(&is_so), name.to_owned());
-                self.shop.work(self.number, |work| work.wait_late(thread, name, wait, is_so));
+                self.shop.ask_work(self.number, |work| work.wait_limited(thread, name, wait, is_so));
             }
             (Some(_), None) => self.shop.seam.fail(format!("who waits so long for {name} is no thread of its process: take Process::calls")),
             (None, _) => {}
         }
-        self.shop.seam.wait(name.into(), Waits::Until(Box::new(move || is_so())));
+        self.shop.seam.wait(name.into(), WaitsFor::Until(Box::new(move || is_so())));
         if let Some(thread) = self.shop.own_thread(self.number) {
-            self.shop.work(self.number, |work| work.threads.get_mut(&thread).map(|it| it.late = None));
+            self.shop.ask_work(self.number, |work| work.threads.get_mut(&thread).map(|it| it.late = None));
         }
     }
 
-    fn call(&self, name: &str, call: &mut dyn FnMut() -> Result<Given, Failed>) -> Result<Given, Failed> {
+    fn call_function(&self, name: &str, call: &mut dyn FnMut() -> Result<Returned, Failed>) -> Result<Returned, Failed> {
         let called = match self.shop.own_thread(self.number) {
             None => catch_unwind(AssertUnwindSafe(call)),
             Some(thread) => {
-                self.shop.asks(self.number, thread, format!("calls {name}"), OF_CALLS);
-                let marks = self.shop.marks(name);
-                self.shop.work(self.number, |work| work.runs_code(thread, true));
-                let called = self.shop.seam.share((self.number, thread), marks.as_deref(), || catch_unwind(AssertUnwindSafe(call)));
-                self.shop.work(self.number, |work| work.runs_code(thread, false));
+                self.shop.wait_for_answer(self.number, thread, format!("calls {name}"), OF_CALLS);
+                let marks = self.shop.marks_of(name);
+                self.shop.ask_work(self.number, |work| work.set_runs_code(thread, true));
+                let called = self.shop.seam.call_sharing((self.number, thread), marks.as_deref(), || catch_unwind(AssertUnwindSafe(call)));
+                self.shop.ask_work(self.number, |work| work.set_runs_code(thread, false));
                 called
             }
         };
         called.unwrap_or_else(|payload| {
-            if Seam::is_left(&*payload) {
+            if Seam::is_leaving(&*payload) {
                 resume_unwind(payload);
             }
-            let failed = panicked(&*payload);
-            if !self.shop.seam.panics() {
+            let failed = failed_by_panic(&*payload);
+            if !self.shop.seam.keeps_panics() {
                 self.shop.seam.fail(format!("{name} panicked: {}", failed.text));
             }
             Err(failed)
         })
     }
 
-    fn stands(&self, request: &str, place: usize, word: u64, granted: Option<u16>) {
-        self.shop.stands(self.number, request, place, word, granted);
+    fn note_standing(&self, request: &str, place: usize, word: u64, granted: Option<u16>) {
+        self.shop.note_standing(self.number, request, place, word, granted);
     }
 
-    fn warns(&self, _tells: fn(&str), request: &str, _text: &str) {
-        self.shop.work(self.number, |work| work.stuck.insert(request.into()));
+    fn warn(&self, _tells: fn(&str), request: &str, _text: &str) {
+        self.shop.ask_work(self.number, |work| work.stuck.insert(request.into()));
     }
 
-    fn breaks(&self, error: &StoreError) {
+    fn note_broken(&self, error: &StoreError) {
         if let StoreError::Broken { .. } = error {
             self.shop.seam.fail(format!("{} can't go on: {error}", self.shop.name_of(self.number)));
         }
@@ -183,18 +183,18 @@ impl Host for ProcessHost {
 
 /// The store as one process has it. What it asks is a move, but where its process looks what is new.
 pub(super) struct ProcessStore {
-    pub(super) shop: Arc<Shop>,
+    pub(super) shop: Arc<SharedStore>,
     pub(super) number: u16,
 }
 
 impl ProcessStore {
-    fn write<T>(&self, text: String, act: impl FnOnce() -> Result<T, StoreError>) -> Result<T, StoreError> {
-        self.shop.ask(self.number, OF_WRITES, text, None, act)
+    fn change_rows<T>(&self, text: String, act: impl FnOnce() -> Result<T, StoreError>) -> Result<T, StoreError> {
+        self.shop.ask_store(self.number, OF_WRITES, text, None, act)
     }
 
     /// Does what changes a request.
-    fn change<T>(&self, name: &str, text: String, act: impl FnOnce() -> Result<T, StoreError>) -> Result<T, StoreError> {
-        self.write(text, || {
+    fn change_row<T>(&self, name: &str, text: String, act: impl FnOnce() -> Result<T, StoreError>) -> Result<T, StoreError> {
+        self.change_rows(text, || {
             self.shop.touch_row(name, true);
             act()
         })
@@ -203,7 +203,7 @@ impl ProcessStore {
 
 impl Store for ProcessStore {
     fn open(&self, name: &str, plan: &str) -> Result<Opened, StoreError> {
-        self.write(format!("opens {name}"), || {
+        self.change_rows(format!("opens {name}"), || {
             let (opened, is_new) = self.shop.rows.open(name, plan)?;
             self.shop.touch_rows(is_new);
             if is_new {
@@ -219,11 +219,11 @@ impl Store for ProcessStore {
     }
 
     fn append(&self, put: Put<'_>) -> Result<Option<Vec<Entry>>, StoreError> {
-        self.shop.ask(self.number, OF_PUTS, self.shop.rows.text_of(put), Some((put, &[])), || self.shop.append(put))
+        self.shop.ask_store(self.number, OF_PUTS, self.shop.rows.put_text(put), Some((put, &[])), || self.shop.append(put))
     }
 
     fn read(&self, name: &str, number: i64, at: usize) -> Result<Vec<Entry>, StoreError> {
-        self.shop.ask(self.number, OF_READS, format!("reads {name}"), None, || {
+        self.shop.ask_store(self.number, OF_READS, format!("reads {name}"), None, || {
             self.shop.touch_row(name, false);
             self.shop.rows.memory.read(name, number, at)
         })
@@ -234,7 +234,7 @@ impl Store for ProcessStore {
         self.shop.rows.memory.payload(name, number, place)
     }
 
-    fn news(&self, since: Option<Mark>) -> Result<(News, Mark), StoreError> {
+    fn news(&self, since: Option<Mark>) -> Result<(WordCounts, Mark), StoreError> {
         let news = self.shop.rows.memory.news(since)?;
         self.shop.touch_rows(false);
         news.0.keys().filter(|name| self.shop.works_on(self.number, name)).for_each(|name| self.shop.touch_row(name, false));
@@ -247,7 +247,7 @@ impl Store for ProcessStore {
     }
 
     fn end(&self, name: &str, number: i64, at: usize) -> Result<bool, StoreError> {
-        self.change(name, format!("closes {name}"), || self.shop.rows.memory.end(name, number, at))
+        self.change_row(name, format!("closes {name}"), || self.shop.rows.memory.end(name, number, at))
     }
 
     fn beat(&self, session: u64) -> Result<(), StoreError> {
@@ -267,22 +267,22 @@ impl Store for ProcessStore {
     }
 
     fn now(&self) -> Result<f64, StoreError> {
-        Ok(self.shop.work(self.number, |work| work.clock).as_secs_f64())
+        Ok(self.shop.ask_work(self.number, |work| work.clock).as_secs_f64())
     }
 
     fn set_timer(&self, timer: &Timer) -> Result<(), StoreError> {
-        let stage = self.shop.rows.stage(&timer.request, timer.stage);
-        self.change(&timer.request, format!("sets the limit of {stage}"), || self.shop.rows.memory.set_timer(timer))
+        let stage = self.shop.rows.stage_name(&timer.request, timer.stage);
+        self.change_row(&timer.request, format!("sets the limit of {stage}"), || self.shop.rows.memory.set_timer(timer))
     }
 
     /// The search says when a limit has passed.
     fn due(&self, _now: f64) -> Result<Vec<Timer>, StoreError> {
-        Ok(self.shop.work(self.number, |work| work.due.clone().into_iter().collect()))
+        Ok(self.shop.ask_work(self.number, |work| work.due.clone().into_iter().collect()))
     }
 
     fn drop_timer(&self, timer: &Timer) -> Result<(), StoreError> {
-        let stage = self.shop.rows.stage(&timer.request, timer.stage);
-        self.change(&timer.request, format!("forgets the limit of {stage}"), || self.shop.rows.memory.drop_timer(timer))
+        let stage = self.shop.rows.stage_name(&timer.request, timer.stage);
+        self.change_row(&timer.request, format!("forgets the limit of {stage}"), || self.shop.rows.memory.drop_timer(timer))
     }
 
     fn transacts(&self) -> bool {

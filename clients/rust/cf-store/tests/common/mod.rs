@@ -1,7 +1,7 @@
 //! What tests of stores have in common: a place for rows, and a process in Python that works on the same requests.
 #![allow(dead_code)]
 
-use cf_store::{Entry, Flow, Functions, Mark, News, Opened, Options, Put, Service, Stage, Store, StoreError, Timer, Transaction};
+use cf_store::{Entry, Flow, Functions, Mark, Opened, Options, Put, Service, Stage, Store, StoreError, Timer, Transaction, WordCounts};
 use std::any::Any;
 use std::collections::BTreeMap;
 use std::io::Write;
@@ -23,7 +23,7 @@ macro_rules! questions {
             fn read(name: &str, number: i64, at: usize) -> Vec<Entry>;
             fn payload(name: &str, number: i64, place: usize) -> Option<Vec<u8>>;
             fn payloads(name: &str, number: i64, places: &[usize]) -> Vec<Option<Vec<u8>>>;
-            fn news(since: Option<Mark>) -> (News, Mark);
+            fn news(since: Option<Mark>) -> (WordCounts, Mark);
             fn changed(wait: Duration) -> ();
             fn end(name: &str, number: i64, at: usize) -> bool;
             fn beat(session: u64) -> ();

@@ -749,3 +749,29 @@ fn a_stage_is_seen_by_what_its_process_has_read() {
     });
     assert_eq!(ends(&report), ["false", "true"]);
 }
+
+#[test]
+fn effects_are_seen_before_a_commit_and_behind_it() {
+    let report = orders(|world| {
+        let (store, seen) = (world.store(Bounds::new()), Shared::<usize>::default());
+        let functions = Functions::new().transactional("pay", 1, pay);
+        store.pure("pay");
+        store.process("shop", &functions).request("order").unwrap().supply("pay", &[json!(17)]).unwrap();
+        let (looks, sees) = (store, seen.clone());
+        world.calls("client", move || *sees.get() = looks.effects().len());
+        world.end_is(move || seen.get().to_string());
+    });
+    assert_eq!(ends(&report), ["0", "1"]);
+}
+
+#[test]
+fn no_limit_of_a_closed_request_passes() {
+    let report = orders(|world| {
+        let store = world.store(Bounds::new());
+        let request = store.process("shop", &Functions::new()).request("order").unwrap();
+        request.promise("a sign").unwrap().or_timeout(Duration::from_secs(2)).unwrap();
+        request.end().unwrap();
+        world.end_is(move || store.outcomes().join(", "));
+    });
+    assert_eq!(ends(&report), ["order: a sign is open"]);
+}

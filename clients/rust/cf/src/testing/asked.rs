@@ -6,10 +6,10 @@ use super::{Calls, Orders, Report, World};
 use crate::core::Core;
 use crate::error::Error;
 use crate::name::Made;
-use crate::spawn::{here, CALLER};
+use crate::spawn::{caller_number, CALLER};
 use crate::stage::Stage;
-use crate::value::{Call, Gave, Given, Val};
-use crate::word::Form;
+use crate::value::{CallArgs, Returned, StageFn, Val};
+use crate::word::WordForm;
 use std::fmt;
 use std::io::Write;
 use std::sync::{Arc, Mutex};
@@ -28,25 +28,25 @@ impl fmt::Display for Thrown {
 impl std::error::Error for Thrown {}
 
 fn thrown(code: i32) -> Error {
-    Error::of(Box::new(Thrown(code)))
+    Error::from_boxed(Box::new(Thrown(code)))
 }
 
 /// A stage as `apply 0 add:1`: its form, its sources, its function.
 #[derive(Clone)]
-struct Said {
+struct StageLine {
     form: String,
     of: Vec<usize>,
     function: String,
 }
 
 #[derive(Clone)]
-enum Step {
+enum CallerStep {
     Complete(usize, Option<i32>),
     Fail(usize, i32),
     Cancel(usize),
     Now(usize),
     Join(usize, u32),
-    Attach(Said),
+    Attach(StageLine),
 }
 
 /// A line: `counted 2 15000 1 | STAGE; .. | timeout 0 1; value 1 2 4 | STEP, ..; ..`, with the workers, the most orders and the room.
@@ -56,10 +56,10 @@ struct Question {
     workers: usize,
     most: u64,
     room: usize,
-    stages: Vec<Said>,
+    stages: Vec<StageLine>,
     /// The stage, the moment, and the value, if the limit gives one.
     limits: Vec<(usize, u64, Option<Option<i32>>)>,
-    callers: Vec<Vec<Step>>,
+    callers: Vec<Vec<CallerStep>>,
 }
 
 fn number<T: std::str::FromStr>(word: &str) -> T {
@@ -70,29 +70,29 @@ fn value(word: &str) -> Option<i32> {
     (word != "nil").then(|| number(word))
 }
 
-impl Said {
-    fn of(words: &[&str]) -> Said {
+impl StageLine {
+    fn parse(words: &[&str]) -> StageLine {
         let of = words[1].split('+').filter(|word| *word != "-").map(number).collect();
-        Said { form: words[0].into(), of, function: words[2].into() }
+        StageLine { form: words[0].into(), of, function: words[2].into() }
     }
 }
 
-impl Step {
-    fn of(words: &[&str]) -> Step {
+impl CallerStep {
+    fn parse(words: &[&str]) -> CallerStep {
         let stage = || number(words[1]);
         match words[0] {
-            "complete" => Step::Complete(stage(), value(words[2])),
-            "fail" => Step::Fail(stage(), number(words[2])),
-            "cancel" => Step::Cancel(stage()),
-            "now" => Step::Now(stage()),
-            "join" => Step::Join(stage(), number(words[2])),
-            _ => Step::Attach(Said::of(&words[1..])),
+            "complete" => CallerStep::Complete(stage(), value(words[2])),
+            "fail" => CallerStep::Fail(stage(), number(words[2])),
+            "cancel" => CallerStep::Cancel(stage()),
+            "now" => CallerStep::Now(stage()),
+            "join" => CallerStep::Join(stage(), number(words[2])),
+            _ => CallerStep::Attach(StageLine::parse(&words[1..])),
         }
     }
 }
 
 impl Question {
-    fn of(line: &str) -> Question {
+    fn parse(line: &str) -> Question {
         let parts: Vec<&str> = line.split('|').collect();
         let words = |text: &'static str, part: usize| -> Vec<Vec<&str>> {
             let rows = parts[part].split(text).map(|row| row.split_whitespace().collect::<Vec<_>>());
@@ -100,13 +100,13 @@ impl Question {
         };
         let head = words(";", 0).remove(0);
         let limit = |row: &Vec<&str>| (number(row[1]), number(row[2]), (row[0] == "value").then(|| value(row[3])));
-        let steps = |row: &str| row.split(',').map(|step| Step::of(&step.split_whitespace().collect::<Vec<_>>())).collect();
+        let steps = |row: &str| row.split(',').map(|step| CallerStep::parse(&step.split_whitespace().collect::<Vec<_>>())).collect();
         Question {
             is_counted: head[0] == "counted",
             workers: number(head[1]),
             most: number(head[2]),
             room: number(head[3]),
-            stages: words(";", 1).iter().map(|row| Said::of(row)).collect(),
+            stages: words(";", 1).iter().map(|row| StageLine::parse(row)).collect(),
             limits: words(";", 2).iter().map(limit).collect(),
             callers: parts[3].split(';').filter(|row| !row.trim().is_empty()).map(steps).collect(),
         }
@@ -114,13 +114,13 @@ impl Question {
 }
 
 /// What a function answers, with what it is called with.
-fn answer(function: &str, given: &Given) -> Result<Option<i32>, Error> {
-    let int = |value: &Val| value.any().downcast_ref::<i32>().copied();
+fn answer(function: &str, given: &CallArgs) -> Result<Option<i32>, Error> {
+    let int = |value: &Val| value.as_any().downcast_ref::<i32>().copied();
     let (first, second, fault) = match given {
-        Given::Nothing => (None, None, None),
-        Given::One(value) | Given::Got(Ok(value)) => (int(value), None, None),
-        Given::Two(first, second) => (int(first), Some(int(second).unwrap_or(0)), None),
-        Given::Got(Err(error)) => (None, None, Some(error)),
+        CallArgs::Nothing => (None, None, None),
+        CallArgs::One(value) | CallArgs::Got(Ok(value)) => (int(value), None, None),
+        CallArgs::Two(first, second) => (int(first), Some(int(second).unwrap_or(0)), None),
+        CallArgs::Got(Err(error)) => (None, None, Some(error)),
     };
     let (name, k) = function.split_once(':').unwrap_or((function, ""));
     match (name, fault) {
@@ -145,7 +145,7 @@ fn answer(function: &str, given: &Given) -> Result<Option<i32>, Error> {
 }
 
 fn of_value(value: Option<i32>) -> Val {
-    value.map_or(Val::Nil, Val::of)
+    value.map_or(Val::Nil, Val::new)
 }
 
 /// One run of a question.
@@ -163,7 +163,7 @@ impl Asked {
         Some(Stage::new(&self.core, Ok(at)))
     }
 
-    fn attach(&self, said: &Said) {
+    fn attach(&self, said: &StageLine) {
         let of: Vec<u16> = said.of.iter().map(|number| self.stages.lock().unwrap()[*number]).collect();
         let many = match said.form.as_str() {
             "allOf" => Some(cf_graph::Form::AllOf),
@@ -171,37 +171,37 @@ impl Asked {
             _ => None,
         };
         if let Some(form) = many {
-            let at = self.core.gather(here(), form, &of, Made::as_a(|| "asked"));
+            let at = self.core.gather(caller_number(), form, &of, Made::without_function(|| "asked"));
             return self.stages.lock().unwrap().push(at.expect("there is room"));
         }
         let (form, is_nil) = match said.form.as_str() {
-            "source" => (Form::Source, false),
-            "supply" | "runAsync" => (Form::Supply, said.form == "runAsync"),
-            "apply" | "accept" | "thenRun" => (Form::Apply, said.form != "apply"),
-            "combine" | "acceptBoth" | "runBoth" => (Form::Combine, said.form != "combine"),
-            "applyEither" | "acceptEither" | "runEither" => (Form::ApplyEither, said.form != "applyEither"),
-            "compose" => (Form::Compose, false),
-            "exceptionallyCompose" => (Form::ExceptionallyCompose, false),
-            "handle" => (Form::Handle, false),
-            "whenComplete" => (Form::WhenComplete, false),
-            "exceptionally" => (Form::Exceptionally, false),
+            "source" => (WordForm::Source, false),
+            "supply" | "runAsync" => (WordForm::Supply, said.form == "runAsync"),
+            "apply" | "accept" | "thenRun" => (WordForm::Apply, said.form != "apply"),
+            "combine" | "acceptBoth" | "runBoth" => (WordForm::Combine, said.form != "combine"),
+            "applyEither" | "acceptEither" | "runEither" => (WordForm::ApplyEither, said.form != "applyEither"),
+            "compose" => (WordForm::Compose, false),
+            "exceptionallyCompose" => (WordForm::ExceptionallyCompose, false),
+            "handle" => (WordForm::Handle, false),
+            "whenComplete" => (WordForm::WhenComplete, false),
+            "exceptionally" => (WordForm::Exceptionally, false),
             form => panic!("there is no form {form}"),
         };
         // What runs whatever comes is called with nothing.
         let (function, is_run) = (said.function.clone(), matches!(said.form.as_str(), "thenRun" | "runBoth" | "runEither"));
         let by = self.clone();
-        let call: Call = match function.strip_prefix("goto:").map(number::<usize>) {
-            Some(target) => Box::new(move |_| by.stage(target).expect("it is lower").gave()),
-            None => Box::new(move |given| match answer(&function, if is_run { &Given::Nothing } else { given }) {
-                Ok(value) => Gave::Value(of_value(value.filter(|_| !is_nil))),
-                Err(error) => Gave::Error(error),
+        let call: StageFn = match function.strip_prefix("goto:").map(number::<usize>) {
+            Some(target) => Box::new(move |_| by.stage(target).expect("it is lower").into_returned()),
+            None => Box::new(move |given| match answer(&function, if is_run { &CallArgs::Nothing } else { given }) {
+                Ok(value) => Returned::Value(of_value(value.filter(|_| !is_nil))),
+                Err(error) => Returned::Error(error),
             }),
         };
-        let made = Made::as_a(|| "asked");
+        let made = Made::without_function(|| "asked");
         let at = match form {
-            Form::Source => self.core.attach(here(), form, &[], None, made),
-            Form::Compose | Form::ExceptionallyCompose => self.core.attach_composing(here(), form, of[0], call, made),
-            _ => self.core.attach(here(), form, &of, Some(call), made),
+            WordForm::Source => self.core.attach(caller_number(), form, &[], None, made),
+            WordForm::Compose | WordForm::ExceptionallyCompose => self.core.attach_composing(caller_number(), form, of[0], call, made),
+            _ => self.core.attach(caller_number(), form, &of, Some(call), made),
         };
         self.stages.lock().unwrap().push(at.expect("there is room"));
     }
@@ -212,14 +212,14 @@ impl Asked {
     }
 
     /// Makes a step, and says whether it is over: a join looks until the stage is settled, or so often.
-    fn does(&self, step: &Step, looks: u32) -> bool {
+    fn does(&self, step: &CallerStep, looks: u32) -> bool {
         match step {
-            Step::Complete(stage, value) => self.settle(*stage, Ok(of_value(*value))),
-            Step::Fail(stage, code) => self.settle(*stage, Err(thrown(*code))),
-            Step::Cancel(stage) => self.settle(*stage, Err(Error::Cancelled)),
-            Step::Now(stage) => drop(self.stage(*stage).map(|stage| stage.is_settled())),
-            Step::Join(stage, most) => return looks >= *most || self.stage(*stage).map_or(false, |stage| stage.is_settled()),
-            Step::Attach(said) => {
+            CallerStep::Complete(stage, value) => self.settle(*stage, Ok(of_value(*value))),
+            CallerStep::Fail(stage, code) => self.settle(*stage, Err(thrown(*code))),
+            CallerStep::Cancel(stage) => self.settle(*stage, Err(Error::Cancelled)),
+            CallerStep::Now(stage) => drop(self.stage(*stage).map(|stage| stage.is_settled())),
+            CallerStep::Join(stage, most) => return looks >= *most || self.stage(*stage).map_or(false, |stage| stage.is_settled()),
+            CallerStep::Attach(said) => {
                 let mut room = self.room.lock().unwrap();
                 if *room > 0 {
                     *room -= 1;
@@ -232,7 +232,7 @@ impl Asked {
     }
 
     /// A caller's steps: each call adds the next one.
-    fn goes_on(self, calls: Calls, steps: Arc<Vec<Step>>, at: usize, looks: u32) {
+    fn goes_on(self, calls: Calls, steps: Arc<Vec<CallerStep>>, at: usize, looks: u32) {
         let next = calls.clone();
         if at < steps.len() {
             drop(calls.and_then(move || {
@@ -245,13 +245,13 @@ impl Asked {
 
     fn end(&self) -> String {
         let stages = self.stages.lock().unwrap().clone();
-        let told = |core: &Core, stage: u16| core.lock().told(stage);
-        let report = crate::History::of(&self.core).report();
+        let told = |core: &Core, stage: u16| core.lock().end_of(stage);
+        let report = crate::History::new(&self.core).report();
         let lines: Vec<&str> = report.lines().filter(|line| line.starts_with("stage ")).collect();
         let end = |stage: &u16| {
             let words: Vec<&str> = lines[usize::from(*stage)].split(' ').skip(2).collect();
             match (&words[..], told(&self.core, *stage)) {
-                (["value", _], Some(Ok(value))) => value.any().downcast_ref::<i32>().map_or("value nil".into(), |it| format!("value {it}")),
+                (["value", _], Some(Ok(value))) => value.as_any().downcast_ref::<i32>().map_or("value nil".into(), |it| format!("value {it}")),
                 (["fault", "thrown", _, wrapped], Some(Err(error))) => {
                     format!("fault thrown {} {wrapped}", error.downcast_ref::<Thrown>().map_or(0, |thrown| thrown.0))
                 }
@@ -268,7 +268,7 @@ fn asked(question: &Question, world: &World) {
     question.stages.iter().for_each(|said| asked.attach(said));
     for (stage, at, gives) in &question.limits {
         let at_stage = asked.stages.lock().unwrap()[*stage];
-        asked.core.limit(at_stage, Duration::from_secs(*at), gives.map(of_value));
+        asked.core.set_limit(at_stage, Duration::from_secs(*at), gives.map(of_value));
     }
     for steps in &question.callers {
         if question.is_counted {
@@ -279,9 +279,9 @@ fn asked(question: &Question, world: &World) {
         let mut calls = Calls::none(world, "a caller");
         for step in steps {
             // A join is as many looks as it may take.
-            for _ in 0..if let Step::Join(_, most) = step { *most } else { 1 } {
+            for _ in 0..if let CallerStep::Join(_, most) = step { *most } else { 1 } {
                 let (asked, step) = (asked.clone(), step.clone());
-                let is_pure = !matches!(step, Step::Attach(_) | Step::Join(..));
+                let is_pure = !matches!(step, CallerStep::Attach(_) | CallerStep::Join(..));
                 calls = calls.and_then(move || asked.does(&step, u32::MAX));
                 calls = if is_pure { calls.pure() } else { calls };
             }
@@ -296,7 +296,7 @@ fn told(report: &Report) -> String {
 }
 
 fn answered(line: &str) -> String {
-    let question = Question::of(line);
+    let question = Question::parse(line);
     let orders =
         Orders::new().free_clock().failures(usize::MAX).as_found().time(Duration::from_secs(60)).most(question.most).workers(question.workers);
     let orders = if question.is_counted { orders.all() } else { orders };

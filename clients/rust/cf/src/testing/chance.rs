@@ -2,7 +2,7 @@
 //! make is so found with a likelihood that doesn't shrink as the number of orders grows.
 use super::moves::{Actor, Move};
 use super::report::Report;
-use super::runner::{Guide, How, Runner};
+use super::runner::{Guide, RunEnd, Runner};
 use std::collections::BTreeMap;
 use std::time::Instant;
 
@@ -61,7 +61,7 @@ impl Chance {
     }
 
     /// So many orders, until the moment comes or so many have failed.
-    pub(crate) fn go(&mut self, runner: &mut Runner, report: &mut Report, times: u64, until: Instant, failures: usize) {
+    pub(crate) fn run_some(&mut self, runner: &mut Runner, report: &mut Report, times: u64, until: Instant, failures: usize) {
         for _ in 0..times {
             if Instant::now() >= until || report.failed.len() >= failures {
                 return;
@@ -72,7 +72,7 @@ impl Chance {
             self.longest = self.longest.max(ran.row.len());
             report.orders += 1;
             report.by_chance += 1;
-            if ran.how == How::Failed {
+            if ran.how == RunEnd::Failed {
                 report.failed.push(ran.failure());
             }
         }
@@ -90,7 +90,7 @@ impl Chance {
 }
 
 impl Guide for Chance {
-    fn chooses(&mut self, place: usize, keys: &[Move]) -> Option<Move> {
+    fn choose(&mut self, place: usize, keys: &[Move]) -> Option<Move> {
         if keys.is_empty() {
             return None;
         }
@@ -110,5 +110,17 @@ impl Guide for Chance {
             best = self.best(keys);
         }
         Some(best)
+    }
+}
+
+#[cfg(test)]
+mod tests {
+    use super::*;
+
+    /// So a seed draws the same orders everywhere.
+    #[test]
+    fn the_numbers_of_a_seed_are_those_of_splitmix() {
+        let mut dice = Dice::new(0);
+        assert_eq!([(); 3].map(|()| dice.roll()), [0xe220_a839_7b1d_cdaf, 0x6e78_9e6a_a1b9_65f4, 0x06c4_5d18_8009_454f]);
     }
 }

@@ -32,7 +32,7 @@ pub(crate) enum Thing {
 }
 
 #[derive(Clone, Copy, Debug, PartialEq, Eq)]
-pub(crate) enum How {
+pub(crate) enum Access {
     Reads,
     Changes,
     Leads,
@@ -40,24 +40,24 @@ pub(crate) enum How {
 
 /// What a move touches, by the order of things.
 #[derive(Clone, Debug, Default, PartialEq, Eq)]
-pub(crate) struct Footprint(Vec<(Thing, How)>);
+pub(crate) struct Footprint(Vec<(Thing, Access)>);
 
 impl Footprint {
     /// That of a move of which nothing is known.
     pub(crate) fn all() -> Footprint {
-        Footprint(vec![(Thing::All, How::Changes)])
+        Footprint(vec![(Thing::All, Access::Changes)])
     }
 
     /// Adds that a thing is touched so.
-    pub(crate) fn touch(&mut self, thing: Thing, how: How) {
+    pub(crate) fn touch(&mut self, thing: Thing, how: Access) {
         match self.0.binary_search_by_key(&thing, |it| it.0) {
-            Ok(at) if self.0[at].1 != how => self.0[at].1 = How::Changes,
+            Ok(at) if self.0[at].1 != how => self.0[at].1 = Access::Changes,
             Ok(_) => {}
             Err(at) => self.0.insert(at, (thing, how)),
         }
     }
 
-    pub(crate) fn things(&self) -> impl Iterator<Item = (Thing, How)> + '_ {
+    pub(crate) fn things(&self) -> impl Iterator<Item = (Thing, Access)> + '_ {
         self.0.iter().copied()
     }
 
@@ -82,7 +82,7 @@ pub(crate) fn independent(one: &Footprint, other: &Footprint) -> bool {
         match mine.0.cmp(&theirs.0) {
             std::cmp::Ordering::Less => drop(ones.next()),
             std::cmp::Ordering::Greater => drop(others.next()),
-            std::cmp::Ordering::Equal if mine.1 != theirs.1 || mine.1 == How::Changes => return false,
+            std::cmp::Ordering::Equal if mine.1 != theirs.1 || mine.1 == Access::Changes => return false,
             std::cmp::Ordering::Equal => {
                 ones.next();
                 others.next();
@@ -94,16 +94,16 @@ pub(crate) fn independent(one: &Footprint, other: &Footprint) -> bool {
 
 /// Which stages stand behind which.
 #[derive(Default)]
-pub(crate) struct Behind(BTreeMap<Place, Vec<Place>>);
+pub(crate) struct Dependents(BTreeMap<Place, Vec<Place>>);
 
-impl Behind {
+impl Dependents {
     /// A stage stands behind another one.
     pub(crate) fn add(&mut self, stage: Place, of: Place) {
         self.0.entry(of).or_default().push(stage);
     }
 
     /// What changed stages lead to. That one behind them is settled already is read: it hides the change from those behind it.
-    pub(crate) fn reached(&self, changed: &[Place], is_settled: impl Fn(Place) -> bool, mut reach: impl FnMut(Place, How)) {
+    pub(crate) fn reach(&self, changed: &[Place], is_settled: impl Fn(Place) -> bool, mut reach: impl FnMut(Place, Access)) {
         let (mut row, mut seen) = (changed.to_vec(), changed.iter().copied().collect::<BTreeSet<Place>>());
         while let Some(place) = row.pop() {
             for &stage in self.0.get(&place).into_iter().flatten() {
@@ -111,10 +111,10 @@ impl Behind {
                     continue;
                 }
                 if is_settled(stage) {
-                    reach(stage, How::Reads);
+                    reach(stage, Access::Reads);
                 } else {
                     row.push(stage);
-                    reach(stage, How::Leads);
+                    reach(stage, Access::Leads);
                 }
             }
         }
@@ -125,7 +125,7 @@ impl Behind {
 mod tests {
     use super::*;
 
-    fn of(things: &[(Thing, How)]) -> Footprint {
+    fn of(things: &[(Thing, Access)]) -> Footprint {
         let mut made = Footprint::default();
         things.iter().for_each(|(thing, how)| made.touch(*thing, *how));
         made
@@ -134,24 +134,24 @@ mod tests {
     #[test]
     fn what_is_touched_alike_may_change_places_unless_it_is_changed() {
         let (one, two) = (Thing::Stage((0, 1)), Thing::Stage((0, 2)));
-        let ways = [How::Reads, How::Changes, How::Leads];
+        let ways = [Access::Reads, Access::Changes, Access::Leads];
         for mine in ways {
             for theirs in ways {
-                assert_eq!(independent(&of(&[(one, mine)]), &of(&[(one, theirs)])), mine == theirs && mine != How::Changes);
+                assert_eq!(independent(&of(&[(one, mine)]), &of(&[(one, theirs)])), mine == theirs && mine != Access::Changes);
                 assert!(independent(&of(&[(one, mine)]), &of(&[(two, theirs)])));
             }
             assert!(!independent(&Footprint::all(), &of(&[(one, mine)])) && !independent(&of(&[(one, mine)]), &Footprint::all()));
         }
-        assert_eq!(of(&[(one, How::Reads), (one, How::Leads)]), of(&[(one, How::Changes)]));
+        assert_eq!(of(&[(one, Access::Reads), (one, Access::Leads)]), of(&[(one, Access::Changes)]));
     }
 
     /// 1 and 2 stand behind 0, and 3 behind 1, which is settled.
     #[test]
     fn what_is_settled_hides_what_stands_behind_it() {
-        let mut behind = Behind::default();
+        let mut behind = Dependents::default();
         [(1, 0), (2, 0), (3, 1)].iter().for_each(|(stage, of)| behind.add((0, *stage), (0, *of)));
         let mut reached = Vec::new();
-        behind.reached(&[(0, 0)], |place| place == (0, 1), |place, how| reached.push((place, how)));
-        assert_eq!(reached, [((0, 1), How::Reads), ((0, 2), How::Leads)]);
+        behind.reach(&[(0, 0)], |place| place == (0, 1), |place, how| reached.push((place, how)));
+        assert_eq!(reached, [((0, 1), Access::Reads), ((0, 2), Access::Leads)]);
     }
 }

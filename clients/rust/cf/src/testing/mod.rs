@@ -75,10 +75,10 @@ mod watch;
 mod world;
 
 #[doc(hidden)]
-pub use moves::Stored;
+pub use moves::StoreMove;
 pub use orders::{every_order, orders, Orders};
-pub use report::{Failure, Pair, Report, Told};
+pub use report::{Failure, Pair, Report, ToldMove};
 #[doc(hidden)]
-pub use stored::{Seam, Sharing, StoredHistory, Then, Waits};
+pub use stored::{Seam, Sharing, StoredHistory, ThreadWork, WaitsFor};
 pub(crate) use watch::Watch;
 pub use world::{Awaited, Calls, World};

@@ -17,7 +17,7 @@ pub(crate) enum Who {
 
 /// What may happen next in a store. The crate `cf-store` makes these moves; here they are written.
 #[derive(Clone, Copy, Debug, PartialEq, Eq, PartialOrd, Ord, Hash)]
-pub enum Stored {
+pub enum StoreMove {
     /// A thread of a process begins.
     Job(u16, u32),
     /// What a thread has asked of the store, the so-manyth time, is answered in a way, or it calls a function.
@@ -78,7 +78,7 @@ pub(crate) enum Move {
     By(u16, u16),
     Limit(Place, u32),
     Stop,
-    Stored(Stored),
+    Stored(StoreMove),
 }
 
 /// Who makes a move.
@@ -89,23 +89,23 @@ pub(crate) enum Actor {
     Clock(u16),
     Nobody,
     /// What may happen to a process beside what its threads do, of each kind by itself.
-    Stored(Stored),
+    Stored(StoreMove),
 }
 
-impl Stored {
+impl StoreMove {
     fn actor(self) -> Actor {
         Actor::Stored(match self {
-            Stored::Job(process, thread) | Stored::Ask(process, thread, ..) => return Actor::Who(Who::Thread(process, thread)),
-            Stored::Due(process, ..) => Stored::Due(process, 0, 0, 0),
-            Stored::Gone(process, _) => Stored::Gone(process, 0),
-            Stored::Late(process, ..) => Stored::Late(process, 0, 0),
+            StoreMove::Job(process, thread) | StoreMove::Ask(process, thread, ..) => return Actor::Who(Who::Thread(process, thread)),
+            StoreMove::Due(process, ..) => StoreMove::Due(process, 0, 0, 0),
+            StoreMove::Gone(process, _) => StoreMove::Gone(process, 0),
+            StoreMove::Late(process, ..) => StoreMove::Late(process, 0, 0),
             other => other,
         })
     }
 
     /// Whether it is a call of a store that isn't answered.
     pub(crate) fn goes_wrong(self) -> bool {
-        matches!(self, Stored::Ask(.., way) if way > 0)
+        matches!(self, StoreMove::Ask(.., way) if way > 0)
     }
 }
 
@@ -134,18 +134,18 @@ impl fmt::Display for Who {
     }
 }
 
-impl fmt::Display for Stored {
+impl fmt::Display for StoreMove {
     fn fmt(&self, f: &mut fmt::Formatter<'_>) -> fmt::Result {
         match self {
-            Stored::Job(process, thread) => write!(f, "job.p{process}.{thread}"),
-            Stored::Ask(process, thread, time, way) => write!(f, "ask.p{process}.{thread}.{time}.{way}"),
-            Stored::Late(process, thread, time) => write!(f, "late.p{process}.{thread}.{time}"),
-            Stored::Look(process) => write!(f, "look.p{process}"),
-            Stored::Due(process, request, stage, number) => write!(f, "due.p{process}.{request}.{stage}.{number}"),
-            Stored::Gone(process, other) => write!(f, "gone.p{process}.{other}"),
-            Stored::Kill(process) => write!(f, "kill.p{process}"),
-            Stored::Land(number) => write!(f, "land.{number}"),
-            Stored::Spare => f.write_str("spare"),
+            StoreMove::Job(process, thread) => write!(f, "job.p{process}.{thread}"),
+            StoreMove::Ask(process, thread, time, way) => write!(f, "ask.p{process}.{thread}.{time}.{way}"),
+            StoreMove::Late(process, thread, time) => write!(f, "late.p{process}.{thread}.{time}"),
+            StoreMove::Look(process) => write!(f, "look.p{process}"),
+            StoreMove::Due(process, request, stage, number) => write!(f, "due.p{process}.{request}.{stage}.{number}"),
+            StoreMove::Gone(process, other) => write!(f, "gone.p{process}.{other}"),
+            StoreMove::Kill(process) => write!(f, "kill.p{process}"),
+            StoreMove::Land(number) => write!(f, "land.{number}"),
+            StoreMove::Spare => f.write_str("spare"),
         }
     }
 }
@@ -186,17 +186,17 @@ fn process(part: &str) -> Result<u16, ()> {
     number(part.strip_prefix('p').ok_or(())?)
 }
 
-fn stored(parts: &[&str]) -> Result<Stored, ()> {
+fn stored(parts: &[&str]) -> Result<StoreMove, ()> {
     Ok(match parts {
-        ["job", its, thread] => Stored::Job(process(its)?, number(thread)?),
-        ["ask", its, thread, time, way] => Stored::Ask(process(its)?, number(thread)?, number(time)?, number(way)?),
-        ["late", its, thread, time] => Stored::Late(process(its)?, number(thread)?, number(time)?),
-        ["look", its] => Stored::Look(process(its)?),
-        ["due", its, request, stage, limit] => Stored::Due(process(its)?, number(request)?, number(stage)?, number(limit)?),
-        ["gone", its, other] => Stored::Gone(process(its)?, number(other)?),
-        ["kill", its] => Stored::Kill(process(its)?),
-        ["land", put] => Stored::Land(number(put)?),
-        ["spare"] => Stored::Spare,
+        ["job", its, thread] => StoreMove::Job(process(its)?, number(thread)?),
+        ["ask", its, thread, time, way] => StoreMove::Ask(process(its)?, number(thread)?, number(time)?, number(way)?),
+        ["late", its, thread, time] => StoreMove::Late(process(its)?, number(thread)?, number(time)?),
+        ["look", its] => StoreMove::Look(process(its)?),
+        ["due", its, request, stage, limit] => StoreMove::Due(process(its)?, number(request)?, number(stage)?, number(limit)?),
+        ["gone", its, other] => StoreMove::Gone(process(its)?, number(other)?),
+        ["kill", its] => StoreMove::Kill(process(its)?),
+        ["land", put] => StoreMove::Land(number(put)?),
+        ["spare"] => StoreMove::Spare,
         _ => return Err(()),
     })
 }

@@ -3,7 +3,7 @@ use super::chance::Chance;
 use super::moves::moves_of;
 use super::report::Report;
 use super::run::Test;
-use super::runner::{How, NeedsThreads, Runner};
+use super::runner::{NeedsThreads, RunEnd, Runner};
 use super::smaller::{pairs_of, Smaller};
 use super::state::Settings;
 use super::tree::Tree;
@@ -208,21 +208,21 @@ impl Orders {
             let moves = moves_of(row).unwrap_or_else(|word| panic!("a row has no move {word:?}"));
             let ran = runner.again(&moves);
             report.orders = 1;
-            if ran.how == How::Failed {
+            if ran.how == RunEnd::Failed {
                 report.failed.push(ran.failure());
                 report.failed[0].pairs = pairs_of(runner, &report.failed[0]);
             }
             return report;
         }
         if self.chance > 0 {
-            Chance::new(self.seed).go(runner, &mut report, self.chance, until, self.failures);
+            Chance::new(self.seed).run_some(runner, &mut report, self.chance, until, self.failures);
         } else {
             self.in_turn(runner, &mut report, until);
         }
         report.failed = report.failed.iter().map(|failure| runner.again(&failure.moves).failure()).collect();
         if self.smaller {
             report.failed.truncate(MOST_TOLD);
-            report.failed = report.failed.into_iter().map(|failure| Smaller::of(runner, failure)).collect();
+            report.failed = report.failed.into_iter().map(|failure| Smaller::make_smaller(runner, failure)).collect();
             report.failed.iter_mut().for_each(|failure| failure.pairs = pairs_of(runner, failure));
         }
         report
@@ -232,14 +232,14 @@ impl Orders {
     /// soon by chance.
     fn in_turn(&self, runner: &mut Runner, report: &mut Report, until: Instant) {
         let (mut tree, at_first) = (Tree::new(runner), AT_FIRST.min(self.most));
-        tree.go(runner, report, at_first, until, self.failures);
-        if report.whole || report.failed.len() >= self.failures || self.most <= at_first {
+        tree.run_some(runner, report, at_first, until, self.failures);
+        if report.whole {
             return;
         }
         let now = Instant::now();
         let part = now + until.saturating_duration_since(now) / PART;
         let left = self.most - at_first;
-        Chance::new(self.seed).go(runner, report, left.min(self.most / u64::from(PART)), part, self.failures);
-        tree.go(runner, report, left - report.by_chance, until, self.failures);
+        Chance::new(self.seed).run_some(runner, report, left.min(self.most / u64::from(PART)), part, self.failures);
+        tree.run_some(runner, report, left - report.by_chance, until, self.failures);
     }
 }

@@ -48,7 +48,7 @@ impl fmt::Display for Report {
 /// A move in words, and what it settled.
 #[derive(Clone, Debug, PartialEq, Eq)]
 #[non_exhaustive]
-pub struct Told {
+pub struct ToldMove {
     /// Such as `charge is called`.
     pub text: String,
     /// Such as `charge ends: 49`.
@@ -72,7 +72,7 @@ pub struct Failure {
     /// What doesn't hold.
     pub why: String,
     /// The moves in words, with what each settled.
-    pub told: Vec<Told>,
+    pub told: Vec<ToldMove>,
     /// The pairs of moves that decide.
     pub pairs: Vec<Pair>,
     /// The history of each request in memory, in the order in which they were opened. Of requests in a store, `cf-store`'s trait `Histories` gives them.
@@ -82,7 +82,7 @@ pub struct Failure {
 }
 
 impl Failure {
-    pub(crate) fn new(why: String, moves: Vec<Move>, told: Vec<Told>, histories: Vec<History>, stored: Vec<Arc<dyn StoredHistory>>) -> Failure {
+    pub(crate) fn new(why: String, moves: Vec<Move>, told: Vec<ToldMove>, histories: Vec<History>, stored: Vec<Arc<dyn StoredHistory>>) -> Failure {
         Failure { why, told, pairs: Vec::new(), histories, stored, moves }
     }
 
@@ -103,7 +103,7 @@ impl Failure {
     ///
     /// Where the order has no such request.
     pub fn account(&self, request: usize) -> String {
-        self.histories.get(request).map_or_else(|| self.of_store(request).account(), History::account)
+        self.histories.get(request).map_or_else(|| self.stored_history(request).account(), History::account)
     }
 
     /// The script of a request, for `cf run` and `cf_look dot`.
@@ -112,7 +112,7 @@ impl Failure {
     ///
     /// As [`account`](Failure::account).
     pub fn script(&self, request: usize) -> String {
-        self.histories.get(request).map_or_else(|| self.of_store(request).script(), History::script)
+        self.histories.get(request).map_or_else(|| self.stored_history(request).script(), History::script)
     }
 
     /// The page of a request for a browser, as [`History::page`] makes it.
@@ -134,7 +134,7 @@ impl Failure {
         &self.stored
     }
 
-    fn of_store(&self, request: usize) -> &dyn StoredHistory {
+    fn stored_history(&self, request: usize) -> &dyn StoredHistory {
         &*self.stored[request - self.histories.len()]
     }
 }

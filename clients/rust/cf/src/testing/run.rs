@@ -3,32 +3,32 @@
 //! What may differ from run to run is small and known: which ready function is claimed, called or finished next, which future that was woken is
 //! polled, what comes from outside, what another caller does, which limit passes. Each is a move; what it leads to in the graph, and all that the
 //! code does that it runs, belongs to it.
-use super::carrier::{Act, Carriers, Leaves};
-use super::footprint::{Footprint, How, Thing};
-use super::moves::{Move, Place, Stored, Who};
+use super::carrier::{Act, Carriers, LeavePanic};
+use super::footprint::{Access, Footprint, Thing};
+use super::moves::{Move, Place, StoreMove, Who};
 use super::state::{Check, Claim, Flight, Rings, Settings, State, Until, Wait, Way};
 use super::stored::StoredHistory;
 use super::watch::Here;
 use super::world::World;
 use crate::core::Core;
-use crate::describe::escaped;
+use crate::describe::escape_text;
 use crate::error::{Error, Panic};
 use crate::history::History;
-use crate::spawn::{as_caller, quietly, Payload, CALLER, FIRST_WORKER};
+use crate::spawn::{as_caller, swallow_panic, Payload, CALLER, FIRST_WORKER};
 use crate::task::Polling;
-use crate::value::{Gave, Given};
+use crate::value::{CallArgs, Returned};
 use std::collections::BTreeSet;
 use std::panic::{catch_unwind, AssertUnwindSafe};
 use std::sync::{Arc, Mutex, MutexGuard, PoisonError};
 
 /// A test, and what it gave back.
-pub(crate) type Test = Arc<dyn Fn(&World) -> Vec<super::state::Open> + Send + Sync>;
+pub(crate) type Test = Arc<dyn Fn(&World) -> Vec<super::state::NotSettled> + Send + Sync>;
 
 /// The order ends here: it fails, or is to be begun again with threads, as the state says.
 pub(crate) struct Stopped;
 
 /// What is left of a run that has ended.
-pub(crate) struct Left {
+pub(crate) struct RunRemains {
     /// In the order in which they were opened.
     pub(crate) requests: Vec<Arc<Core>>,
     /// The words of a store's requests.
@@ -65,8 +65,8 @@ impl Run {
         let mut guard = self.lock();
         let state = &mut *guard;
         let mut keys = Vec::new();
-        state.flights.iter().for_each(|(who, flight)| next_of(*who, flight, &mut keys));
-        if free(state) > 0 {
+        state.flights.iter().for_each(|(who, flight)| push_next_moves(*who, flight, &mut keys));
+        if free_workers(state) > 0 {
             for (number, request) in (0..).zip(&state.requests) {
                 keys.extend(request.ready.iter().map(|stage| Move::Begin((number, *stage))));
             }
@@ -81,7 +81,7 @@ impl Run {
                 keys.push(Move::By(number, caller.called));
             }
         }
-        let (limits, settings, is_shared) = (limits(state), state.settings, state.sharing.is_some());
+        let (limits, settings, is_shared) = (next_limits(state), state.settings, state.sharing.is_some());
         drop(guard);
         keys.extend(&limits);
         if is_shared {
@@ -106,11 +106,11 @@ impl Run {
         state.settled.clear();
         match key {
             Move::Begin(place) | Move::Call(place) | Move::Poll(place) | Move::End(place) => {
-                state.touch(Thing::Flight(Who::Function(place)), How::Changes);
+                state.touch(Thing::Flight(Who::Function(place)), Access::Changes);
             }
-            Move::Go(who) | Move::Choose(who, _) => state.touch(Thing::Flight(who), How::Changes),
-            Move::Come(number, _) => state.touch(Thing::Outside(number), How::Changes),
-            Move::By(number, _) => state.touch(Thing::Flight(Who::Caller(number)), How::Changes),
+            Move::Go(who) | Move::Choose(who, _) => state.touch(Thing::Flight(who), Access::Changes),
+            Move::Come(number, _) => state.touch(Thing::Outside(number), Access::Changes),
+            Move::By(number, _) => state.touch(Thing::Flight(Who::Caller(number)), Access::Changes),
             Move::Limit(..) | Move::Stop | Move::Stored(_) => {}
         }
         drop(state);
@@ -118,22 +118,22 @@ impl Run {
             Move::Begin(place) => self.begin(place)?,
             Move::Call(place) => self.call(place, carriers)?,
             Move::Poll(place) => self.poll(place, carriers)?,
-            Move::Go(who) => self.go(who, None, carriers)?,
-            Move::Choose(who, way) => self.go(who, Some(way), carriers)?,
+            Move::Go(who) => self.resume_code(who, None, carriers)?,
+            Move::Choose(who, way) => self.resume_code(who, Some(way), carriers)?,
             Move::End(place) => self.end(place)?,
-            Move::Come(number, way) => self.come(number, way)?,
-            Move::By(number, _) => self.by(number, carriers)?,
-            Move::Limit(place, number) => self.limit(place, number)?,
-            Move::Stored(key) => self.stored(key, carriers)?,
+            Move::Come(number, way) => self.settle_from_outside(number, way)?,
+            Move::By(number, _) => self.make_call(number, carriers)?,
+            Move::Limit(place, number) => self.pass_limit(place, number)?,
+            Move::Stored(key) => self.make_store_move(key, carriers)?,
             Move::Stop => {
                 let mut state = self.lock();
                 state.is_stopped = true;
                 let requests: BTreeSet<u16> = state.timers.iter().map(|timer| timer.place.0).collect();
-                requests.into_iter().for_each(|request| state.touch(Thing::Clock(request), How::Changes));
+                requests.into_iter().for_each(|request| state.touch(Thing::Clock(request), Access::Changes));
             }
         }
         let mut state = self.lock();
-        state.scan();
+        state.scan_requests();
         let footprint = state.footprint.take().unwrap_or_default();
         drop(state);
         Ok(footprint)
@@ -146,17 +146,17 @@ impl Run {
     fn begin(self: &Arc<Run>, place: Place) -> Result<(), Stopped> {
         let mut state = self.lock();
         if state.settings.workers > 0 {
-            state.touch(Thing::Workers, How::Changes);
-            state.weight = state.weight.saturating_mul(free(&state) as u128);
+            state.touch(Thing::Workers, Access::Changes);
+            state.weight = state.weight.saturating_mul(free_workers(&state) as u128);
         }
         let who = FIRST_WORKER + (state.flights.len() % NUMBERS) as u8;
         let shares = state.shares(place);
         drop(state);
         let core = self.core(place.0);
-        let (name, call) = self.kit(|| {
+        let (name, call) = self.run_layer(|| {
             core.change(|inner, after| {
                 let (stage, call, args) = inner.claim(who, place.1, after);
-                (inner.name(stage), (call, inner.given(args)))
+                (inner.name(stage), (call, inner.call_args(args)))
             })
         })?;
         let claim = Claim { who, call: Some(call), gave: None, woken: None };
@@ -166,44 +166,44 @@ impl Run {
     }
 
     /// What functions share that this one does.
-    pub(crate) fn share(state: &mut State, who: Who) {
+    pub(crate) fn note_sharing(state: &mut State, who: Who) {
         let shares = state.flight(who).map_or(Vec::new(), |flight| flight.shares.clone());
         if !shares.contains(&Thing::User) && !state.checks.is_empty() && !matches!(who, Who::Thread(..)) {
-            state.touch(Thing::Checked, How::Changes);
+            state.touch(Thing::Checked, Access::Changes);
         }
-        shares.into_iter().for_each(|thing| state.touch(thing, How::Changes));
+        shares.into_iter().for_each(|thing| state.touch(thing, Access::Changes));
     }
 
     fn call(self: &Arc<Run>, place: Place, carriers: &mut Carriers) -> Result<(), Stopped> {
         let who = Who::Function(place);
         let mut state = self.lock();
-        Run::share(&mut state, who);
+        Run::note_sharing(&mut state, who);
         let claim = state.flight(who).and_then(|flight| flight.claim.as_mut()).expect("it is claimed");
         let ((call, given), number) = (claim.call.take().expect("it is called once"), claim.who);
         drop(state);
         let (run, core) = (Arc::clone(self), self.core(place.0));
-        let act = move || as_caller(number, || run.called(&core, place, number, || call(&given)));
+        let act = move || as_caller(number, || run.call_function(&core, place, number, || call(&given)));
         self.carry(who, Box::new(act), carriers)
     }
 
     /// Calls a function of a stage, and keeps what it gives.
-    fn called(&self, core: &Arc<Core>, place: Place, number: u8, call: impl FnOnce() -> Gave) {
+    fn call_function(&self, core: &Arc<Core>, place: Place, number: u8, call: impl FnOnce() -> Returned) {
         match catch_unwind(AssertUnwindSafe(call)) {
-            Ok(Gave::Later(future)) => Polling::begin(core, number, place.1, future),
-            Ok(gave) => self.gave(place, gave),
-            Err(payload) => self.gave(place, Gave::Error(Error::Panicked(Panic::of(payload)))),
+            Ok(Returned::Later(future)) => Polling::poll_first(core, number, place.1, future),
+            Ok(gave) => self.take_returned(place, gave),
+            Err(payload) => self.take_returned(place, Returned::Error(Error::Panicked(Panic::new(payload)))),
         }
     }
 
     /// What a stage's function gave, unless it was left.
-    pub(crate) fn gave(&self, place: Place, gave: Gave) {
+    pub(crate) fn take_returned(&self, place: Place, gave: Returned) {
         let mut state = self.lock();
         let is_left = state.is_closed || state.needs_threads || !state.why.is_empty();
         match state.flight(Who::Function(place)).and_then(|flight| flight.claim.as_mut()) {
             Some(claim) if !is_left => claim.gave = Some(gave),
             _ => {
                 drop(state);
-                quietly(|| drop(gave));
+                swallow_panic(|| drop(gave));
             }
         }
     }
@@ -211,46 +211,46 @@ impl Run {
     fn poll(self: &Arc<Run>, place: Place, carriers: &mut Carriers) -> Result<(), Stopped> {
         let who = Who::Function(place);
         let mut state = self.lock();
-        Run::share(&mut state, who);
+        Run::note_sharing(&mut state, who);
         let claim = state.flight(who).and_then(|flight| flight.claim.as_mut()).expect("it is claimed");
         let (polling, number) = (claim.woken.take().expect("it was woken"), claim.who);
         drop(state);
         self.carry(who, Box::new(move || as_caller(number, || polling.poll())), carriers)
     }
 
-    pub(crate) fn go(self: &Arc<Run>, who: Who, chosen: Option<u16>, carriers: &mut Carriers) -> Result<(), Stopped> {
+    pub(crate) fn resume_code(self: &Arc<Run>, who: Who, chosen: Option<u16>, carriers: &mut Carriers) -> Result<(), Stopped> {
         let mut state = self.lock();
-        Run::share(&mut state, who);
+        Run::note_sharing(&mut state, who);
         let flight = state.flight(who).expect("who goes on is there");
         let (wait, carrier) = (flight.wait.take(), flight.carrier.clone().expect("what waits has a thread"));
         flight.chosen = chosen.unwrap_or(0);
         if let Some(Wait { until: Until::Settled(_, place), .. }) = &wait {
-            state.touch(Thing::Stage(*place), How::Reads);
+            state.touch(Thing::Stage(*place), Access::Reads);
         }
         drop(state);
         let has_ended = carrier.resume();
-        self.carried(who, carrier, has_ended, carriers);
-        self.stops()
+        self.keep_carried(who, carrier, has_ended, carriers);
+        self.check_stopped()
     }
 
     fn end(self: &Arc<Run>, place: Place) -> Result<(), Stopped> {
         let mut state = self.lock();
         if state.settings.workers > 0 {
-            state.touch(Thing::Workers, How::Changes);
+            state.touch(Thing::Workers, Access::Changes);
         }
         let flight = state.take_flight(Who::Function(place)).expect("it was called");
         let claim = flight.claim.expect("it is claimed");
         let gave = claim.gave.expect("it gave something");
-        if let (Gave::Error(Error::Panicked(panic)), false) = (&gave, state.settings.panics) {
+        if let (Returned::Error(Error::Panicked(panic)), false) = (&gave, state.settings.panics) {
             state.fail(format!("{} panicked: {}", flight.name, panic.message()));
             return Err(Stopped);
         }
         drop(state);
         let core = self.core(place.0);
-        self.kit(|| core.end(claim.who, place.1, gave))
+        self.run_layer(|| core.finish(claim.who, place.1, gave))
     }
 
-    fn come(self: &Arc<Run>, number: u16, way: u16) -> Result<(), Stopped> {
+    fn settle_from_outside(self: &Arc<Run>, number: u16, way: u16) -> Result<(), Stopped> {
         let mut state = self.lock();
         let arrival = &mut state.outside[usize::from(number)];
         let (core, place, way) = (Arc::clone(&arrival.core), arrival.place, arrival.ways[usize::from(way)].clone());
@@ -261,10 +261,10 @@ impl Run {
             Way::Error(error) => Err(error),
             Way::Never => return Ok(()),
         };
-        self.kit(|| drop(core.settle(CALLER, place.1, with)))
+        self.run_layer(|| drop(core.settle(CALLER, place.1, with)))
     }
 
-    fn by(self: &Arc<Run>, number: u16, carriers: &mut Carriers) -> Result<(), Stopped> {
+    fn make_call(self: &Arc<Run>, number: u16, carriers: &mut Carriers) -> Result<(), Stopped> {
         let mut state = self.lock();
         let caller = &mut state.callers[usize::from(number)];
         caller.called += 1;
@@ -273,30 +273,30 @@ impl Run {
         let flight = Flight { name, claim: None, wait: None, waits: 0, is_late: false, chosen: 0, carrier: None, shares };
         let who = Who::Caller(number);
         state.flights.push((who, flight));
-        Run::share(&mut state, who);
+        Run::note_sharing(&mut state, who);
         drop(state);
-        self.carry_named(who, call, carriers)
+        self.carry_call(who, call, carriers)
     }
 
-    fn limit(self: &Arc<Run>, place: Place, number: u32) -> Result<(), Stopped> {
+    fn pass_limit(self: &Arc<Run>, place: Place, number: u32) -> Result<(), Stopped> {
         let mut guard = self.lock();
         let state = &mut *guard;
         let at = state.timers.iter().position(|timer| timer.place.0 == place.0 && timer.number == number).expect("it is due");
         let timer = state.timers.remove(at);
         state.passed.push(place);
-        state.touch(Thing::Clock(place.0), How::Changes);
+        state.touch(Thing::Clock(place.0), Access::Changes);
         let others: Vec<Place> = state.passed.iter().chain(state.timers.iter().map(|timer| &timer.place)).copied().collect();
-        others.into_iter().filter(|other| other.0 == place.0).for_each(|other| state.touch(Thing::Stage(other), How::Reads));
+        others.into_iter().filter(|other| other.0 == place.0).for_each(|other| state.touch(Thing::Stage(other), Access::Reads));
         let request = state.request(place.0);
         request.now = request.now.max(timer.due);
         match timer.rings {
             Rings::Limit => {
                 let core = Arc::clone(&request.core);
                 drop(guard);
-                self.kit(|| core.pass(timer.due))
+                self.run_layer(|| core.pass_time_to(timer.due))
             }
             Rings::Wait(who, waits, _) => {
-                state.touch(Thing::Flight(who), How::Changes);
+                state.touch(Thing::Flight(who), Access::Changes);
                 if let Some(flight) = state.flight(who).filter(|flight| flight.waits == waits) {
                     flight.is_late = true;
                 }
@@ -308,20 +308,20 @@ impl Run {
     // Code that isn't the kit's.
 
     /// Does something of the layer on the search's thread. A waker or a `Drop` that panics fails the order.
-    pub(crate) fn kit<T>(self: &Arc<Run>, act: impl FnOnce() -> T) -> Result<T, Stopped> {
+    pub(crate) fn run_layer<T>(self: &Arc<Run>, act: impl FnOnce() -> T) -> Result<T, Stopped> {
         let here = Here { run: Arc::clone(self), who: None, carrier: None };
-        let done = here.during(|| catch_unwind(AssertUnwindSafe(act)));
+        let done = here.run_as(|| catch_unwind(AssertUnwindSafe(act)));
         match done {
-            Ok(done) => self.stops().map(|()| done),
+            Ok(done) => self.check_stopped().map(|()| done),
             Err(payload) => {
-                self.panicked("a waker or a drop", payload);
+                self.note_panic("a waker or a drop", payload);
                 Err(Stopped)
             }
         }
     }
 
     /// Whether the order ends here.
-    fn stops(&self) -> Result<(), Stopped> {
+    fn check_stopped(&self) -> Result<(), Stopped> {
         let state = self.lock();
         if state.needs_threads || !state.why.is_empty() {
             return Err(Stopped);
@@ -330,21 +330,21 @@ impl Run {
     }
 
     /// Code has panicked that may not, unless it was left.
-    fn panicked(&self, name: &str, payload: Payload) {
-        if payload.downcast_ref::<Leaves>().is_some() {
+    fn note_panic(&self, name: &str, payload: Payload) {
+        if payload.downcast_ref::<LeavePanic>().is_some() {
             return;
         }
-        let panic = Panic::of(payload);
+        let panic = Panic::new(payload);
         self.lock().fail(format!("{name} panicked: {}", panic.message()));
     }
 
     /// Calls what may not panic.
-    pub(crate) fn carry_named(self: &Arc<Run>, who: Who, call: Act, carriers: &mut Carriers) -> Result<(), Stopped> {
+    pub(crate) fn carry_call(self: &Arc<Run>, who: Who, call: Act, carriers: &mut Carriers) -> Result<(), Stopped> {
         let run = Arc::clone(self);
         let name = self.lock().flight(who).map_or(String::new(), |flight| flight.name.clone());
         let act = move || {
             if let Err(payload) = catch_unwind(AssertUnwindSafe(call)) {
-                run.panicked(&name, payload);
+                run.note_panic(&name, payload);
             }
         };
         self.carry(who, Box::new(act), carriers)
@@ -355,30 +355,30 @@ impl Run {
         if self.lock().settings.has_threads {
             let carrier = carriers.take();
             let here = Here { run: Arc::clone(self), who: Some(who), carrier: Some(Arc::clone(&carrier)) };
-            let has_ended = carrier.begin(Box::new(move || here.during(act)));
-            self.carried(who, carrier, has_ended, carriers);
+            let has_ended = carrier.begin(Box::new(move || here.run_as(act)));
+            self.keep_carried(who, carrier, has_ended, carriers);
         } else {
             let here = Here { run: Arc::clone(self), who: Some(who), carrier: None };
-            let ended = here.during(|| catch_unwind(AssertUnwindSafe(act)));
+            let ended = here.run_as(|| catch_unwind(AssertUnwindSafe(act)));
             if let Err(payload) = ended {
-                self.panicked("a waker or a drop", payload);
+                self.note_panic("a waker or a drop", payload);
             }
-            self.ended(who);
+            self.note_ended(who);
         }
-        self.stops()
+        self.check_stopped()
     }
 
-    fn carried(&self, who: Who, carrier: Arc<super::carrier::Carrier>, has_ended: bool, carriers: &mut Carriers) {
+    fn keep_carried(&self, who: Who, carrier: Arc<super::carrier::Carrier>, has_ended: bool, carriers: &mut Carriers) {
         if has_ended {
             carriers.give(carrier);
-            self.ended(who);
+            self.note_ended(who);
         } else if let Some(flight) = self.lock().flight(who) {
             flight.carrier = Some(carrier);
         }
     }
 
     /// Code has come to its end, or its future rests.
-    fn ended(&self, who: Who) {
+    fn note_ended(&self, who: Who) {
         let mut state = self.lock();
         match who {
             Who::Function(_) => {
@@ -414,17 +414,17 @@ impl Run {
             let awaited = test(&world);
             run.lock().awaited = awaited;
         };
-        self.carry_named(Who::Test, Box::new(call), carriers)?;
+        self.carry_call(Who::Test, Box::new(call), carriers)?;
         let mut state = self.lock();
-        state.scan();
+        state.scan_requests();
         state.footprint = None;
         state.settled.clear();
         Ok(())
     }
 
     /// Looks whether all that must hold between moves does. What that looks at is added to what is watched, and a move that changes it is marked.
-    pub(crate) fn look(self: &Arc<Run>, watched: &mut BTreeSet<Thing>, footprint: &mut Footprint) -> Result<(), Stopped> {
-        self.stops()?;
+    pub(crate) fn check_all(self: &Arc<Run>, watched: &mut BTreeSet<Thing>, footprint: &mut Footprint) -> Result<(), Stopped> {
+        self.check_stopped()?;
         let mut state = self.lock();
         if state.checks.is_empty() {
             return Ok(());
@@ -432,33 +432,33 @@ impl Run {
         let mut checks = std::mem::take(&mut state.checks);
         state.footprint = Some(Footprint::default());
         drop(state);
-        let held = checks.iter_mut().try_for_each(|check| self.holds(check));
+        let held = checks.iter_mut().try_for_each(|check| self.check_one(check));
         let mut state = self.lock();
         checks.append(&mut state.checks);
         state.checks = checks;
         let seen = state.footprint.take().unwrap_or_default();
         drop(state);
         watched.extend(seen.things().map(|it| it.0));
-        let is_seen = |(thing, how): (Thing, How)| thing == Thing::User || how == How::Changes && watched.contains(&thing);
+        let is_seen = |(thing, how): (Thing, Access)| thing == Thing::User || how == Access::Changes && watched.contains(&thing);
         if footprint.things().any(is_seen) {
-            footprint.touch(Thing::Checked, How::Changes);
+            footprint.touch(Thing::Checked, Access::Changes);
         }
         held
     }
 
-    fn holds(self: &Arc<Run>, check: &mut Check) -> Result<(), Stopped> {
+    fn check_one(self: &Arc<Run>, check: &mut Check) -> Result<(), Stopped> {
         let here = Here { run: Arc::clone(self), who: None, carrier: None };
-        let held = here.during(|| catch_unwind(AssertUnwindSafe(|| (check.holds)())));
+        let held = here.run_as(|| catch_unwind(AssertUnwindSafe(|| (check.holds)())));
         match held {
             Ok(true) => {}
             Ok(false) => self.lock().fail(check.text.clone()),
-            Err(payload) if payload.downcast_ref::<Leaves>().is_some() => {}
+            Err(payload) if payload.downcast_ref::<LeavePanic>().is_some() => {}
             Err(payload) => {
-                let panic = Panic::of(payload);
+                let panic = Panic::new(payload);
                 self.lock().fail(format!("{}: {}", check.text, panic.message()));
             }
         }
-        self.stops()
+        self.check_stopped()
     }
 
     /// Nothing may come any more: looks whether all that must hold at the end does.
@@ -475,28 +475,28 @@ impl Run {
         }
         let (awaited, mut at_end) = (std::mem::take(&mut state.awaited), std::mem::take(&mut state.at_end));
         drop(state);
-        self.stops()?;
+        self.check_stopped()?;
         if let Some(name) = awaited.iter().find_map(|open| open()) {
             self.lock().fail(format!("{name} is never settled"));
         }
-        self.stops()?;
-        at_end.iter_mut().try_for_each(|check| self.holds(check))
+        self.check_stopped()?;
+        at_end.iter_mut().try_for_each(|check| self.check_one(check))
     }
 
     /// What the end is, by the test.
-    pub(crate) fn end_of(self: &Arc<Run>) -> Option<String> {
+    pub(crate) fn end_text(self: &Arc<Run>) -> Option<String> {
         let end = self.lock().end.take()?;
         let here = Here { run: Arc::clone(self), who: None, carrier: None };
-        here.during(|| catch_unwind(AssertUnwindSafe(end))).ok()
+        here.run_as(|| catch_unwind(AssertUnwindSafe(end))).ok()
     }
 
     /// Ends code that waits, and lets go of all but what is told of the run.
-    pub(crate) fn close(&self, carriers: &mut Carriers) -> Left {
+    pub(crate) fn close(&self, carriers: &mut Carriers) -> RunRemains {
         let state = self.lock();
         let waiting: Vec<_> = state.flights.iter().map(|it| &it.1).chain(&state.dead).filter_map(|it| it.carrier.clone()).collect();
         let (sharing, has_failed) = (state.sharing.clone(), !state.why.is_empty());
         drop(state);
-        let words = sharing.as_ref().map_or(Vec::new(), |sharing| sharing.words());
+        let words = sharing.as_ref().map_or(Vec::new(), |sharing| sharing.words_of_rows());
         let stored = sharing.filter(|_| has_failed).map_or(Vec::new(), |sharing| sharing.histories());
         for carrier in waiting {
             if carrier.end() {
@@ -504,7 +504,6 @@ impl Run {
             }
         }
         let mut state = self.lock();
-        state.is_closed = true;
         let settings = state.settings;
         let closed = std::mem::replace(&mut *state, State::new(settings));
         state.is_closed = true;
@@ -513,43 +512,43 @@ impl Run {
         state.needs_threads = closed.needs_threads;
         drop(state);
         let State { requests, flights, outside, callers, checks, at_end, end, awaited, sharing, dead, .. } = closed;
-        quietly(|| drop((flights, outside, callers, checks, at_end, end, awaited, dead)));
+        swallow_panic(|| drop((flights, outside, callers, checks, at_end, end, awaited, dead)));
         if let Some(sharing) = sharing {
-            quietly(|| sharing.close());
+            swallow_panic(|| sharing.close());
         }
-        Left { requests: requests.into_iter().map(|request| request.core).collect(), words, stored }
+        RunRemains { requests: requests.into_iter().map(|request| request.core).collect(), words, stored }
     }
 
     // In words.
 
     /// What this move settled, which was the last one, but what came from outside, and relays, whose stages are told.
-    pub(crate) fn told(&self, key: Move) -> Vec<String> {
+    pub(crate) fn settled_texts(&self, key: Move) -> Vec<String> {
         let mut state = self.lock();
-        state.scan();
+        state.scan_requests();
         let settled = std::mem::take(&mut state.settled);
         let came = if let Move::Come(number, _) = key { Some(state.outside[usize::from(number)].place) } else { None };
         let others = settled.into_iter().filter(|place| Some(*place) != came);
-        let told: Vec<String> = others.filter_map(|(number, stage)| ended(&state.request(number).core, stage)).collect();
+        let told: Vec<String> = others.filter_map(|(number, stage)| end_text(&state.request(number).core, stage)).collect();
         let sharing = state.sharing.clone();
         drop(state);
-        told.into_iter().chain(sharing.map_or(Vec::new(), |sharing| sharing.told())).collect()
+        told.into_iter().chain(sharing.map_or(Vec::new(), |sharing| sharing.take_told())).collect()
     }
 
     /// What a move is called. It is asked before the move is made.
-    pub(crate) fn text(&self, key: Move) -> String {
+    pub(crate) fn move_text(&self, key: Move) -> String {
         let mut state = self.lock();
         if let (Move::Stored(key), Some(sharing)) = (key, state.sharing.clone()) {
             let asked = match key {
-                Stored::Ask(process, thread, ..) => state.flight(Who::Thread(process, thread)),
+                StoreMove::Ask(process, thread, ..) => state.flight(Who::Thread(process, thread)),
                 _ => None,
             };
             let asks = asked.map_or(String::new(), |it| format!("{} {}", it.name, it.wait.as_ref().map_or("", |wait| &wait.name)));
             drop(state);
-            return asks + &sharing.text(key);
+            return asks + &sharing.move_text(key);
         }
         let flight = |state: &mut State, who: Who| state.flight(who).map_or(String::new(), |flight| flight.name.clone());
         match key {
-            Move::Begin((request, stage)) => format!("{} is claimed", name(&state.request(request).core, stage)),
+            Move::Begin((request, stage)) => format!("{} is claimed", stage_name(&state.request(request).core, stage)),
             Move::Call(place) => format!("{} is called", flight(&mut state, Who::Function(place))),
             Move::Poll(place) => format!("the future of {} is polled", flight(&mut state, Who::Function(place))),
             Move::Go(who) => format!("{} goes on", flight(&mut state, who)),
@@ -564,15 +563,15 @@ impl Run {
                 let who = Who::Function(place);
                 let gave = state.flight(who).and_then(|flight| flight.claim.as_ref()).and_then(|claim| claim.gave.as_ref());
                 let does = match gave {
-                    Some(Gave::Error(Error::Panicked(_))) => "panics",
-                    Some(Gave::Error(_)) => "fails",
+                    Some(Returned::Error(Error::Panicked(_))) => "panics",
+                    Some(Returned::Error(_)) => "fails",
                     _ => "returns",
                 };
                 format!("{} {does}", flight(&mut state, who))
             }
             Move::Come(number, way) => {
                 let arrival = &state.outside[usize::from(number)];
-                let (name, describe) = (name(&arrival.core, arrival.place.1), arrival.core.lock().describe.clone());
+                let (name, describe) = (stage_name(&arrival.core, arrival.place.1), arrival.core.lock().describe.clone());
                 match &arrival.ways[usize::from(way)] {
                     Way::Value(value) => format!("{name} comes: {}", describe.tell(Ok(value))),
                     Way::Error(error) => format!("{name} fails: {}", describe.tell(Err(error))),
@@ -595,7 +594,7 @@ impl Run {
                         let of = waits.and_then(|flight| flight.wait.as_ref()).map_or("", |wait| &wait.name);
                         format!("{} has waited {wait:?} for {of}", waits.map_or("", |flight| &flight.name))
                     }
-                    _ => format!("the limit of {} passes", name(&state.request(place.0).core, place.1)),
+                    _ => format!("the limit of {} passes", stage_name(&state.request(place.0).core, place.1)),
                 }
             }
             Move::Stop => "no limit passes any more".into(),
@@ -606,31 +605,31 @@ impl Run {
 
 /// The histories of requests.
 pub(crate) fn histories(requests: &[Arc<Core>]) -> Vec<History> {
-    requests.iter().map(|core| History::of(core)).collect()
+    requests.iter().map(|core| History::new(core)).collect()
 }
 
-fn name(core: &Core, stage: u16) -> String {
-    escaped(&core.lock().name(stage))
+fn stage_name(core: &Core, stage: u16) -> String {
+    escape_text(&core.lock().name(stage))
 }
 
 /// What a stage ended in, unless it is a relay.
-fn ended(core: &Core, stage: u16) -> Option<String> {
+fn end_text(core: &Core, stage: u16) -> Option<String> {
     let inner = core.lock();
-    let (name, told, describe) = (inner.name(stage), inner.told(stage)?, inner.describe.clone());
+    let (name, told, describe) = (inner.name(stage), inner.end_of(stage)?, inner.describe.clone());
     drop(inner);
     if name.starts_with("relay of ") {
         return None;
     }
-    let name = escaped(&name);
+    let name = escape_text(&name);
     Some(match &told {
         Err(Error::Cancelled) => format!("{name} is cancelled"),
-        Err(error) => format!("{name} ends: {}", escaped(&describe.tell(Err(error)))),
-        Ok(value) => format!("{name} ends: {}", escaped(&describe.tell(Ok(value)))),
+        Err(error) => format!("{name} ends: {}", escape_text(&describe.tell(Err(error)))),
+        Ok(value) => format!("{name} ends: {}", escape_text(&describe.tell(Ok(value)))),
     })
 }
 
 /// How many more functions may be claimed.
-fn free(state: &State) -> usize {
+fn free_workers(state: &State) -> usize {
     match state.settings.workers {
         0 => 1,
         workers => workers.saturating_sub(state.flights.iter().filter(|it| it.1.claim.is_some()).count()),
@@ -638,11 +637,11 @@ fn free(state: &State) -> usize {
 }
 
 /// What somebody whose code goes on may do next.
-fn next_of(who: Who, flight: &Flight, keys: &mut Vec<Move>) {
+fn push_next_moves(who: Who, flight: &Flight, keys: &mut Vec<Move>) {
     match (&flight.wait, &flight.claim, who) {
         (Some(Wait { until: Until::Chosen(ways), .. }), ..) => keys.extend((0..ways.len() as u16).map(|way| Move::Choose(who, way))),
         (Some(Wait { until: Until::Asks(time, ways), .. }), _, Who::Thread(process, thread)) => {
-            keys.extend(ways().into_iter().map(|way| Move::Stored(Stored::Ask(process, thread, *time, way))));
+            keys.extend(ways().into_iter().map(|way| Move::Stored(StoreMove::Ask(process, thread, *time, way))));
         }
         (Some(wait), ..) if flight.is_late || wait.is_over() => keys.push(Move::Go(who)),
         (None, Some(claim), Who::Function(place)) if claim.call.is_some() => keys.push(Move::Call(place)),
@@ -653,7 +652,7 @@ fn next_of(who: Who, flight: &Flight, keys: &mut Vec<Move>) {
 }
 
 /// The next limit of each request.
-fn limits(state: &mut State) -> Vec<Move> {
+fn next_limits(state: &mut State) -> Vec<Move> {
     if !state.settings.free_clock {
         let lost: Vec<bool> = state.timers.iter().map(|timer| state.is_lost(timer)).collect();
         let mut lost = lost.into_iter();
@@ -678,5 +677,5 @@ fn limits(state: &mut State) -> Vec<Move> {
 /// What a function is called with is sent to another thread.
 const _: fn() = || {
     fn is_send<T: Send>() {}
-    is_send::<Given>();
+    is_send::<CallArgs>();
 };

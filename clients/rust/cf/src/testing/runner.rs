@@ -2,11 +2,11 @@
 use super::carrier::Carriers;
 use super::footprint::{Footprint, Thing};
 use super::moves::{row_of, Move};
-use super::report::{Failure, Told};
-use super::run::{histories, Left, Run, Stopped, Test};
+use super::report::{Failure, ToldMove};
+use super::run::{histories, Run, RunRemains, Stopped, Test};
 use super::state::Settings;
 use super::watch::Here;
-use crate::spawn::quietly;
+use crate::spawn::swallow_panic;
 use std::collections::{BTreeSet, VecDeque};
 use std::panic::{catch_unwind, resume_unwind, AssertUnwindSafe};
 use std::sync::Arc;
@@ -14,15 +14,15 @@ use std::sync::Arc;
 /// Who chooses the moves of a run.
 pub(crate) trait Guide {
     /// The move at this place of the row, of those that are possible. With None the run is cut short.
-    fn chooses(&mut self, place: usize, keys: &[Move]) -> Option<Move>;
+    fn choose(&mut self, place: usize, keys: &[Move]) -> Option<Move>;
 
     /// A move was made, and touched this.
-    fn did(&mut self, _key: Move, _footprint: &Footprint) {}
+    fn note_made(&mut self, _key: Move, _footprint: &Footprint) {}
 }
 
 /// How a run ended: by itself, cut short by who chose, or failed.
 #[derive(Clone, Copy, Debug, PartialEq, Eq)]
-pub(crate) enum How {
+pub(crate) enum RunEnd {
     End,
     Cut,
     Failed,
@@ -30,16 +30,16 @@ pub(crate) enum How {
 
 /// A run that has ended. Its requests go with it.
 pub(crate) struct Ran {
-    pub(crate) how: How,
+    pub(crate) how: RunEnd,
     pub(crate) row: Vec<Move>,
     pub(crate) why: String,
-    pub(crate) told: Vec<Told>,
+    pub(crate) told: Vec<ToldMove>,
     /// What the end is, and in how many ways workers could have been chosen.
     pub(crate) end: Option<String>,
     pub(crate) weight: u128,
     /// Whether there are checks.
     pub(crate) is_checked: bool,
-    left: Left,
+    left: RunRemains,
 }
 
 impl Ran {
@@ -57,8 +57,8 @@ impl Drop for Ran {
     /// A function that was never called may have its own request, so all that is left is cancelled.
     fn drop(&mut self) {
         for core in self.left.requests.drain(..) {
-            quietly(|| core.cancel_all(crate::spawn::CALLER));
-            quietly(|| drop(core));
+            swallow_panic(|| core.cancel_all(crate::spawn::CALLER));
+            swallow_panic(|| drop(core));
         }
     }
 }
@@ -85,10 +85,10 @@ impl Runner {
         let run = Run::new(self.settings);
         let (mut row, mut told) = (Vec::new(), Vec::new());
         let here = Here { run: Arc::clone(&run), who: None, carrier: None };
-        let ended = here.during(|| {
+        let ended = here.run_as(|| {
             catch_unwind(AssertUnwindSafe(|| {
-                let how = self.led(&run, guide, tells, &mut row, &mut told).unwrap_or(How::Failed);
-                (how, if how == How::End { run.end_of() } else { None })
+                let how = self.led(&run, guide, tells, &mut row, &mut told).unwrap_or(RunEnd::Failed);
+                (how, if how == RunEnd::End { run.end_text() } else { None })
             }))
         });
         let is_checked = !run.lock().checks.is_empty();
@@ -96,7 +96,7 @@ impl Runner {
         let state = run.lock();
         let (why, weight, needs_threads) = (state.why.clone(), state.weight, state.needs_threads);
         drop(state);
-        let (ended, panicked) = ended.map_or_else(|payload| ((How::Failed, None), Some(payload)), |ended| (ended, None));
+        let (ended, panicked) = ended.map_or_else(|payload| ((RunEnd::Failed, None), Some(payload)), |ended| (ended, None));
         let ran = Ran { how: ended.0, row, why, told, end: ended.1, weight, is_checked, left };
         if let Some(payload) = panicked {
             resume_unwind(payload);
@@ -107,32 +107,32 @@ impl Runner {
         ran
     }
 
-    fn led(&mut self, run: &Arc<Run>, guide: &mut dyn Guide, tells: bool, row: &mut Vec<Move>, told: &mut Vec<Told>) -> Result<How, Stopped> {
+    fn led(&mut self, run: &Arc<Run>, guide: &mut dyn Guide, tells: bool, row: &mut Vec<Move>, told: &mut Vec<ToldMove>) -> Result<RunEnd, Stopped> {
         run.start(&self.test, &mut self.carriers)?;
-        run.look(&mut self.watched, &mut Footprint::default())?;
+        run.check_all(&mut self.watched, &mut Footprint::default())?;
         loop {
             let keys = run.moves();
-            let key = guide.chooses(row.len(), &keys);
+            let key = guide.choose(row.len(), &keys);
             if keys.is_empty() {
                 run.finish()?;
-                return Ok(How::End);
+                return Ok(RunEnd::End);
             }
             let key = match key {
                 Some(key) => key,
-                None => return Ok(How::Cut),
+                None => return Ok(RunEnd::Cut),
             };
             row.push(key);
             if tells {
-                told.push(Told { text: run.text(key), settled: Vec::new() });
+                told.push(ToldMove { text: run.move_text(key), settled: Vec::new() });
             }
             let mut made = run.make(key, &mut self.carriers);
             if tells {
-                told.last_mut().expect("it was told").settled = run.told(key);
+                told.last_mut().expect("it was told").settled = run.settled_texts(key);
             }
             if let Ok(footprint) = &mut made {
-                run.look(&mut self.watched, footprint)?;
+                run.check_all(&mut self.watched, footprint)?;
             }
-            guide.did(key, &made?);
+            guide.note_made(key, &made?);
         }
     }
 
@@ -169,7 +169,7 @@ impl Runner {
 
 fn came_to(ran: &Ran) -> String {
     match ran.how {
-        How::Failed => ran.why.clone(),
+        RunEnd::Failed => ran.why.clone(),
         _ => "an end".into(),
     }
 }
@@ -180,7 +180,7 @@ struct Again {
 }
 
 impl Guide for Again {
-    fn chooses(&mut self, _place: usize, keys: &[Move]) -> Option<Move> {
+    fn choose(&mut self, _place: usize, keys: &[Move]) -> Option<Move> {
         if keys.is_empty() {
             return None;
         }
@@ -203,14 +203,14 @@ struct InOrder {
 }
 
 impl Guide for InOrder {
-    fn chooses(&mut self, _place: usize, keys: &[Move]) -> Option<Move> {
+    fn choose(&mut self, _place: usize, keys: &[Move]) -> Option<Move> {
         match self.left.iter().position(|key| keys.contains(key)) {
             Some(at) => Some(self.left.remove(at)),
             None => keys.first().copied(),
         }
     }
 
-    fn did(&mut self, _key: Move, footprint: &Footprint) {
+    fn note_made(&mut self, _key: Move, footprint: &Footprint) {
         self.footprints.push(footprint.clone());
     }
 }
@@ -218,7 +218,7 @@ impl Guide for InOrder {
 struct Same<'a>(&'a [Move]);
 
 impl Guide for Same<'_> {
-    fn chooses(&mut self, place: usize, keys: &[Move]) -> Option<Move> {
+    fn choose(&mut self, place: usize, keys: &[Move]) -> Option<Move> {
         self.0.get(place).filter(|key| keys.contains(key)).copied()
     }
 }

@@ -2,7 +2,7 @@
 use super::footprint::{independent, Footprint};
 use super::moves::Move;
 use super::report::{Failure, Pair};
-use super::runner::{How, Runner};
+use super::runner::{RunEnd, Runner};
 
 /// How many runs making one smaller takes at most.
 const MOST: usize = 400;
@@ -16,7 +16,7 @@ pub(crate) struct Smaller<'a> {
 }
 
 impl Smaller<'_> {
-    pub(crate) fn of(runner: &mut Runner, failure: Failure) -> Failure {
+    pub(crate) fn make_smaller(runner: &mut Runner, failure: Failure) -> Failure {
         let given = failure.moves.clone();
         let mut smaller = Smaller { runner, best: failure, given, left: MOST };
         while smaller.left > 0 && (smaller.is_shorter() | smaller.has_fewer_switches()) {}
@@ -59,7 +59,7 @@ impl Smaller<'_> {
     fn is_better(&mut self, row: Vec<Move>) -> bool {
         self.left -= 1;
         let ran = self.runner.again(&row);
-        if ran.how != How::Failed || ran.why != self.best.why {
+        if ran.how != RunEnd::Failed || ran.why != self.best.why {
             return false;
         }
         let made = ran.failure();
@@ -88,7 +88,7 @@ pub(crate) fn pairs_of(runner: &mut Runner, failure: &Failure) -> Vec<Pair> {
             let (ran, _) = runner.in_order(&swapped);
             let did = ran.row.iter().position(|key| *key == row[second]);
             let is_second = did.map_or(false, |did| !ran.row[..did].contains(&row[first]));
-            if ran.how == How::End && is_second {
+            if ran.how == RunEnd::End && is_second {
                 pairs.push(Pair { first, second });
             }
         }

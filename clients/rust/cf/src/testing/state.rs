@@ -1,16 +1,16 @@
 //! What a run consists of, and what its moves touch.
 //!
 //! What happened to requests isn't told by anybody: behind each move their machines are asked for the words that came, with what these were
-//! answered and settled, and for what is ready ([`State::scan`]).
+//! answered and settled, and for what is ready ([`State::scan_requests`]).
 use super::carrier::Carrier;
-use super::footprint::{Behind, Footprint, How, Thing};
+use super::footprint::{Access, Dependents, Footprint, Thing};
 use super::moves::{Place, Who};
 use super::stored::Sharing;
 use crate::core::Core;
 use crate::error::Error;
-use crate::ledger::done_again;
+use crate::ledger::replay;
 use crate::task::Polling;
-use crate::value::{Call, Gave, Given, Val};
+use crate::value::{CallArgs, Returned, StageFn, Val};
 use crate::word::{self, ATTACH, CLAIM, FINISH, LINKS};
 use cf_graph::{Finished, Reply};
 use std::collections::{BTreeMap, BTreeSet, VecDeque};
@@ -35,7 +35,7 @@ pub(crate) struct Settings {
 }
 
 /// A request of the run.
-pub(crate) struct Opened {
+pub(crate) struct OpenedRequest {
     pub(crate) core: Arc<Core>,
     /// Whether something was done to it since it was looked at.
     pub(crate) is_dirty: bool,
@@ -63,7 +63,7 @@ pub(crate) enum Way {
 }
 
 /// Another caller, and the calls that it has yet to make.
-pub(crate) struct Caller {
+pub(crate) struct OtherCaller {
     pub(crate) name: String,
     pub(crate) calls: VecDeque<(Box<dyn FnOnce() + Send>, bool)>,
     pub(crate) called: u16,
@@ -94,9 +94,9 @@ pub(crate) struct Flight {
 
 pub(crate) struct Claim {
     pub(crate) who: u8,
-    pub(crate) call: Option<(Call, Given)>,
+    pub(crate) call: Option<(StageFn, CallArgs)>,
     /// What the function gave.
-    pub(crate) gave: Option<Gave>,
+    pub(crate) gave: Option<Returned>,
     /// It gave a future, which was woken.
     pub(crate) woken: Option<Arc<Polling>>,
 }
@@ -131,7 +131,7 @@ impl Wait {
 }
 
 /// What is due.
-pub(crate) struct Timer {
+pub(crate) struct WorldTimer {
     pub(crate) due: u64,
     pub(crate) number: u32,
     pub(crate) place: Place,
@@ -146,22 +146,22 @@ pub(crate) enum Rings {
 }
 
 /// Something that the test gave back: says what it is called, where it isn't settled.
-pub(crate) type Open = Box<dyn Fn() -> Option<String> + Send>;
+pub(crate) type NotSettled = Box<dyn Fn() -> Option<String> + Send>;
 
 pub(crate) struct State {
     pub(crate) settings: Settings,
-    pub(crate) requests: Vec<Opened>,
+    pub(crate) requests: Vec<OpenedRequest>,
     pub(crate) flights: Vec<(Who, Flight)>,
     pub(crate) outside: Vec<Arrival>,
-    pub(crate) callers: Vec<Caller>,
-    pub(crate) timers: Vec<Timer>,
+    pub(crate) callers: Vec<OtherCaller>,
+    pub(crate) timers: Vec<WorldTimer>,
     /// The stages of timers that passed, or that nobody wants any more.
     pub(crate) passed: Vec<Place>,
     pub(crate) checks: Vec<Check>,
     pub(crate) at_end: Vec<Check>,
     /// What the end is.
     pub(crate) end: Option<Box<dyn FnOnce() -> String + Send>>,
-    pub(crate) awaited: Vec<Open>,
+    pub(crate) awaited: Vec<NotSettled>,
     /// What functions share that were marked.
     pub(crate) marks: BTreeMap<Place, Vec<&'static str>>,
     /// In how many ways workers could have been chosen.
@@ -181,7 +181,7 @@ pub(crate) struct State {
     pub(crate) sharing: Option<Arc<dyn Sharing>>,
     /// What threads of killed processes had begun.
     pub(crate) dead: Vec<Flight>,
-    behind: Behind,
+    behind: Dependents,
     /// Relays of stages, also those that were let go.
     relays: BTreeMap<Place, Vec<Place>>,
     are_settled: BTreeSet<Place>,
@@ -212,14 +212,14 @@ impl State {
             settled: Vec::new(),
             sharing: None,
             dead: Vec::new(),
-            behind: Behind::default(),
+            behind: Dependents::default(),
             relays: BTreeMap::new(),
             are_settled: BTreeSet::new(),
         }
     }
 
     /// This move touches a thing.
-    pub(crate) fn touch(&mut self, thing: Thing, how: How) {
+    pub(crate) fn touch(&mut self, thing: Thing, how: Access) {
         if let Some(footprint) = &mut self.footprint {
             footprint.touch(thing, how);
         }
@@ -232,12 +232,12 @@ impl State {
         }
     }
 
-    pub(crate) fn open(&mut self, core: Arc<Core>) {
-        self.touch(Thing::Open, How::Changes);
-        self.requests.push(Opened { core, is_dirty: false, ready: Vec::new(), now: 0, timers_made: 0, seen: (0, 0) });
+    pub(crate) fn add_request(&mut self, core: Arc<Core>) {
+        self.touch(Thing::Open, Access::Changes);
+        self.requests.push(OpenedRequest { core, is_dirty: false, ready: Vec::new(), now: 0, timers_made: 0, seen: (0, 0) });
     }
 
-    pub(crate) fn request(&mut self, number: u16) -> &mut Opened {
+    pub(crate) fn request(&mut self, number: u16) -> &mut OpenedRequest {
         &mut self.requests[usize::from(number)]
     }
 
@@ -257,15 +257,15 @@ impl State {
     }
 
     pub(crate) fn add_timer(&mut self, place: Place, wait: Duration, rings: Rings) {
-        self.touch(Thing::Clock(place.0), How::Changes);
+        self.touch(Thing::Clock(place.0), Access::Changes);
         let request = self.request(place.0);
         request.timers_made += 1;
         let (due, number) = (request.now.saturating_add(u64::try_from(wait.as_nanos()).unwrap_or(u64::MAX)), request.timers_made);
-        self.timers.push(Timer { due, number, place, rings });
+        self.timers.push(WorldTimer { due, number, place, rings });
     }
 
     /// Whether nobody wants a timer any more.
-    pub(crate) fn is_lost(&self, timer: &Timer) -> bool {
+    pub(crate) fn is_lost(&self, timer: &WorldTimer) -> bool {
         match &timer.rings {
             Rings::Limit => self.requests[usize::from(timer.place.0)].core.lock().slot(timer.place.1).is_settled(),
             Rings::Wait(who, waits, _) => {
@@ -276,12 +276,12 @@ impl State {
     }
 
     /// A relay stands for a stage of another request.
-    pub(crate) fn linked(&mut self, relay: Place, of: Place) {
+    pub(crate) fn note_link(&mut self, relay: Place, of: Place) {
         self.relays.entry(of).or_default().push(relay);
     }
 
     /// Looks at what was done to requests since it was looked: what that touches, and what is ready.
-    pub(crate) fn scan(&mut self) {
+    pub(crate) fn scan_requests(&mut self) {
         for number in 0..self.requests.len() {
             if std::mem::take(&mut self.requests[number].is_dirty) {
                 self.scan_request(number as u16);
@@ -299,12 +299,12 @@ impl State {
         let ready: Vec<u16> = std::iter::successors(inner.ledger.lowest_ready(0), |stage| inner.ledger.lowest_ready(stage + 1)).collect();
         drop(inner);
         self.request(number).seen = (words.len(), relays + followed.len());
-        followed.iter().for_each(|(relay, stage)| self.linked((number, *relay), (number, *stage)));
+        followed.iter().for_each(|(relay, stage)| self.note_link((number, *relay), (number, *stage)));
         let mut news = Vec::new();
-        let replies = if words.len() > events { done_again(&words, stages).expect("memory for a ledger") } else { Vec::new() };
+        let replies = if words.len() > events { replay(&words, stages).expect("memory for a ledger") } else { Vec::new() };
         for (word, reply, told) in replies.into_iter().skip(events) {
-            self.follows(&std::mem::take(&mut news));
-            self.event(number, word, reply, &mut news);
+            self.note_consequences(&std::mem::take(&mut news));
+            self.note_event(number, word, reply, &mut news);
             for (stage, _) in told {
                 self.are_settled.insert((number, stage));
                 self.settled.push((number, stage));
@@ -313,53 +313,53 @@ impl State {
         }
         let before = std::mem::replace(&mut self.request(number).ready, ready.clone());
         news.extend(ready.into_iter().filter(|stage| !before.contains(stage)).map(|stage| (number, stage)));
-        self.follows(&news);
+        self.note_consequences(&news);
     }
 
     /// What an event touches.
-    fn event(&mut self, number: u16, word: u64, reply: Reply, news: &mut Vec<Place>) {
-        let parts = word::parts(word);
+    fn note_event(&mut self, number: u16, word: u64, reply: Reply, news: &mut Vec<Place>) {
+        let parts = word::decode(word);
         let place = (number, parts.stage);
         match (parts.kind, reply) {
             (ATTACH, Reply::Attached(Some(stage))) => {
                 let stage = (number, stage);
-                for of in parts.attached().1 {
+                for of in parts.attach_parts().1 {
                     self.behind.add(stage, (number, of));
-                    self.touch(Thing::Stage((number, of)), How::Reads);
+                    self.touch(Thing::Stage((number, of)), Access::Reads);
                 }
-                self.touch(Thing::Attach(number), How::Changes);
-                self.touch(Thing::Stage(stage), How::Changes);
+                self.touch(Thing::Attach(number), Access::Changes);
+                self.touch(Thing::Stage(stage), Access::Changes);
             }
-            (CLAIM, _) => self.touch(Thing::Stage(place), How::Changes),
+            (CLAIM, _) => self.touch(Thing::Stage(place), Access::Changes),
             (FINISH, _) => {
-                self.touch(Thing::Stage(place), How::Changes);
+                self.touch(Thing::Stage(place), Access::Changes);
                 if parts.tag == LINKS && reply == Reply::Finished(Finished::Won) {
                     let target = (number, parts.low as u16);
                     self.behind.add(place, target);
-                    self.touch(Thing::Stage(target), How::Reads);
+                    self.touch(Thing::Stage(target), Access::Reads);
                     news.push(place);
                 }
-                self.dropped(place);
+                self.note_dropped(place);
             }
-            (_, reply) => self.touch(Thing::Stage(place), if reply == Reply::Flag(true) { How::Changes } else { How::Reads }),
+            (_, reply) => self.touch(Thing::Stage(place), if reply == Reply::Flag(true) { Access::Changes } else { Access::Reads }),
         }
     }
 
     /// A claim is finished. A future whose stage was settled otherwise was dropped then, with what it has.
-    fn dropped(&mut self, place: Place) {
+    fn note_dropped(&mut self, place: Place) {
         if let Some(flight) = self.take_flight(Who::Function(place)) {
-            flight.shares.iter().for_each(|thing| self.touch(*thing, How::Changes));
+            flight.shares.iter().for_each(|thing| self.touch(*thing, Access::Changes));
         }
     }
 
     /// What is touched by what changed: what stands behind it, and relays, which it would settle.
-    fn follows(&mut self, news: &[Place]) {
+    fn note_consequences(&mut self, news: &[Place]) {
         if self.footprint.is_none() || news.is_empty() {
             return;
         }
-        let mut touched: Vec<(Place, How)> = news.iter().map(|place| (*place, How::Changes)).collect();
-        self.behind.reached(news, |place| self.are_settled.contains(&place), |place, how| touched.push((place, how)));
-        touched.extend(news.iter().flat_map(|place| self.relays.get(place).into_iter().flatten()).map(|relay| (*relay, How::Reads)));
+        let mut touched: Vec<(Place, Access)> = news.iter().map(|place| (*place, Access::Changes)).collect();
+        self.behind.reach(news, |place| self.are_settled.contains(&place), |place, how| touched.push((place, how)));
+        touched.extend(news.iter().flat_map(|place| self.relays.get(place).into_iter().flatten()).map(|relay| (*relay, Access::Reads)));
         touched.into_iter().for_each(|(place, how)| self.touch(Thing::Stage(place), how));
     }
 }

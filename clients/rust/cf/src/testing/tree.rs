@@ -13,7 +13,7 @@
 use super::footprint::{independent, Footprint};
 use super::moves::{row_of, Move};
 use super::report::Report;
-use super::runner::{Guide, How, Ran, Runner};
+use super::runner::{Guide, Ran, RunEnd, Runner};
 use std::time::Instant;
 
 /// Places of a row.
@@ -71,7 +71,7 @@ impl Tree {
     }
 
     /// So many runs more, until all is seen, the moment comes, or so many orders have failed.
-    pub(crate) fn go(&mut self, runner: &mut Runner, report: &mut Report, runs: u64, until: Instant, failures: usize) {
+    pub(crate) fn run_some(&mut self, runner: &mut Runner, report: &mut Report, runs: u64, until: Instant, failures: usize) {
         for _ in 0..runs {
             if report.whole || report.failed.len() >= failures || Instant::now() >= until {
                 return;
@@ -86,12 +86,12 @@ impl Tree {
                 continue;
             }
             self.count(runner, report, ran);
-            self.turn(report);
+            self.go_back(report);
         }
     }
 
     fn count(&mut self, runner: &mut Runner, report: &mut Report, ran: Ran) {
-        if ran.how == How::Cut {
+        if ran.how == RunEnd::Cut {
             report.cut += 1;
             return;
         }
@@ -100,8 +100,8 @@ impl Tree {
         if self.runs.is_power_of_two() {
             runner.same(&ran);
         }
-        if ran.how == How::Failed {
-            self.fails(&ran);
+        if ran.how == RunEnd::Failed {
+            self.note_failure(&ran);
             report.failed.push(ran.failure());
         } else if let Some(end) = &ran.end {
             *report.ends.entry(end.clone()).or_default() += ran.weight;
@@ -110,7 +110,7 @@ impl Tree {
 
     /// An order fails. Where that is within a move, this takes all other moves away, since nothing comes behind it, and nobody knows what it would
     /// have touched. At an end nothing was left.
-    fn fails(&mut self, ran: &Ran) {
+    fn note_failure(&mut self, ran: &Ran) {
         assert!(
             ran.row.len() == self.stack.len(),
             "the test isn't deterministic: the order\n    {}\nfails, and went on before: {}",
@@ -121,13 +121,13 @@ impl Tree {
             last.footprint = Some(Footprint::all());
             if self.races {
                 last.todo = last.keys.clone();
-                self.race(&Footprint::all());
+                self.note_races(&Footprint::all());
             }
         }
     }
 
     /// Finds with which moves before the last one races, and has the other orders tried, too.
-    fn race(&mut self, footprint: &Footprint) {
+    fn note_races(&mut self, footprint: &Footprint) {
         let last = self.stack.len() - 1;
         let (mut before, mut racing) = (Places::default(), Vec::new());
         for place in (0..last).rev() {
@@ -166,7 +166,7 @@ impl Tree {
     }
 
     /// Goes back to the last place at which another move is to be tried.
-    fn turn(&mut self, report: &mut Report) {
+    fn go_back(&mut self, report: &mut Report) {
         while let Some(node) = self.stack.last_mut() {
             let footprint = node.footprint.take().unwrap_or_else(Footprint::all);
             node.done.push((node.chosen, footprint));
@@ -184,7 +184,7 @@ impl Tree {
 }
 
 impl Guide for Tree {
-    fn chooses(&mut self, place: usize, keys: &[Move]) -> Option<Move> {
+    fn choose(&mut self, place: usize, keys: &[Move]) -> Option<Move> {
         if self.races && place > 0 && place == self.stack.len() {
             let last = &mut self.stack[place - 1];
             let gone: Vec<Move> = last.keys.iter().filter(|key| **key != last.chosen && !keys.contains(key)).copied().collect();
@@ -208,7 +208,7 @@ impl Guide for Tree {
         Some(chosen)
     }
 
-    fn did(&mut self, key: Move, footprint: &Footprint) {
+    fn note_made(&mut self, key: Move, footprint: &Footprint) {
         let place = self.place;
         self.place += 1;
         if self.place < self.stack.len() {
@@ -221,7 +221,7 @@ impl Guide for Tree {
             return;
         }
         if self.races {
-            self.race(footprint);
+            self.note_races(footprint);
         }
         let node = &mut self.stack[place];
         node.footprint = Some(footprint.clone());

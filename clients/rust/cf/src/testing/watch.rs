@@ -1,14 +1,14 @@
 //! What the layer tells a run: which requests are opened, that something was done to one, who reads, who waits; and the executor and the clock of a
 //! world.
-use super::carrier::{leave, Carrier};
-use super::footprint::{How, Thing};
+use super::carrier::{leave_code, Carrier};
+use super::footprint::{Access, Thing};
 use super::moves::Who;
 use super::run::Run;
 use super::state::{Rings, Until, Wait};
 use crate::clock::{Alarm, Clock};
 use crate::core::Core;
-use crate::spawn::{Job, Spawn, Turn};
-use crate::value::Gave;
+use crate::spawn::{Job, JobKind, Spawn};
+use crate::value::Returned;
 use std::cell::RefCell;
 use std::sync::Arc;
 use std::thread;
@@ -27,12 +27,12 @@ thread_local! {
 }
 
 impl Here {
-    pub(crate) fn get() -> Option<Here> {
+    pub(crate) fn current() -> Option<Here> {
         HERE.try_with(|here| here.borrow().clone()).ok().flatten()
     }
 
     /// Does something as code of a run.
-    pub(crate) fn during<T>(self, act: impl FnOnce() -> T) -> T {
+    pub(crate) fn run_as<T>(self, act: impl FnOnce() -> T) -> T {
         struct Back(Option<Here>);
         impl Drop for Back {
             fn drop(&mut self) {
@@ -53,8 +53,8 @@ pub(crate) struct Watch {
 
 impl Watch {
     /// What watches a request that is opened here with this executor.
-    pub(crate) fn of(executor: usize) -> Option<Watch> {
-        let run = Here::get()?.run;
+    pub(crate) fn for_executor(executor: usize) -> Option<Watch> {
+        let run = Here::current()?.run;
         if run.id() != executor {
             return None;
         }
@@ -62,8 +62,8 @@ impl Watch {
         Some(Watch { run, number })
     }
 
-    pub(crate) fn opened(&self, core: &Arc<Core>) {
-        self.run.lock().open(Arc::clone(core));
+    pub(crate) fn note_opened(&self, core: &Arc<Core>) {
+        self.run.lock().add_request(Arc::clone(core));
     }
 
     /// The number of the request in the run, if it is of this one.
@@ -77,11 +77,11 @@ impl Watch {
     }
 
     fn here(&self) -> Option<Here> {
-        Here::get().filter(|here| Arc::ptr_eq(&here.run, &self.run))
+        Here::current().filter(|here| Arc::ptr_eq(&here.run, &self.run))
     }
 
     /// Something was done to the request, and told.
-    pub(crate) fn changed(&self) {
+    pub(crate) fn note_changed(&self) {
         let here = self.here();
         let mut state = self.run.lock();
         if state.is_closed {
@@ -100,7 +100,7 @@ impl Watch {
     }
 
     /// A stage gets a limit.
-    pub(crate) fn limited(&self, core: &Core, stage: u16, wait: Duration) {
+    pub(crate) fn note_limit(&self, core: &Core, stage: u16, wait: Duration) {
         let is_settled = core.lock().slot(stage).is_settled();
         let mut state = self.run.lock();
         if !is_settled && !state.is_closed {
@@ -109,30 +109,30 @@ impl Watch {
     }
 
     /// Somebody reads a stage.
-    pub(crate) fn read(&self, stage: u16) {
+    pub(crate) fn note_read(&self, stage: u16) {
         if self.here().is_some() {
-            self.run.lock().touch(Thing::Stage((self.number, stage)), How::Reads);
+            self.run.lock().touch(Thing::Stage((self.number, stage)), Access::Reads);
         }
     }
 
     /// Somebody looks at all stages.
-    pub(crate) fn looked(&self, stages: usize) {
+    pub(crate) fn note_look(&self, stages: usize) {
         if self.here().is_some() {
             let mut state = self.run.lock();
-            state.touch(Thing::Attach(self.number), How::Reads);
-            (0..stages as u16).for_each(|stage| state.touch(Thing::Stage((self.number, stage)), How::Reads));
+            state.touch(Thing::Attach(self.number), Access::Reads);
+            (0..stages as u16).for_each(|stage| state.touch(Thing::Stage((self.number, stage)), Access::Reads));
         }
     }
 
     /// A relay of another request is to end as a stage does.
-    pub(crate) fn linked(&self, stage: u16, to: &Core, relay: u16) {
+    pub(crate) fn note_link(&self, stage: u16, to: &Core, relay: u16) {
         if let Some(number) = to.watch.as_ref().and_then(|watch| watch.number_in(&self.run)) {
-            self.run.lock().linked((number, relay), (self.number, stage));
+            self.run.lock().note_link((number, relay), (self.number, stage));
         }
     }
 
     /// Lets others go on until a stage is settled, or so long. False where the thread is none of the run's, and has to wait by itself.
-    pub(crate) fn wait(&self, core: &Arc<Core>, stage: u16, wait: Option<Duration>) -> bool {
+    pub(crate) fn wait_for_stage(&self, core: &Arc<Core>, stage: u16, wait: Option<Duration>) -> bool {
         if self.run.lock().is_closed {
             return true;
         }
@@ -147,8 +147,8 @@ impl Watch {
     }
 
     /// What a future gave in the end.
-    pub(crate) fn gave(&self, stage: u16, gave: Gave) {
-        self.run.gave((self.number, stage), gave);
+    pub(crate) fn take_returned(&self, stage: u16, gave: Returned) {
+        self.run.take_returned((self.number, stage), gave);
     }
 }
 
@@ -158,9 +158,9 @@ pub(crate) struct Executor(pub(crate) Arc<Run>);
 impl Spawn for Executor {
     /// Functions that are ready are found by the search. One job stands for all that a request asks for.
     fn spawn(&self, job: Job) -> Result<(), Job> {
-        let core = match job.turn() {
-            Some(Turn::Work(core)) => core,
-            Some(Turn::Poll(polling)) => polling.of().0,
+        let core = match job.kind() {
+            Some(JobKind::Work(core)) => core,
+            Some(JobKind::Poll(polling)) => polling.core_and_stage().0,
             None => return Ok(()),
         };
         let number = core.watch.as_ref().and_then(|watch| watch.number_in(&self.0));
@@ -171,11 +171,11 @@ impl Spawn for Executor {
                 return Err(job);
             }
         };
-        let turn = job.into_turn();
+        let turn = job.into_kind();
         let mut state = self.0.lock();
-        if let (Some(Turn::Poll(polling)), false) = (&turn, state.is_closed) {
-            let who = Who::Function((number, polling.of().1));
-            state.touch(Thing::Flight(who), How::Changes);
+        if let (Some(JobKind::Poll(polling)), false) = (&turn, state.is_closed) {
+            let who = Who::Function((number, polling.core_and_stage().1));
+            state.touch(Thing::Flight(who), Access::Changes);
             if let Some(claim) = state.flight(who).and_then(|flight| flight.claim.as_mut()) {
                 claim.woken = Some(Arc::clone(polling));
             }
@@ -196,17 +196,17 @@ pub(crate) struct WorldClock(pub(crate) Arc<Run>);
 impl Clock for WorldClock {
     fn now(&self) -> Duration {
         let mut state = self.0.lock();
-        (0..state.requests.len()).for_each(|request| state.touch(Thing::Clock(request as u16), How::Reads));
+        (0..state.requests.len()).for_each(|request| state.touch(Thing::Clock(request as u16), Access::Reads));
         Duration::from_nanos(state.requests.iter().map(|request| request.now).max().unwrap_or(0))
     }
 
     /// A run rings no alarms: it knows each limit.
-    fn after(&self, _wait: Duration, alarm: Alarm) {
+    fn ring_after(&self, _wait: Duration, alarm: Alarm) {
         let core = alarm.core.upgrade();
         if core.and_then(|core| core.watch.as_ref().and_then(|watch| watch.number_in(&self.0))).is_none() {
             self.0.lock().fail("a request has the clock of the world and another executor");
         }
-        alarm.never();
+        alarm.forget();
     }
 }
 
@@ -218,7 +218,7 @@ impl Run {
 
     /// Lets others go on until something is so, or one of several ways is chosen, which is told then.
     pub(crate) fn wait(self: &Arc<Run>, wait: Wait, limit: Option<Duration>) -> u16 {
-        let here = Here::get().filter(|here| Arc::ptr_eq(&here.run, self));
+        let here = Here::current().filter(|here| Arc::ptr_eq(&here.run, self));
         let mut state = self.lock();
         if state.is_closed || thread::panicking() {
             return 0;
@@ -228,20 +228,20 @@ impl Run {
             _ if state.is_over => {
                 state.fail(format!("{} is never settled", wait.name));
                 drop(state);
-                leave();
+                leave_code();
                 return 0;
             }
             _ if !state.settings.has_threads => {
                 state.needs_threads = true;
                 drop(state);
-                leave();
+                leave_code();
                 return 0;
             }
             Some((who, Some(carrier))) => (who, carrier),
             _ => {
                 state.fail(format!("a waker, a drop or a check waits for {}, in the midst of a move", wait.name));
                 drop(state);
-                leave();
+                leave_code();
                 return 0;
             }
         };
@@ -253,7 +253,7 @@ impl Run {
             Some(flight) => flight,
             None => {
                 drop(state); // (its process was killed)
-                leave();
+                leave_code();
                 return 0;
             }
         };

@@ -1,6 +1,6 @@
 //! What a test is given: an executor and a clock that are the search's, and a world outside that it describes.
 use super::run::Run;
-use super::state::{Arrival, Caller, Check, Open, Until, Wait, Way};
+use super::state::{Arrival, Check, NotSettled, OtherCaller, Until, Wait, Way};
 use super::watch::{Executor, WorldClock};
 use crate::clock::Clock;
 use crate::error::{BoxError, Error};
@@ -72,27 +72,27 @@ impl World {
     ///
     /// Here and in the calls below, where the promise isn't one of a request of this world.
     pub fn arrives<T: Send + Sync + 'static>(&self, promise: Stage<T>, value: T) -> Stage<T> {
-        self.outside(promise, vec![Way::Value(Val::of(value))])
+        self.outside(promise, vec![Way::Value(Val::new(value))])
     }
 
     /// The same; in other orders the promise fails instead.
     pub fn arrives_or_fails<T: Send + Sync + 'static>(&self, promise: Stage<T>, value: T, error: impl Into<BoxError>) -> Stage<T> {
-        self.outside(promise, vec![Way::Value(Val::of(value)), Way::Error(Error::of(error.into()))])
+        self.outside(promise, vec![Way::Value(Val::new(value)), Way::Error(Error::from_boxed(error.into()))])
     }
 
     /// Lets a promise get one of these values at any moment. Each is tried.
     pub fn one_of<T: Send + Sync + 'static>(&self, promise: Stage<T>, values: impl IntoIterator<Item = T>) -> Stage<T> {
-        self.outside(promise, values.into_iter().map(|value| Way::Value(Val::of(value))).collect())
+        self.outside(promise, values.into_iter().map(|value| Way::Value(Val::new(value))).collect())
     }
 
     /// Lets a promise fail at any moment.
     pub fn fails<T: Send + Sync + 'static>(&self, promise: Stage<T>, error: impl Into<BoxError>) -> Stage<T> {
-        self.outside(promise, vec![Way::Error(Error::of(error.into()))])
+        self.outside(promise, vec![Way::Error(Error::from_boxed(error.into()))])
     }
 
     /// Lets a promise get this value at any moment, or never anything.
     pub fn may<T: Send + Sync + 'static>(&self, promise: Stage<T>, value: T) -> Stage<T> {
-        self.outside(promise, vec![Way::Value(Val::of(value)), Way::Never])
+        self.outside(promise, vec![Way::Value(Val::new(value)), Way::Never])
     }
 
     fn outside<T: Send + Sync + 'static>(&self, promise: Stage<T>, ways: Vec<Way>) -> Stage<T> {
@@ -222,7 +222,7 @@ impl Calls {
     pub(crate) fn none(world: &World, name: &str) -> Calls {
         let mut state = world.0.lock();
         let number = state.callers.len();
-        state.callers.push(Caller { name: name.into(), calls: VecDeque::new(), called: 0, all: 0 });
+        state.callers.push(OtherCaller { name: name.into(), calls: VecDeque::new(), called: 0, all: 0 });
         drop(state);
         Calls { world: world.clone(), number }
     }
@@ -249,10 +249,10 @@ impl Calls {
 }
 
 mod sealed {
-    use super::Open;
+    use super::NotSettled;
 
     pub trait Sealed {
-        fn open(self, to: &mut Vec<Open>);
+        fn open(self, to: &mut Vec<NotSettled>);
     }
 }
 
@@ -262,18 +262,18 @@ pub trait Awaited: sealed::Sealed {}
 impl<T: sealed::Sealed> Awaited for T {}
 
 /// What a test gave back, and is to be settled in the end.
-pub(crate) fn open(awaited: impl Awaited) -> Vec<Open> {
+pub(crate) fn open(awaited: impl Awaited) -> Vec<NotSettled> {
     let mut all = Vec::new();
     awaited.open(&mut all);
     all
 }
 
 impl sealed::Sealed for () {
-    fn open(self, _: &mut Vec<Open>) {}
+    fn open(self, _: &mut Vec<NotSettled>) {}
 }
 
 impl<T: Send + Sync + 'static> sealed::Sealed for Stage<T> {
-    fn open(self, to: &mut Vec<Open>) {
+    fn open(self, to: &mut Vec<NotSettled>) {
         to.push(Box::new(move || {
             let number = self.at.ok()?;
             let mut inner = self.core.lock();
@@ -283,26 +283,26 @@ impl<T: Send + Sync + 'static> sealed::Sealed for Stage<T> {
 }
 
 impl<S: sealed::Sealed> sealed::Sealed for Vec<S> {
-    fn open(self, to: &mut Vec<Open>) {
+    fn open(self, to: &mut Vec<NotSettled>) {
         self.into_iter().for_each(|it| it.open(to));
     }
 }
 
 impl<S: sealed::Sealed, const N: usize> sealed::Sealed for [S; N] {
-    fn open(self, to: &mut Vec<Open>) {
+    fn open(self, to: &mut Vec<NotSettled>) {
         self.into_iter().for_each(|it| it.open(to));
     }
 }
 
 impl<A: sealed::Sealed, B: sealed::Sealed> sealed::Sealed for (A, B) {
-    fn open(self, to: &mut Vec<Open>) {
+    fn open(self, to: &mut Vec<NotSettled>) {
         self.0.open(to);
         self.1.open(to);
     }
 }
 
 impl<A: sealed::Sealed, B: sealed::Sealed, C: sealed::Sealed> sealed::Sealed for (A, B, C) {
-    fn open(self, to: &mut Vec<Open>) {
+    fn open(self, to: &mut Vec<NotSettled>) {
         self.0.open(to);
         self.1.open(to);
         self.2.open(to);

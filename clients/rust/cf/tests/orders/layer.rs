@@ -145,7 +145,7 @@ fn a_history_goes_on() {
             let history = request.history();
             let goes_on = history.words().starts_with(&last);
             last = history.words().to_vec();
-            goes_on && history.comes_again() && history.to_string().starts_with("meanwhile: ")
+            goes_on && history.is_reproducible() && history.to_string().starts_with("meanwhile: ")
         });
         composed
     });

@@ -152,7 +152,7 @@ fn it_has_the_histories_with_the_times_of_the_world() {
     let told = failure.histories[0].to_string();
     assert!(told.contains(" 2000.000 ms  clock times out 1 charge"), "{told}");
     assert_eq!((failure.account(0), failure.script(0)), (failure.histories[0].account(), failure.histories[0].script()));
-    assert!(failure.histories[0].comes_again());
+    assert!(failure.histories[0].is_reproducible());
 }
 
 #[test]
@@ -493,7 +493,7 @@ fn what_a_function_reads() {
     let reads: [fn(&Request, &Stage<()>); 3] = [
         |_, stage| assert!(stage.is_settled() || stage.peek().is_none()),
         |_, stage| assert!(stage.peek().map_or(true, |told| told.is_err())),
-        |request, _| assert!(request.history().comes_again()),
+        |request, _| assert!(request.history().is_reproducible()),
     ];
     // A history shows both promises.
     for (read, wanted) in reads.into_iter().zip([2, 2, 4]) {
@@ -779,4 +779,81 @@ fn runs_leave_nothing() {
     });
     assert!(report.failed[0].why.starts_with("deadlock"), "{report}");
     assert_eq!(Arc::strong_count(&left), 1);
+}
+
+#[test]
+fn each_part_of_what_a_test_gives_back_has_to_be_settled() {
+    for open in 0..3 {
+        let parts = move |world: &World, part: usize| {
+            let promise = world.request("order").promise::<()>().named(format!("part {part}"));
+            assert!(part == open || promise.complete(()).is_ok());
+            promise
+        };
+        let never = format!("part {open} is never settled");
+        assert_eq!(orders(move |world| (parts(world, 0), parts(world, 1), parts(world, 2))).failed[0].why, never);
+        if open < 2 {
+            assert_eq!(orders(move |world| (parts(world, 0), parts(world, 1))).failed[0].why, never);
+        }
+    }
+}
+
+/// Two calls of one caller come one right behind the other, also where the first of them begins the order.
+#[test]
+fn each_failing_order_is_told_with_the_fewest_switches() {
+    let report = Orders::new().time(LIMIT).all().failures(usize::MAX).run(|world| {
+        let called = Shared::new(String::new());
+        for (name, calls) in [("a", 2), ("c", 1), ("b", 1)] {
+            let push = || {
+                let called = called.clone();
+                move || called.get().push_str(name)
+            };
+            let caller = world.calls(name, push());
+            drop((1..calls).fold(caller, |caller, _| caller.and_then(push())));
+        }
+        world.at_end("not first a, and b before c", move || !["aabc", "abac", "abca"].contains(&&**called.get()));
+    });
+    assert_eq!(report.failed.iter().map(|failure| failure.switches()).collect::<Vec<_>>(), [2; 3]);
+    assert_eq!(report.failed[0].told.iter().map(|it| &*it.text).collect::<Vec<_>>(), ["a, call 1", "a, call 2", "b", "c"]);
+}
+
+/// Who has waited too long goes on behind that. So it decides who goes on first, and the limit doesn't.
+#[test]
+fn who_has_waited_too_long_decides_and_the_limit_does_not() {
+    let report = orders(|world| {
+        let (gave_up, request) = (Shared::new(false), world.request("order"));
+        let price = world.arrives(request.promise::<u32>().named("price"), 3);
+        let (waits, gives_up) = (price.clone(), gave_up.clone());
+        drop(request.supply(move || *gives_up.get() = waits.wait_timeout(SECOND).is_none()).named("asks"));
+        world.check("no price comes too late", move || !(*gave_up.get() && price.is_settled()));
+    });
+    let failure = &report.failed[0];
+    let told: Vec<&str> = failure.told.iter().map(|it| &*it.text).collect();
+    let decide: Vec<[&str; 2]> = failure.pairs.iter().map(|pair| [told[pair.first], told[pair.second]]).collect();
+    assert_eq!(decide, [["asks goes on", "price comes: 3"]], "{failure}");
+}
+
+/// The pairs of its moves that decide are told, too.
+#[test]
+fn an_order_alone_reads_like_the_same_story() {
+    let failure = orders(charged).failed.remove(0);
+    assert_eq!(Orders::new().row(&failure.row()).run(charged).failed[0].to_string(), failure.to_string());
+}
+
+/// Nobody looks at it any more.
+#[test]
+fn a_request_may_be_used_behind_its_run() {
+    let kept = Shared::new(None);
+    let keeps = kept.clone();
+    is_sound(&orders(move |world| *keeps.get() = Some(world.request("order"))));
+    let promise = kept.get().take().unwrap().promise::<i32>();
+    assert_eq!((promise.complete(1), promise.wait().unwrap()), (Ok(()), 1));
+}
+
+#[test]
+fn no_more_than_twenty_failures_are_made_smaller_and_told() {
+    let report = Orders::new().time(LIMIT).all().failures(usize::MAX).run(|world| {
+        ["a", "b", "c", "d"].iter().for_each(|name| drop(world.calls(name, || ())));
+        world.at_end("never so", || false);
+    });
+    assert_eq!((report.orders, report.failed.len()), (24, 20));
 }
