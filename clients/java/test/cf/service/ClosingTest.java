@@ -68,18 +68,18 @@ final class ClosingTest {
         source.complete(9);
         is(elsewhere.get(20, TimeUnit.SECONDS), "elsewhere");
         // The core goes to the next one, while there is a limit and afterwards.
-        int live = Machine.live();
+        int live = Machine.liveCores();
         List<Stage<Integer>> limited = new ArrayList<>();
         for (int k = 0; k < 300; k++) {
             try (Request next = SERVICE.request()) {
                 limited.add(next.<Integer>promise().orTimeout(1, TimeUnit.HOURS));
             }
         }
-        is(Machine.live() <= live + 10, true);
+        is(Machine.liveCores() <= live + 10, true);
         for (Stage<Integer> each : limited) {
             is(each.complete(1), true);
         }
-        is(Machine.live() <= live + 10, true);
+        is(Machine.liveCores() <= live + 10, true);
     }
 
     /** Functions close the request, and so do threads meanwhile, all under its lock. */

@@ -55,7 +55,7 @@ public final class StoreFaultsTest {
         }
 
         @Override
-        public void begin(int threads, Runnable looks) {}
+        public void startThreads(int threads, Runnable looks) {}
 
         @Override
         public void execute(Job job, String request, Runnable act) {
@@ -63,15 +63,15 @@ public final class StoreFaultsTest {
         }
 
         @Override
-        public void end() {}
+        public void shutDown() {}
 
         @Override
-        public void warns(String text, String request, Throwable thrown) {}
+        public void warn(String text, String request, Throwable thrown) {}
 
         /** Some time passes, and a service that has this host looks what is new, and does what is to be done. */
         void looks(StoreService service, long nanos) {
             clock += nanos;
-            service.round();
+            service.runRound();
             while (!jobs.isEmpty()) {
                 jobs.poll().run();
             }
@@ -79,7 +79,7 @@ public final class StoreFaultsTest {
     }
 
     private static StoreService service(Store store, Functions functions, ByHand host) {
-        return new StoreService(store, functions, 1, LEASE, TimeUnit.NANOSECONDS, true, null, null, host);
+        return StoreService.builder(store, functions).threads(1).lease(LEASE, TimeUnit.NANOSECONDS).takesAll(true).host(host).build();
     }
 
     /** Who reads many requests for the first time, each of which takes a while, says all along that he is there. */
@@ -101,7 +101,7 @@ public final class StoreFaultsTest {
             return null;
         });
         try (StoreService works = service(slow, new Functions(), host)) {
-            works.round();
+            works.runRound();
             pauses.add(host.clock - last[0]);
             is(host.clock, 2 * LEASE);
             is(Collections.max(pauses) <= LEASE / 2, true);
@@ -131,7 +131,8 @@ public final class StoreFaultsTest {
             return null;
         });
         try (StoreService works = service(seen, functions, first);
-                StoreService judge = new StoreService(file.open(), functions, 0, LEASE, TimeUnit.NANOSECONDS, true, null, null, second)) {
+                StoreService judge = StoreService.builder(file.open(), functions).threads(0)
+                        .lease(LEASE, TimeUnit.NANOSECONDS).takesAll(true).host(second).build()) {
             judges[0] = judge;
             StoredRequest request = works.request("comes back");
             StoredStage last = request.supply("charge").again(3);
@@ -181,7 +182,7 @@ public final class StoreFaultsTest {
             is(StoresTest.remote(ordered).kind(), RemoteException.ABANDONED);
             is(done, Arrays.asList("order", "charge 2 lamp", "charge 2 lamp", "order", "ship"));
             is(request.stage(last.number() + 3).name() + " " + request.stage(last.number() + 4), "ship null");
-            is(request.with(view -> Arrays.toString(view.sources(last.number() + 3))), "[7, 8]");
+            is(request.withView(view -> Arrays.toString(view.sources(last.number() + 3))), "[7, 8]");
         }
     }
 
@@ -194,7 +195,7 @@ public final class StoreFaultsTest {
             return 7L;
         });
         try (Store store = file.open(); StoreService asks = StoresTest.service(file, functions, 0, false)) {
-            StoreService works = new StoreService(file.open(), functions, 1, 50, TimeUnit.MILLISECONDS, true);
+            StoreService works = StoreService.builder(file.open(), functions).threads(1).lease(50, TimeUnit.MILLISECONDS).takesAll(true).build();
             StoredStage slow = works.request("closes").supply("slow");
             began.await();
             Thread closes = new Thread(works::close);
@@ -227,7 +228,7 @@ public final class StoreFaultsTest {
             request = service.request("over");
             waits = service.request("closed").promise("waits");
             other.open("closed").end();
-            for (int looks = 0; service.knownOf("closed") != null; looks++) {
+            for (int looks = 0; service.findServed("closed") != null; looks++) {
                 is(looks < 2000, true);
                 Thread.sleep(1); // (it is let go, since it is closed)
             }
@@ -328,7 +329,7 @@ public final class StoreFaultsTest {
             stage = request.stage(0);
             promise.complete(7);
             asked.await();
-            for (int looks = 0; !request.withIfFree(view -> true, false); looks++) {
+            for (int looks = 0; !request.withViewIfFree(view -> true, false); looks++) {
                 is(looks < 2000, true);
                 Thread.sleep(1);
             }
@@ -336,7 +337,7 @@ public final class StoreFaultsTest {
             thrown(TimeoutException.class, () -> stage.get(1, TimeUnit.MILLISECONDS));
             theirs.end();
             goesOn.countDown();
-            for (int looks = 0; waits.knownOf("unread") != null; looks++) {
+            for (int looks = 0; waits.findServed("unread") != null; looks++) {
                 is(looks < 5000, true);
                 Thread.sleep(1); // (it is let go, since it is closed)
             }
@@ -490,7 +491,7 @@ public final class StoreFaultsTest {
     public static void undone(Database at) {
         try (JdbcStore store = at.open()) {
             for (Throwable fault : new Throwable[] {new SQLException("refused"), new IllegalStateException("wrong"), new OutOfMemoryError("none left")}) {
-                thrown(Throwable.class, () -> store.within(db -> {
+                thrown(Throwable.class, () -> store.inOwnTransaction(db -> {
                     db.change("insert into cf_beat (session, count) values (7, 1)");
                     throw StoreFaultsTest.<RuntimeException>sneaky(fault);
                 }));
@@ -576,10 +577,10 @@ public final class StoreFaultsTest {
         });
         Host host = new Host() {
             @Override
-            public void warns(String text, String request, Throwable thrown) {}
+            public void warn(String text, String request, Throwable thrown) {}
         };
         Store impatient = JdbcStore.open(at.url() + "&options=-c%20lock_timeout=20");
-        try (StoreService service = new StoreService(impatient, functions, 1, 10, TimeUnit.SECONDS, false, null, null, host);
+        try (StoreService service = StoreService.builder(impatient, functions).threads(1).host(host).build();
                 Connection locks = at.connect(); Statement db = locks.createStatement()) {
             StoredStage seven = service.request("locked out").supply("seven");
             runs.await();

@@ -69,7 +69,7 @@ public final class OrdersTest {
 
     public static void stories() {
         Failure failure = Orders.of(OrdersTest::charged).run().failed().get(0);
-        is(failure.told().stream().map(Failure.Told::text).collect(Collectors.toList()),
+        is(failure.told().stream().map(Failure.ToldMove::text).collect(Collectors.toList()),
                 Arrays.asList("price comes: 4900", "charge is called", "the limit of charge passes", "charge again is called"));
         is(failure.told().get(2).settled(), Collections.singletonList("charge ends: TimeoutException"));
         is(failure.pairs().toString(), "[1, 2]");

@@ -72,7 +72,7 @@ public final class StoredOrdersTest {
     }
 
     private static List<String> texts(Failure failure) {
-        return failure.told().stream().map(Failure.Told::text).collect(Collectors.toList());
+        return failure.told().stream().map(Failure.ToldMove::text).collect(Collectors.toList());
     }
 
     private static Failure failure(String name) {
@@ -163,7 +163,7 @@ public final class StoredOrdersTest {
             StoreProcess shop = store.process("shop");
             StoredStage stage = shop.request("order").promise("promise");
             shop.calls("client", () -> completed(stage));
-            world.calls("another", () -> seen.add(store.left(Bound.LOST) + " " + store.isSettled("order", "promise")));
+            world.calls("another", () -> seen.add(store.remaining(Bound.LOST) + " " + store.isSettled("order", "promise")));
             return new Object[] {seen};
         }, made -> made[0].toString()), set("[1 false]", "[1 true]", "[0 false]", "[0 true]"));
         is(tried(store -> store.silent(1)), set("[true] [order: promise ends: 7]", "[unknown] [order: promise ends: 7]", "[unknown] [order: promise is open]"));
@@ -177,7 +177,7 @@ public final class StoredOrdersTest {
             StoredStage stage = shop.request("order").promise("promise");
             shop.calls("client", () -> completed(stage));
             return new Object[] {store};
-        }, made -> ((WorldStore) made[0]).left(Bound.UNANSWERED)), set(0, 1, 2));
+        }, made -> ((WorldStore) made[0]).remaining(Bound.UNANSWERED)), set(0, 1, 2));
     }
 
     /** A put that was given up comes later, or finds its place taken. */
