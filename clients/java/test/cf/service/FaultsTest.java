@@ -227,4 +227,31 @@ final class FaultsTest {
         is(isBy(begun.stage(next).exceptionNow(), "adminStops"), true);
         is(begun.stage(all).exceptionNow() == thrown(CancellationException.class, begun.stage(promise)::join), true);
     }
+
+    /** A flow's stage that is asked for later has the exception of the source that has settled it, and not another's. */
+    static void ofEither() {
+        Flow flow = new Flow("order");
+        Flow.Step<Object> one = flow.promise(), two = flow.promise(), either = one.applyToEither(two, x -> x);
+        Request request = SERVICE.start(flow);
+        customerLeft(request.stage(two));
+        request.stage(one).completeExceptionally(broken("one"));
+        is(request.stage(either).exceptionNow() == thrown(CancellationException.class, request.stage(two)::join), true);
+    }
+
+    /** What breaks in Java's own classes behind a stage keeps nothing from others, and is thrown to who settles it. */
+    static void breaksInJavas() {
+        class Mute extends RuntimeException {
+            private static final long serialVersionUID = 1;
+
+            @Override
+            public String toString() {
+                throw new IllegalStateException("mute");
+            }
+        }
+        Stage<Object> stage = SERVICE.request().promise();
+        Future<Void> javas = CompletableFuture.allOf(stage);
+        Stage<String> behind = stage.handle((value, error) -> "told");
+        is(thrown(IllegalStateException.class, () -> stage.completeExceptionally(new Mute())).getMessage(), "mute");
+        is(behind.join() + " " + javas.isDone(), "told false");
+    }
 }

@@ -8,6 +8,7 @@ import cf.internal.Words;
 import cf.store.StoresTest.Database;
 import cf.store.StoresTest.InFile;
 import cf.store.StoresTest.InPostgres;
+import java.lang.reflect.Proxy;
 import java.nio.file.Files;
 import java.nio.file.Path;
 import java.nio.file.Paths;
@@ -603,5 +604,61 @@ public final class StoreFaultsTest {
     @SuppressWarnings("unchecked")
     private static <X extends Throwable> X sneaky(Throwable thrown) throws X {
         throw (X) thrown;
+    }
+
+    /** A row says that a function gave a stage which isn't there: it is broken. */
+    public static void givesNoStage(InFile file) {
+        Store wrong = StoresTest.seen(file.open(), (call, args) -> {
+            if (call.equals("append")) {
+                Store.Put put = (Store.Put) args[0];
+                Map<Integer, byte[]> payloads = new HashMap<>(put.payloads);
+                payloads.replaceAll((place, its) -> Json.read(its) instanceof Map ? Json.write(Collections.singletonMap("stage", 99)) : its);
+                args[0] = new Store.Put(put.request, put.number, put.at, put.entries, payloads, put.opens);
+            }
+            return null;
+        });
+        Functions functions = new Functions().composing("gives", 1, (request, item) -> request.stage(0));
+        ByHand host = new ByHand();
+        try (StoreService works = service(wrong, functions, host); StoreService reads = service(file.open(), functions, new ByHand())) {
+            StoredRequest request = works.request("gives no stage");
+            StoredStage item = request.promise("item");
+            item.compose("gives");
+            item.complete(1);
+            host.looks(works, 0);
+            thrown(StoreException.Broken.class, () -> reads.open("gives no stage").with(RowView::relay));
+        }
+    }
+
+    /** A statement is prepared once, and one that failed is closed and prepared anew. */
+    public static void prepared() throws SQLException {
+        List<String> told = new ArrayList<>();
+        AtomicBoolean fails = new AtomicBoolean();
+        PreparedStatement statement = proxy(PreparedStatement.class, method -> {
+            told.add(method);
+            if (fails.get() && method.equals("executeUpdate")) {
+                throw new SQLException("refused");
+            }
+            return method.equals("executeUpdate") ? 1 : null;
+        });
+        PreparedConnection db = new PreparedConnection(proxy(Connection.class, method -> {
+            told.add(method);
+            return statement;
+        }));
+        is(db.change("a") + db.change("a"), 2);
+        is(told, Arrays.asList("prepareStatement", "executeUpdate", "executeUpdate"));
+        fails.set(true);
+        thrown(SQLException.class, () -> db.change("a"));
+        fails.set(false);
+        told.clear();
+        is(db.change("a"), 1);
+        is(told, Arrays.asList("prepareStatement", "executeUpdate"));
+    }
+
+    private interface Answers {
+        Object of(String method) throws SQLException;
+    }
+
+    private static <T> T proxy(Class<T> kind, Answers answers) {
+        return kind.cast(Proxy.newProxyInstance(kind.getClassLoader(), new Class<?>[] {kind}, (proxy, method, args) -> answers.of(method.getName())));
     }
 }

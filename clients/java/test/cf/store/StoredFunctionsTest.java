@@ -492,4 +492,21 @@ public final class StoredFunctionsTest {
             is(history.script().contains("\"stages\""), true);
         }
     }
+
+    /** What a function has attached is found again by all that was said of it, its arguments, too. */
+    public static void alike() {
+        Map<String, Object> said = new LinkedHashMap<>();
+        said.put("name", "charge");
+        said.put("fn", "charge");
+        said.put("args", Arrays.asList("lamp"));
+        for (String key : new String[] {"", "name", "fn", "version", "args", "kwargs", "again", "by"}) {
+            Map<String, Object> other = new LinkedHashMap<>(said);
+            if (!key.isEmpty()) {
+                other.put(key, key.equals("args") ? Arrays.asList("desk") : key.equals("kwargs") ? said : said.containsKey(key) ? "ship" : (Object) 2L);
+            }
+            is(key + new StoredPlan.Said(other, 7).isAlike(new StoredPlan.Said(said, 7)), key + key.isEmpty());
+        }
+        said.remove("args");
+        is(new StoredPlan.Said(said, 7).isAlike(new StoredPlan.Said(new LinkedHashMap<>(said), 7)), true);
+    }
 }

@@ -547,4 +547,56 @@ public final class OrdersTest {
             }
         }), "the test threw AssertionError: x");
     }
+
+    /** The same moves that touch something else are told, too. */
+    public static void touchesElse() {
+        AtomicInteger runs = new AtomicInteger();
+        has(thrown(() -> Orders.of(world -> {
+            Request request = world.service().request();
+            Stage<Integer> one = request.promise(), two = request.promise(), three = request.promise();
+            world.calls("somebody", () -> (runs.getAndIncrement() == 2 ? two : one).complete(1)); // (the first order is run twice)
+            world.calls("one", three, it -> it.complete(1));
+            world.calls("two", three, it -> it.complete(2));
+        }).run()), "\nit touched ");
+    }
+
+    /** Which source makes a function ready is tried both ways. */
+    public static void ready() {
+        Set<Integer> seen = new HashSet<>();
+        isSound(world -> {
+            Request request = world.service().request();
+            Stage<Integer> one = request.promise(), two = request.promise(), either = one.applyToEitherAsync(two, x -> x);
+            world.calls("one", () -> one.complete(1));
+            world.calls("two", () -> two.complete(2));
+            world.atEnd(() -> seen.add(either.join()) || true, "seen");
+            world.settles(either);
+        });
+        is(seen, new HashSet<>(Arrays.asList(1, 2)));
+    }
+
+    /** In a fine search others move once a function is attached that waits for nobody. */
+    public static void behindStarted() {
+        Scenario scenario = world -> {
+            List<Integer> seen = new ArrayList<>();
+            world.calls("somebody", () -> seen.add(1));
+            world.service().supplyAsync(() -> 1);
+            is(seen.isEmpty(), true);
+        };
+        is(Orders.of(scenario).run().failed().isEmpty(), true);
+        is(Orders.of(scenario).fine().run().failed().isEmpty(), false);
+    }
+
+    /** Who moves again does so at once in a failing order that is made smaller, from its first move on. */
+    public static void fewerSwitches() {
+        Scenario scenario = world -> {
+            for (String name : new String[] {"one", "two"}) {
+                world.caller(name).calls(() -> {}).calls(() -> {});
+            }
+            world.atEnd(() -> false, "it fails");
+        };
+        for (int seed = 1; seed <= 8; seed++) {
+            Failure smaller = Orders.of(scenario).chance(1, seed).run().failed().get(0);
+            is(smaller.moves.size() + " " + smaller.switches(), "4 1");
+        }
+    }
 }

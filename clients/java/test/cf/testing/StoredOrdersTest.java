@@ -620,4 +620,21 @@ public final class StoredOrdersTest {
             is(name + StoredServices.ALL.faulty(name).orders().chance(500, 3).run().failed().isEmpty(), name + "false");
         }
     }
+
+    /** Effects stand in the order of their commits, and these are tried in each. */
+    public static void effects() {
+        is(ends(world -> {
+            Functions functions = new Functions().transactional("write", 1, (connection, args) -> write(connection, args.get(0)));
+            WorldStore store = world.store();
+            for (int number = 1; number <= 2; number++) {
+                store.process("process " + number, functions).request("order " + number).supply("write", number);
+            }
+            return new Object[] {store};
+        }, made -> ((WorldStore) made[0]).effects().toString()), set("[insert 1, insert 2]", "[insert 2, insert 1]"));
+        Effect effect = new Effect("insert", Arrays.asList(1));
+        for (Object other : Arrays.asList(new Effect("delete", Arrays.asList(1)), new Effect("insert", Arrays.asList(2)), "insert [1]")) {
+            is(effect.equals(other) + " " + other, "false " + other);
+        }
+        is(effect.equals(new Effect("insert", Arrays.asList(1))), true);
+    }
 }
