@@ -82,7 +82,6 @@ public final class AllTests {
         test("exceptions beside Java's", FaultsTest::besideJavas);
         test("hooks that throw behind many stages", FaultsTest::hooks);
         test("who has cancelled a stage", FaultsTest::stacks);
-        test("exceptions of either source", FaultsTest::ofEither);
         test("what breaks in Java's own classes", FaultsTest::breaksInJavas);
         test("late answers", TimeoutsTest::late);
         test("waiting in a pool of one", FunctionsTest::waitsWhileRunning);
@@ -185,7 +184,7 @@ public final class AllTests {
         test("points within functions", OrdersTest::points);
         test("flows in a world", OrdersTest::flows);
         test("moves that touch something else", OrdersTest::touchesElse);
-        test("what makes a function ready", OrdersTest::ready);
+        test("functions of either source in every order", OrdersTest::ready);
         test("moves behind a function that was started", OrdersTest::behindStarted);
         test("failing orders with fewer switches", OrdersTest::fewerSwitches);
         test("services over a store with a fault of order", StoredOrdersTest::plantedFaults);
@@ -211,6 +210,7 @@ public final class AllTests {
         test("places of a row that a transaction has", StoredOrdersTest::places);
         test("the connection of a world", StoredOrdersTest::connections);
         test("effects in the order of their commits", StoredOrdersTest::effects);
+        test("looks at stages of a process", StoredOrdersTest::looks);
         test("what is promised of a store in every order", StoredOrdersTest::promises);
         test("orders over a store that are left out", StoredOrdersTest::leftOut);
         test("orders over a store by chance", StoredOrdersTest::byChance);

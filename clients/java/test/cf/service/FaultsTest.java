@@ -84,6 +84,12 @@ final class FaultsTest {
                 }
             }
         }
+        programs.put("what a function gives for one that failed", promise -> {
+            CompletableFuture<Object> source = promise.get(), given = promise.get(), instead = source.exceptionallyCompose(error -> given);
+            source.completeExceptionally(broken("source"));
+            given.cancel(true);
+            return Arrays.asList(source, given, instead, instead.thenApply(x -> x));
+        });
         programs.put("what functions throw", promise -> {
             CompletableFuture<Object> source = promise.get(), one = source.thenApply(x -> Checks.breaks()), two = source.handle((x, e) -> {
                 throw new CompletionException(broken("two"));
@@ -226,16 +232,6 @@ final class FaultsTest {
         adminStops(begun.stage(other));
         is(isBy(begun.stage(next).exceptionNow(), "adminStops"), true);
         is(begun.stage(all).exceptionNow() == thrown(CancellationException.class, begun.stage(promise)::join), true);
-    }
-
-    /** A flow's stage that is asked for later has the exception of the source that has settled it, and not another's. */
-    static void ofEither() {
-        Flow flow = new Flow("order");
-        Flow.Step<Object> one = flow.promise(), two = flow.promise(), either = one.applyToEither(two, x -> x);
-        Request request = SERVICE.start(flow);
-        customerLeft(request.stage(two));
-        request.stage(one).completeExceptionally(broken("one"));
-        is(request.stage(either).exceptionNow() == thrown(CancellationException.class, request.stage(two)::join), true);
     }
 
     /** What breaks in Java's own classes behind a stage keeps nothing from others, and is thrown to who settles it. */

@@ -606,27 +606,36 @@ public final class StoreFaultsTest {
         throw (X) thrown;
     }
 
-    /** A row says that a function gave a stage which isn't there: it is broken. */
+    /** A row is broken that says that a function gave a stage which isn't there, or that has lost which one it was. */
     public static void givesNoStage(InFile file) {
-        Store wrong = StoresTest.seen(file.open(), (call, args) -> {
-            if (call.equals("append")) {
-                Store.Put put = (Store.Put) args[0];
-                Map<Integer, byte[]> payloads = new HashMap<>(put.payloads);
-                payloads.replaceAll((place, its) -> Json.read(its) instanceof Map ? Json.write(Collections.singletonMap("stage", 99)) : its);
-                args[0] = new Store.Put(put.request, put.number, put.at, put.entries, payloads, put.opens);
+        for (boolean isLost : new boolean[] {false, true}) {
+            Store wrong = StoresTest.seen(file.open(), (call, args) -> {
+                if (call.equals("append")) {
+                    Store.Put put = (Store.Put) args[0];
+                    Map<Integer, byte[]> payloads = new HashMap<>(put.payloads);
+                    payloads.values().removeIf(its -> isLost && Arrays.equals(its, given(3)));
+                    payloads.replaceAll((place, its) -> Arrays.equals(its, given(3)) ? given(99) : its);
+                    args[0] = new Store.Put(put.request, put.number, put.at, put.entries, payloads, put.opens);
+                }
+                return null;
+            });
+            Functions functions = new Functions().composing("gives", 1, (request, item) -> request.promise("given"));
+            ByHand host = new ByHand();
+            try (StoreService works = service(wrong, functions, host); StoreService reads = service(file.open(), functions, new ByHand())) {
+                StoredRequest request = works.request("gives no stage, " + isLost);
+                StoredStage item = request.promise("item");
+                item.compose("gives");
+                item.complete(1);
+                host.looks(works, 0);
+                String why = thrown(StoreException.Broken.class, () -> reads.open(request.name).with(RowView::relay)).getMessage();
+                is(why.endsWith(isLost ? "no payload is there, and a word names it" : "there is no stage 99") ? "" : why, "");
             }
-            return null;
-        });
-        Functions functions = new Functions().composing("gives", 1, (request, item) -> request.stage(0));
-        ByHand host = new ByHand();
-        try (StoreService works = service(wrong, functions, host); StoreService reads = service(file.open(), functions, new ByHand())) {
-            StoredRequest request = works.request("gives no stage");
-            StoredStage item = request.promise("item");
-            item.compose("gives");
-            item.complete(1);
-            host.looks(works, 0);
-            thrown(StoreException.Broken.class, () -> reads.open("gives no stage").with(RowView::relay));
         }
+    }
+
+    /** What a row has of a function that gave this stage. */
+    private static byte[] given(int stage) {
+        return Json.write(Collections.singletonMap("stage", stage));
     }
 
     /** A statement is prepared once, and one that failed is closed and prepared anew. */

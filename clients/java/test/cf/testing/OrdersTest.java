@@ -118,6 +118,7 @@ public final class OrdersTest {
         Report most = Services.ALL.sound("overdrawn").orders().most(5).run();
         is(most.orders() + most.cut() <= 5, true);
         is(most.whole(), false);
+        is(Services.ALL.faulty("overdrawn").orders().chance(50, 1).failures(2).asFound().run().failed().size(), 2);
         Report seconds = Services.ALL.sound("overdrawn").orders().seconds(0).run();
         is(seconds.orders(), 0);
         is(seconds.whole(), false);
@@ -204,10 +205,18 @@ public final class OrdersTest {
                 }
             }).named("two");
         }), " blocks outside the world, at cf.testing.OrdersTest.");
+        long[] blocks = new long[1];
         has(why(world -> {
             Stage<Integer> price = world.arrives(3, "price");
-            world.service().request().runAsync(() -> CompletableFuture.allOf(price).join()).named("a function");
+            world.service().request().runAsync(() -> {
+                for (long began = System.nanoTime(); System.nanoTime() - began < 300_000_000;) {
+                    Thread.onSpinWait(); // (it is at work for a while)
+                }
+                blocks[0] = System.nanoTime();
+                CompletableFuture.allOf(price).join();
+            }).named("a function");
         }), "a function blocks outside the world, at cf.testing.OrdersTest.");
+        is(System.nanoTime() - blocks[0] >= 1_750_000_000, true); // (eight looks)
     }
 
     // Faults of tests.
@@ -560,18 +569,15 @@ public final class OrdersTest {
         }).run()), "\nit touched ");
     }
 
-    /** Which source makes a function ready is tried both ways. */
+    /** A function that takes either source, and reads both, is called by each of them, before and behind the other. */
     public static void ready() {
-        Set<Integer> seen = new HashSet<>();
+        Set<String> seen = new HashSet<>();
         isSound(world -> {
             Request request = world.service().request();
-            Stage<Integer> one = request.promise(), two = request.promise(), either = one.applyToEitherAsync(two, x -> x);
-            world.calls("one", () -> one.complete(1));
-            world.calls("two", () -> two.complete(2));
-            world.atEnd(() -> seen.add(either.join()) || true, "seen");
-            world.settles(either);
+            Stage<Integer> one = request.adopt(world.arrives(1, "one")), two = request.adopt(world.arrives(2, "two"));
+            world.settles(one.applyToEither(two, x -> seen.add(x + " " + one.isDone() + " " + two.isDone())));
         });
-        is(seen, new HashSet<>(Arrays.asList(1, 2)));
+        is(seen, new HashSet<>(Arrays.asList("1 true false", "1 true true", "2 false true", "2 true true")));
     }
 
     /** In a fine search others move once a function is attached that waits for nobody. */
@@ -589,14 +595,13 @@ public final class OrdersTest {
     /** Who moves again does so at once in a failing order that is made smaller, from its first move on. */
     public static void fewerSwitches() {
         Scenario scenario = world -> {
-            for (String name : new String[] {"one", "two"}) {
-                world.caller(name).calls(() -> {}).calls(() -> {});
-            }
-            world.atEnd(() -> false, "it fails");
+            List<String> done = new ArrayList<>();
+            world.calls("late", () -> done.add("late"));
+            world.calls("two", () -> done.add("two"));
+            world.caller("one").calls(() -> done.add("one")).calls(() -> done.add("one"));
+            world.check(() -> done.size() < 3 || done.contains("late") || done.get(0).equals("two"), "two is the first, or the last is late");
         };
-        for (int seed = 1; seed <= 8; seed++) {
-            Failure smaller = Orders.of(scenario).chance(1, seed).run().failed().get(0);
-            is(smaller.moves.size() + " " + smaller.switches(), "4 1");
-        }
+        is(Orders.of(scenario).asFound().run().failed().get(0).row(), "by.2.0 by.1.0 by.2.1");
+        is(Orders.of(scenario).run().failed().get(0).row(), "by.2.0 by.2.1 by.1.0");
     }
 }

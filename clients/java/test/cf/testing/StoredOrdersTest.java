@@ -637,4 +637,17 @@ public final class StoredOrdersTest {
         }
         is(effect.equals(new Effect("insert", Arrays.asList(1))), true);
     }
+
+    /** Who looks at a stage of a process does so before and behind each change of what that knows. */
+    public static void looks() {
+        is(ends(world -> {
+            List<String> seen = new ArrayList<>();
+            WorldStore store = world.store();
+            StoreProcess shop = store.process("shop");
+            StoredStage own = shop.request("order").promise("promise"), theirs = store.process("another").open("order").stage(0);
+            shop.calls("client", () -> own.complete(7));
+            world.calls("somebody", () -> seen.add(store.isSettled("order", "promise") + " " + theirs.isDone()));
+            return new Object[] {seen};
+        }, made -> made[0].toString()), set("[false false]", "[true false]", "[true true]"));
+    }
 }
