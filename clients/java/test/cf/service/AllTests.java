@@ -217,6 +217,7 @@ public final class AllTests {
         test("JSON", StoresTest::json);
         test("who is gone", StoresTest::gone);
         test("which errors of PostgreSQL say that it is away", StoreFaultsTest::away);
+        test("which errors of SQLite say so", StoreFaultsTest::awayFromFile);
         test("statements that are prepared once", StoreFaultsTest::prepared);
         test("what a function has attached before", StoredFunctionsTest::alike);
         test("the module of JDBC", StoresTest::module);
@@ -227,6 +228,7 @@ public final class AllTests {
             overDatabase(StoresTest.InFile::new, "SQLite", "file");
             over(StoresTest.InFile::new, "who reads many requests at first", StoreFaultsTest::beats);
             over(StoresTest.InFile::new, "a process that comes back", StoreFaultsTest::comesBack);
+            over(StoresTest.InFile::new, "a session's name", StoreFaultsTest::namesItself);
             over(StoresTest.InFile::new, "further tries of what composes", StoreFaultsTest::composesAgain);
             over(StoresTest.InFile::new, "a stage that isn't there", StoreFaultsTest::givesNoStage);
             over(StoresTest.InFile::new, "functions that run at the end", StoreFaultsTest::closes);

@@ -69,6 +69,9 @@ public final class StoreFaultsTest {
         @Override
         public void warns(String text, String request, Throwable thrown) {}
 
+        @Override
+        public void breaks(String text, boolean isDropped) {}
+
         /** Some time passes, and a service that has this host looks what is new, and does what is to be done. */
         void looks(StoreService service, long nanos) {
             clock += nanos;
@@ -636,6 +639,33 @@ public final class StoreFaultsTest {
     /** What a row has of a function that gave this stage. */
     private static byte[] given(int stage) {
         return Json.write(Collections.singletonMap("stage", stage));
+    }
+
+    /** Which of SQLite's errors say so. */
+    public static void awayFromFile() {
+        JdbcStore store = new SqliteStore("jdbc:sqlite::memory:");
+        for (int code : new int[] {5, 6, 7, 8, 10, 13, 14, 10 | 3 << 8}) {
+            is(store.isAway(new SQLException("away", null, code)) + " " + code, "true " + code);
+        }
+        for (int code : new int[] {1, 3, 9, 11, 12, 18, 19, 26, 19 | 8 << 8}) {
+            is(store.isAway(new SQLException("refused", null, code)) + " " + code, "false " + code);
+        }
+    }
+
+    /** A service says once what its session is called, and again that it is there. */
+    public static void namesItself(InFile file) {
+        List<String> calls = new ArrayList<>();
+        Store seen = StoresTest.seen(file.open(), (call, args) -> {
+            calls.add(call);
+            return null;
+        });
+        ByHand host = new ByHand();
+        try (StoreService service = service(seen, new Functions(), host)) {
+            for (int looks = 0; looks < 3; looks++) {
+                host.looks(service, LEASE);
+            }
+            is(Collections.frequency(calls, "beat") + " " + Collections.frequency(calls, "nameSession"), "3 1");
+        }
     }
 
     /** A statement is prepared once, and one that failed is closed and prepared anew. */
