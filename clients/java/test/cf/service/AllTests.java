@@ -36,6 +36,7 @@ public final class AllTests {
             overDatabase(StoresTest.InPostgres::new, "PostgreSQL", "database");
             over(StoresTest.InPostgres::new, "puts beside a drop", StoreFaultsTest::dropped);
             over(StoresTest.InPostgres::new, "locks that aren't free in time", StoreFaultsTest::lockedOut);
+            over(StoresTest.InPostgres::new, "notices of a closed store", StoreFaultsTest::noticesEnd);
         }
         if (chosen != null && !chosen.isEmpty()) {
             System.err.println("there are no tests " + chosen);
@@ -187,6 +188,7 @@ public final class AllTests {
         test("functions of either source in every order", OrdersTest::ready);
         test("moves behind a function that was started", OrdersTest::behindStarted);
         test("failing orders with fewer switches", OrdersTest::fewerSwitches);
+        test("functions that are called in a row", OrdersTest::inRow);
         test("services over a store with a fault of order", StoredOrdersTest::plantedFaults);
         test("sound services over a store in every order", StoredOrdersTest::soundServices);
         test("what a failing order over a store tells", StoredOrdersTest::stories);
@@ -219,6 +221,7 @@ public final class AllTests {
         test("which errors of PostgreSQL say that it is away", StoreFaultsTest::away);
         test("which errors of SQLite say so", StoreFaultsTest::awayFromFile);
         test("statements that are prepared once", StoreFaultsTest::prepared);
+        test("puts of no words", StoreFaultsTest::plansNothing);
         test("what a function has attached before", StoredFunctionsTest::alike);
         test("the module of JDBC", StoresTest::module);
         test("what the module exports", StoresTest::exported);
@@ -229,6 +232,8 @@ public final class AllTests {
             over(StoresTest.InFile::new, "who reads many requests at first", StoreFaultsTest::beats);
             over(StoresTest.InFile::new, "a process that comes back", StoreFaultsTest::comesBack);
             over(StoresTest.InFile::new, "a session's name", StoreFaultsTest::namesItself);
+            over(StoresTest.InFile::new, "open requests that stay known", StoreFaultsTest::keepsOpen);
+            over(StoresTest.InFile::new, "connections of a closed store", StoredFunctionsTest::closes);
             over(StoresTest.InFile::new, "further tries of what composes", StoreFaultsTest::composesAgain);
             over(StoresTest.InFile::new, "a stage that isn't there", StoreFaultsTest::givesNoStage);
             over(StoresTest.InFile::new, "functions that run at the end", StoreFaultsTest::closes);
@@ -304,6 +309,7 @@ public final class AllTests {
         over(place, "histories of requests in " + engine, StoredFunctionsTest::histories);
         over(place, "calls that are broken off", StoreFaultsTest::brokenOff);
         over(place, "transactions that are undone", StoreFaultsTest::undone);
+        over(place, "waits while nothing changes", StoreFaultsTest::quiet);
     }
 
     /** Runs a test where its requests stand. */

@@ -25,6 +25,7 @@ import java.util.Deque;
 import java.util.HashMap;
 import java.util.List;
 import java.util.Map;
+import java.util.Set;
 import java.util.concurrent.CompletableFuture;
 import java.util.concurrent.CountDownLatch;
 import java.util.concurrent.ExecutionException;
@@ -33,6 +34,7 @@ import java.util.concurrent.TimeoutException;
 import java.util.concurrent.atomic.AtomicBoolean;
 import java.util.concurrent.atomic.AtomicInteger;
 import java.util.function.Consumer;
+import java.util.stream.Collectors;
 
 /** What if a store is slow, refuses something for a while, is silent, or breaks a call off; and if a process is taken for gone that is there? */
 public final class StoreFaultsTest {
@@ -665,6 +667,60 @@ public final class StoreFaultsTest {
                 host.looks(service, LEASE);
             }
             is(Collections.frequency(calls, "beat") + " " + Collections.frequency(calls, "nameSession"), "3 1");
+        }
+    }
+
+    /** An open request stays known where a look finds nothing new of it. */
+    public static void keepsOpen(InFile file) {
+        ByHand host = new ByHand();
+        try (StoreService service = service(file.open(), new Functions(), host)) {
+            service.request("open").promise("promise");
+            for (int looks = 0; looks < 3; looks++) {
+                host.looks(service, 1);
+            }
+            is(service.knownOf("open") != null, true);
+        }
+    }
+
+    /** Who waits for a change in a database waits while there is none. */
+    public static void quiet(Database at) throws Exception {
+        List<Long> lasted = new ArrayList<>();
+        try (Store store = at.open()) {
+            store.open("quiet", StoredPlan.text("", Collections.emptyList(), Collections.emptyMap()));
+            for (int waits = 0; waits < 4; waits++) {
+                long began = System.nanoTime();
+                store.changed(100);
+                lasted.add((System.nanoTime() - began) / 1_000_000);
+            }
+        }
+        is(Collections.max(lasted) >= 100 ? "" : lasted.toString(), "");
+    }
+
+    /** Nobody sends notices of puts any more once a store is closed. */
+    public static void noticesEnd(InPostgres at) throws Exception {
+        Set<Thread> others = notifying(), its;
+        try (Store store = at.open()) {
+            Store.Opened opened = store.open("notices", StoredPlan.text("", Collections.emptyList(), Collections.emptyMap()));
+            store.append(new Store.Put(opened.name, opened.number, 0, Arrays.asList(new Store.Entry(1, 1)), Collections.emptyMap(), false));
+            its = notifying();
+            its.removeAll(others);
+            is(its.size(), 1);
+        }
+        for (Thread each : its) {
+            each.join(10_000);
+            is(each.isAlive(), false);
+        }
+    }
+
+    private static Set<Thread> notifying() {
+        return Thread.getAllStackTraces().keySet().stream().filter(it -> it.getName().equals("cf-notify")).collect(Collectors.toSet());
+    }
+
+    /** The library refuses a put of no words. */
+    public static void plansNothing() {
+        StoredPlan plan = new StoredPlan(StoredPlan.text("", Collections.emptyList(), Collections.emptyMap()), "plans nothing");
+        try (Row row = new Row(plan.rows, 8, 0, 1)) {
+            thrown(Row.Refused.class, () -> row.plan(new long[0]));
         }
     }
 

@@ -509,4 +509,13 @@ public final class StoredFunctionsTest {
         said.remove("args");
         is(new StoredPlan.Said(said, 7).isAlike(new StoredPlan.Said(new LinkedHashMap<>(said), 7)), true);
     }
+
+    /** A store that is closed has no connection open. */
+    public static void closes(InFile file) {
+        try (JdbcStore store = file.open()) {
+            store.open("closes", StoredPlan.text("", Collections.emptyList(), Collections.emptyMap()));
+            is(opened(file.path) > 0, true);
+        }
+        is(opened(file.path), 0L);
+    }
 }

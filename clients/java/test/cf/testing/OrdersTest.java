@@ -604,4 +604,15 @@ public final class OrdersTest {
         is(Orders.of(scenario).asFound().run().failed().get(0).row(), "by.2.0 by.1.0 by.2.1");
         is(Orders.of(scenario).run().failed().get(0).row(), "by.2.0 by.2.1 by.1.0");
     }
+
+    /** Each of several functions that a thread calls in a row is told by its own name. */
+    public static void inRow() {
+        Failure failure = Orders.of(world -> {
+            Stage<Integer> price = world.service().request().adopt(world.arrives(3, "price"));
+            world.settles(price.thenApply(x -> x).named("one"), price.thenApply(x -> x).named("two"));
+            world.atEnd(() -> false, "it fails");
+        }).run().failed().get(0);
+        is(failure.told().stream().map(Failure.Told::text).collect(Collectors.toList()), Arrays.asList("price comes: 3", "one is called", "one returns", "two is called",
+                "two returns"));
+    }
 }
