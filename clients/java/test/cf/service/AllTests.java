@@ -213,6 +213,7 @@ public final class AllTests {
         test("the connection of a world", StoredOrdersTest::connections);
         test("effects in the order of their commits", StoredOrdersTest::effects);
         test("looks at stages of a process", StoredOrdersTest::looks);
+        test("who has a stage of a store", StoredOrdersTest::granted);
         test("what is promised of a store in every order", StoredOrdersTest::promises);
         test("orders over a store that are left out", StoredOrdersTest::leftOut);
         test("orders over a store by chance", StoredOrdersTest::byChance);

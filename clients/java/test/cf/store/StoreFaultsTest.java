@@ -705,6 +705,11 @@ public final class StoreFaultsTest {
             its = notifying();
             its.removeAll(others);
             is(its.size(), 1);
+            for (Thread each : its) {
+                while (each.getState() != Thread.State.WAITING) {
+                    Thread.sleep(1); // (it sends the first one)
+                }
+            }
         }
         for (Thread each : its) {
             each.join(10_000);

@@ -650,4 +650,17 @@ public final class StoredOrdersTest {
             return new Object[] {seen};
         }, made -> made[0].toString()), set("[false false]", "[true false]", "[true true]"));
     }
+
+    /** A world tells which process has which stage, and what it was told to stand. */
+    public static void granted() {
+        is(ends(world -> {
+            WorldStore store = world.store();
+            store.worker("one", new Functions().with("load", 1, () -> 7)).request("order").supply("load");
+            return new Object[] {store};
+        }, made -> {
+            WorldStore store = (WorldStore) made[0];
+            Set<String> told = store.answered().stream().map(it -> it.process() + " " + it.request()).collect(Collectors.toSet());
+            return store.granted() + " " + told;
+        }), set("[one has stage 0 of order] [one order]"));
+    }
 }
