@@ -506,6 +506,11 @@ public final class StoredFunctionsTest {
             }
             is(key + new StoredPlan.Said(other, 7).isAlike(new StoredPlan.Said(said, 7)), key + key.isEmpty());
         }
+        for (long stage : new long[] {-1, 7}) { // (a stage goes on with lower ones)
+            Map<String, Object> wrong = new LinkedHashMap<>(said);
+            wrong.put("to", stage);
+            thrown(IllegalArgumentException.class, () -> new StoredPlan.Said(wrong, 7));
+        }
         said.remove("args");
         is(new StoredPlan.Said(said, 7).isAlike(new StoredPlan.Said(new LinkedHashMap<>(said), 7)), true);
     }

@@ -310,6 +310,8 @@ public final class StoresTest {
             is(end(request.allOf(inc, sum, sorry)), null);
             is(end(request.anyOf(inc, request.promise("late"))), 42L);
             is(end(request.anyOf(inc, sum, number)), 42L); // (the first that was named, where all are settled)
+            StoredStage open = request.promise("open");
+            is(end(request.anyOf(open, open, open, inc)), 42L);
             is(request.stage("inc").number(), 1);
             is(request.stage("inc").name(), "inc");
             is(request.stage("none"), null);
