@@ -613,7 +613,7 @@ public class Stage<T> extends Waits<T> {
         return cause != null ? cause : error;
     }
 
-    // Telling.
+    // Reading and recording.
 
     @Override
     final Object readOutcome() {

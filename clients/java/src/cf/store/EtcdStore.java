@@ -72,8 +72,7 @@ public final class EtcdStore implements Store {
             }
         }
         EtcdStore store = new EtcdStore(members);
-        for (int left = members.length; left > 0;) {
-            left--;
+        for (int left = members.length - 1;; left--) {
             try {
                 store.post("/v3/kv/range", range(bytes("cf/r/"), null)); // (a member answers if it has a majority)
                 return store;
@@ -83,7 +82,6 @@ public final class EtcdStore implements Store {
                 }
             }
         }
-        return store;
     }
 
     // Calls.

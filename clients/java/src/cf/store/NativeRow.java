@@ -19,8 +19,8 @@ final class NativeRow implements AutoCloseable {
     static final int VALUE = 1, THROWN = 2, CANCELLED = 3, TIMED_OUT = 4, BAD_ANSWER = 5;
     /** The kinds of an answer: a value, which is null where the number is negative; an exception; a link to a stage. */
     static final int GIVE = 0, THROW = 1, LINK = 2;
-    /** What a function is called with. */
-    static final int NO_ARGS = 0, ONE = 1, TWO = 2, GOT = 3;
+    /** The arguments of a function that doesn't handle its source's outcome. */
+    static final int NO_ARGS = 0, ONE = 1, TWO = 2;
     /** Places in {@link #reply}: the answer, the number of a stage that was attached, and arguments. */
     static final int ANSWER = 0, NUMBER = 1, ARGS = 2, FIRST = 3, SECOND = 5, OUTCOME = 7;
     /** Numbers of a stage that an entry changed: its own, how far it is, its caller, to what it is linked, and five of its outcome. */

@@ -75,7 +75,7 @@ public final class StoreService implements AutoCloseable {
     private final Set<String> brokenNames = ConcurrentHashMap.newKeySet(), unknownFunctions = ConcurrentHashMap.newKeySet(),
             firingTimers = ConcurrentHashMap.newKeySet();
     private volatile boolean isStopping;
-    /** Whether others have failed a stage that runs here, and this session hasn't said since that it is there. */
+    /** Whether others have failed a stage that runs here, and this session has put no sign of life since. */
     private volatile boolean isTakenForGone;
     /** Until when results of functions are put, once this service is closed. */
     private volatile long lastPut;
@@ -236,21 +236,21 @@ public final class StoreService implements AutoCloseable {
         return contexts == null ? Collections.emptyMap() : contexts.capture();
     }
 
-    /** Adds the context of this place to what is said of a stage. */
-    Map<String, Object> addContext(Map<String, Object> said) {
+    /** Adds the context of this place to the spec of a stage. */
+    Map<String, Object> addContext(Map<String, Object> spec) {
         Map<String, ?> carried = captureContext();
         if (!carried.isEmpty()) {
-            said.put("context", carried);
+            spec.put("context", carried);
         }
-        return said;
+        return spec;
     }
 
-    /** What is said of a stage that calls the latest version of a function. */
+    /** The spec of a stage that calls the latest version of a function. */
     Map<String, Object> callSpec(String function, boolean composes) {
-        Map<String, Object> said = StoredRequest.namedSpec(function);
-        said.put("fn", function);
-        said.put("version", functions.latestVersion(function, composes));
-        return addContext(said);
+        Map<String, Object> spec = StoredRequest.namedSpec(function);
+        spec.put("fn", function);
+        spec.put("version", functions.latestVersion(function, composes));
+        return addContext(spec);
     }
 
     /**
@@ -455,7 +455,7 @@ public final class StoreService implements AutoCloseable {
         }
     }
 
-    // The pump: what is new, who is gone, what is due.
+    // The pump: news, sessions that are gone, timers.
 
     private void runPump() {
         while (!isStopping) {
@@ -474,7 +474,7 @@ public final class StoreService implements AutoCloseable {
         beatToTheEnd();
     }
 
-    /** While functions run that the end waits for, nobody is to take this session for gone. */
+    /** Beats while functions run that the end waits for, so that others don't take this session for gone. */
     private void beatToTheEnd() {
         while (jobs.get() > 0) {
             try {
@@ -675,7 +675,7 @@ public final class StoreService implements AutoCloseable {
         }
     }
 
-    /** Forgets a request that is closed, once all is told, unless it was asked for again since the store was asked. */
+    /** Forgets a closed request, once its stages are shown, unless it was asked for again since the store was read. */
     private void letGo(StoredRequest request, long before) {
         try {
             request.catchUp();
@@ -744,8 +744,8 @@ public final class StoreService implements AutoCloseable {
             task = next == null ? nextTask(request) : next;
         }
         putRelays(request);
-        int seen = request.withView(view -> isFinished(view) ? view.wordCount() : -1); // (another thread may be reading a word)
-        if (seen >= 0 && store.end(request.name, request.number, seen)) {
+        int words = request.withView(view -> isFinished(view) ? view.wordCount() : -1); // (another thread may be reading a word)
+        if (words >= 0 && store.end(request.name, request.number, words)) {
             tellEnd(request);
         }
     }
@@ -809,7 +809,7 @@ public final class StoreService implements AutoCloseable {
      * is put again and again, since its function has run. If the store refuses a value twice, while it takes something else, the stage fails.
      */
     private ClaimedTask finishAndClaim(StoredRequest request, RowView.Finish finish) {
-        RowView.Finish told = finish;
+        RowView.Finish current = finish;
         int refused = 0; // times in a row that the value was, while the store took something else
         List<Integer> chosen = new ArrayList<>();
         if (finish == null) {
@@ -817,7 +817,7 @@ public final class StoreService implements AutoCloseable {
         }
         while (true) {
             try {
-                RowView.Finish put = told;
+                RowView.Finish put = current;
                 List<RowView.DoneEntry> done = request.act(view -> {
                     List<RowView.WantedWord> wanted = new ArrayList<>();
                     RowView.WantedWord finished = put == null ? null : view.finishWord(put);
@@ -840,8 +840,8 @@ public final class StoreService implements AutoCloseable {
                 }
                 host.warn(request + ": " + fault.getMessage(), request.name, null);
                 if (!(fault instanceof StoreException.Unknown)) {
-                    refused = told == finish && canBeat() ? refused + 1 : 0;
-                    told = refused > 1 ? storeErrorFinish(finish, fault) : finish;
+                    refused = current == finish && canBeat() ? refused + 1 : 0;
+                    current = refused > 1 ? storeErrorFinish(finish, fault) : finish;
                     if (refused == 0) {
                         pause();
                     }

@@ -89,14 +89,14 @@ public final class StoredRequest {
 
     /** The same, with further arguments by name, which the function has to take: see {@link Functions#byName}, and any function of Python's. */
     public StoredStage supplyNamed(String function, Map<String, ?> named, Object... args) {
-        Map<String, Object> said = service.callSpec(function, false);
+        Map<String, Object> spec = service.callSpec(function, false);
         if (args.length > 0) {
-            said.put("args", Arrays.asList(args));
+            spec.put("args", Arrays.asList(args));
         }
         if (!named.isEmpty()) {
-            said.put("kwargs", named);
+            spec.put("kwargs", named);
         }
-        return attach(Form.SUPPLY, said);
+        return attach(Form.SUPPLY, spec);
     }
 
     /** A stage without a function, which somebody settles, in any process. */
@@ -140,9 +140,9 @@ public final class StoredRequest {
     }
 
     private Map<String, Object> gatherSpec(String function) {
-        Map<String, Object> said = service.callSpec(function, false);
-        said.put("name", "gather");
-        return said;
+        Map<String, Object> spec = service.callSpec(function, false);
+        spec.put("name", "gather");
+        return spec;
     }
 
     /**
@@ -226,27 +226,27 @@ public final class StoredRequest {
         return attach(form, callSpec(function, false), of);
     }
 
-    /** What is said of a stage that calls a registered function. */
+    /** The spec of a stage that calls a registered function. */
     Map<String, Object> callSpec(String function, boolean composes) {
         return service.callSpec(function, composes);
     }
 
-    /** What is said of a stage without a function. */
+    /** The spec of a stage without a function. */
     static Map<String, Object> namedSpec(String name) {
-        Map<String, Object> said = new LinkedHashMap<>();
-        said.put("name", name);
-        return said;
+        Map<String, Object> spec = new LinkedHashMap<>();
+        spec.put("name", name);
+        return spec;
     }
 
     /** The spec of a further try of a stage, with the context of this place. */
     Map<String, Object> retrySpec(StoredStage stage) {
-        Map<String, Object> said = service.addContext(namedSpec(stage.name() + " again"));
-        said.put("again", stage.number);
-        return said;
+        Map<String, Object> spec = service.addContext(namedSpec(stage.name() + " again"));
+        spec.put("again", stage.number);
+        return spec;
     }
 
-    StoredStage attach(Form form, Map<String, ?> said, int... of) {
-        Map<String, Object> all = withComposing(said);
+    StoredStage attach(Form form, Map<String, ?> spec, int... of) {
+        Map<String, Object> all = withComposing(spec);
         byte[] payload = Json.write(all);
         return attachWith(form, of, all, view -> {
             int function = form.calls ? view.stageCount() : 0;
@@ -260,10 +260,10 @@ public final class StoredRequest {
     }
 
     /** Attaches a composing stage, or a further try of one, and before it a promise, which stands for what its function gives. */
-    StoredStage compose(Form form, StoredStage source, Map<String, Object> said) {
-        Map<String, Object> all = withComposing(said);
+    StoredStage compose(Form form, StoredStage source, Map<String, Object> spec) {
+        Map<String, Object> all = withComposing(spec);
         int[] of = {source.number};
-        byte[] promise = Json.write(namedSpec("what " + said.get("name") + " gives"));
+        byte[] promise = Json.write(namedSpec("what " + spec.get("name") + " gives"));
         return attachWith(form, of, all, view -> {
             Map<String, Object> own = new LinkedHashMap<>(all);
             own.put("to", view.stageCount());
@@ -272,8 +272,8 @@ public final class StoredRequest {
     }
 
     /** The spec of a stage, with the composing stage whose function attaches it on this thread, if one does. */
-    private Map<String, Object> withComposing(Map<String, ?> said) {
-        Map<String, Object> all = new LinkedHashMap<>(said);
+    private Map<String, Object> withComposing(Map<String, ?> spec) {
+        Map<String, Object> all = new LinkedHashMap<>(spec);
         Composing composing = composingByThread.get(Thread.currentThread());
         if (composing != null) {
             all.put("by", composing.first);
@@ -285,13 +285,13 @@ public final class StoredRequest {
      * Puts words that attach stages, and gives the last of these, which is of this form; or gives the one that an earlier try of the function has
      * attached which runs on this thread. A request that is closed in the store is opened again with that.
      */
-    private StoredStage attachWith(Form form, int[] of, Map<String, Object> said, RowView.Decision decision) {
+    private StoredStage attachWith(Form form, int[] of, Map<String, Object> spec, RowView.Decision decision) {
         Composing composing = composingByThread.get(Thread.currentThread());
         int[] found = {-1};
         List<RowView.DoneEntry> done;
         try {
             done = act(view -> {
-                found[0] = composing == null ? -1 : composing.findEarlier(view, form, of, said);
+                found[0] = composing == null ? -1 : composing.findEarlier(view, form, of, spec);
                 if (found[0] >= 0) {
                     return Collections.emptyList();
                 }
@@ -327,13 +327,13 @@ public final class StoredRequest {
         }
 
         /** The stage that an earlier try has attached in place of this one, or -1. It throws where the composing stage isn't this session's now. */
-        int findEarlier(RowView view, Form form, int[] of, Map<String, Object> said) {
+        int findEarlier(RowView view, Form form, int[] of, Map<String, Object> spec) {
             if (view.isSettled(stage) || !view.hasClaim(stage)) {
                 throw new RemoteException(RemoteException.ABANDONED, view.spec(first).name
                         + " is settled, and its function attaches nothing any more");
             }
             return first == stage ? -1 : view.findAttached(form, of,
-                    new StoredPlan.StageSpec((Map<?, ?>) Json.read(Json.write(said)), view.stageCount()), takenStages);
+                    new StoredPlan.StageSpec((Map<?, ?>) Json.read(Json.write(spec)), view.stageCount()), takenStages);
         }
     }
 
@@ -348,16 +348,16 @@ public final class StoredRequest {
 
     /** Attaches a tree of stages with two sources each, which ends as one stage with all of them would. */
     private StoredStage attachTree(Form form, String name, int[] of) {
-        Map<String, Object> said = namedSpec(name);
+        Map<String, Object> spec = namedSpec(name);
         int[] row = of;
         while (row.length > 2) {
             int[] above = new int[(row.length + 1) / 2];
             for (int k = 0; k < above.length; k++) {
-                above[k] = 2 * k + 1 < row.length ? attach(form, said, row[2 * k], row[2 * k + 1]).number : row[2 * k];
+                above[k] = 2 * k + 1 < row.length ? attach(form, spec, row[2 * k], row[2 * k + 1]).number : row[2 * k];
             }
             row = above;
         }
-        return attach(form, said, row);
+        return attach(form, spec, row);
     }
 
     boolean settle(long word, byte[] payload, int stage, boolean waits) {

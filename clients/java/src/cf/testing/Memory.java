@@ -122,7 +122,7 @@ final class Memory implements Store {
         return 0;
     }
 
-    // Timers: Rows has them.
+    // Timers: WorldRows has them.
 
     @Override
     public void setTimer(Timer timer) {}

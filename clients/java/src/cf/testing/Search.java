@@ -202,12 +202,7 @@ final class Search {
             if (k < last && stack.get(k).before.get(at)) {
                 continue;
             }
-            BitSet own = (BitSet) stack.get(k).before.clone();
-            if (k == last) {
-                own.andNot(stack.get(at).before);
-                own.clear(at);
-            }
-            if (!own.intersects(inside)) {
+            if (!stack.get(k).before.intersects(inside)) {
                 firsts.add(stack.get(k).chosen);
             }
             inside.set(k);

@@ -326,4 +326,17 @@ final class ClosingTest {
         }).seconds(60).whole().check();
         is(seen.size(), 8);
     }
+
+    /** What a function of a flow has given is needed by what stands behind that. */
+    static void goesOnInFlow() {
+        List<Stage<Integer>> gives = new ArrayList<>();
+        Flow flow = new Flow("order");
+        Flow.Step<Integer> first = flow.promise(), follows = first.thenCompose(x -> gives.get(0));
+        Request request = SERVICE.start(flow);
+        gives.add(request.promise());
+        request.stage(first).complete(1);
+        request.cancelRestAfter(request.stage(first));
+        is(gives.get(0).complete(7), true);
+        is(request.stage(follows).join(), 7);
+    }
 }

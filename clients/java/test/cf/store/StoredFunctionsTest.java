@@ -493,4 +493,36 @@ public final class StoredFunctionsTest {
             is(history.script().contains("\"stages\""), true);
         }
     }
+
+    /** What a function has attached is found again by all that was said of it, its arguments, too. */
+    public static void alike() {
+        Map<String, Object> said = new LinkedHashMap<>();
+        said.put("name", "charge");
+        said.put("fn", "charge");
+        said.put("args", Arrays.asList("lamp"));
+        for (String key : new String[] {"", "name", "fn", "version", "args", "kwargs", "again", "by"}) {
+            Map<String, Object> other = new LinkedHashMap<>(said);
+            if (!key.isEmpty()) {
+                other.put(key, key.equals("args") ? Arrays.asList("desk") : key.equals("kwargs") ? said : said.containsKey(key) ? "ship"
+                        : (Object) 2L);
+            }
+            is(key + new StoredPlan.StageSpec(other, 7).isAlike(new StoredPlan.StageSpec(said, 7)), key + key.isEmpty());
+        }
+        for (long stage : new long[] {-1, 7}) { // (a stage goes on with lower ones)
+            Map<String, Object> wrong = new LinkedHashMap<>(said);
+            wrong.put("to", stage);
+            thrown(IllegalArgumentException.class, () -> new StoredPlan.StageSpec(wrong, 7));
+        }
+        said.remove("args");
+        is(new StoredPlan.StageSpec(said, 7).isAlike(new StoredPlan.StageSpec(new LinkedHashMap<>(said), 7)), true);
+    }
+
+    /** A store that is closed has no connection open. */
+    public static void closes(InFile file) {
+        try (JdbcStore store = file.open()) {
+            store.open("closes", StoredPlan.text("", Collections.emptyList(), Collections.emptyMap()));
+            is(opened(file.path) > 0, true);
+        }
+        is(opened(file.path), 0L);
+    }
 }

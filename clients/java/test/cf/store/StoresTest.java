@@ -232,6 +232,7 @@ public final class StoresTest {
                 thrown(StoreException.Gone.class, () -> store.append(new Store.Put("puts", number + 1, 0, entries, Collections.emptyMap(), false)));
             }
             is(store.read("puts", number, 0).size(), 40);
+            thrown(StoreException.Gone.class, () -> store.payload("puts", number + 1, 1));
         }
     }
 
@@ -308,6 +309,9 @@ public final class StoresTest {
             is(end(request.promise("never").either(inc, "inc")), 43L);
             is(end(request.allOf(inc, sum, sorry)), null);
             is(end(request.anyOf(inc, request.promise("late"))), 42L);
+            is(end(request.anyOf(inc, sum, number)), 42L); // (the first that was named, where all are settled)
+            StoredStage open = request.promise("open");
+            is(end(request.anyOf(open, open, open, inc)), 42L);
             is(request.stage("inc").number(), 1);
             is(request.stage("inc").name(), "inc");
             is(request.stage("none"), null);
@@ -757,7 +761,7 @@ public final class StoresTest {
                 if (call.equals("dropTimer")) {
                     old.remove(args[0]);
                 }
-                return call.equals("due") && !old.isEmpty() ? new ArrayList<>(old) : null;
+                return call.equals("dueTimers") && !old.isEmpty() ? new ArrayList<>(old) : null;
             });
             try (StoreService service = service(keeping, functions)) {
                 StoredRequest first = service.request("again");

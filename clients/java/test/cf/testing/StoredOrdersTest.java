@@ -620,4 +620,47 @@ public final class StoredOrdersTest {
             is(name + StoredServices.ALL.faulty(name).orders().chance(500, 3).run().failed().isEmpty(), name + "false");
         }
     }
+
+    /** Effects stand in the order of their commits, and these are tried in each. */
+    public static void effects() {
+        is(ends(world -> {
+            Functions functions = new Functions().transactional("write", 1, (connection, args) -> write(connection, args.get(0)));
+            WorldStore store = world.store();
+            for (int number = 1; number <= 2; number++) {
+                store.process("process " + number, functions).request("order " + number).supply("write", number);
+            }
+            return new Object[] {store};
+        }, made -> ((WorldStore) made[0]).effects().toString()), set("[insert 1, insert 2]", "[insert 2, insert 1]"));
+        Effect effect = new Effect("insert", Arrays.asList(1));
+        for (Object other : Arrays.asList(new Effect("delete", Arrays.asList(1)), new Effect("insert", Arrays.asList(2)), "insert [1]")) {
+            is(effect.equals(other) + " " + other, "false " + other);
+        }
+        is(effect.equals(new Effect("insert", Arrays.asList(1))), true);
+    }
+
+    /** Who looks at a stage of a process does so before and behind each change of what that knows. */
+    public static void looks() {
+        is(ends(world -> {
+            List<String> seen = new ArrayList<>();
+            WorldStore store = world.store();
+            StoreProcess shop = store.process("shop");
+            StoredStage own = shop.request("order").promise("promise"), theirs = store.process("another").open("order").stage(0);
+            shop.calls("client", () -> own.complete(7));
+            world.calls("somebody", () -> seen.add(store.isSettled("order", "promise") + " " + theirs.isDone()));
+            return new Object[] {seen};
+        }, made -> made[0].toString()), set("[false false]", "[true false]", "[true true]"));
+    }
+
+    /** A world tells which process has which stage, and what it was told to stand. */
+    public static void granted() {
+        is(ends(world -> {
+            WorldStore store = world.store();
+            store.worker("one", new Functions().with("load", 1, () -> 7)).request("order").supply("load");
+            return new Object[] {store};
+        }, made -> {
+            WorldStore store = (WorldStore) made[0];
+            Set<String> told = store.answered().stream().map(it -> it.process() + " " + it.request()).collect(Collectors.toSet());
+            return store.granted() + " " + told;
+        }), set("[one has stage 0 of order] [one order]"));
+    }
 }
