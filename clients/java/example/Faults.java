@@ -70,7 +70,8 @@ public final class Faults {
         this.notes = notes;
         this.seed = seed;
         chance = new Random(Long.parseLong(seed));
-        service = new StoreService(notes.noted(Address.opened(address)), functions(notes), 2, 700, TimeUnit.MILLISECONDS, true);
+        service = StoreService.builder(notes.noted(Address.opened(address)), functions(notes)).threads(2)
+                .lease(700, TimeUnit.MILLISECONDS).takesAll(true).build();
     }
 
     // The process's own log.

@@ -78,7 +78,7 @@ public class Guide {
     }
 
     public static void main(String[] args) throws Exception {
-        Service service = new Service().describing(SAFE);
+        Service service = new Service().withDescribe(SAFE);
         try (Request request = service.request("guide")) {
             AtomicInteger asked = new AtomicInteger();
             Supplier<String> ask = () -> "try " + 1 / Math.max(0, asked.incrementAndGet() - 2); // throws twice

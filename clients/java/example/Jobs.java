@@ -37,7 +37,7 @@ public final class Jobs {
         String effects = Address.jdbc(args[1]);
         Functions functions = new Functions().with("outside", 1, name -> outside(effects, name)).with("same", 1, name -> name)
                 .with("both", 1, (name, other) -> name).transactional("inside", 1, (db, name) -> inside(db, name.get(0)));
-        new StoreService(Address.opened(args[0]), functions, 2, 700, TimeUnit.MILLISECONDS, true);
+        StoreService.builder(Address.opened(args[0]), functions).threads(2).lease(700, TimeUnit.MILLISECONDS).takesAll(true).build();
         Thread.sleep(Long.MAX_VALUE);
     }
 }

@@ -19,6 +19,7 @@ public class Keyed {
 
     public static void main(String[] args) {
         Report report = Orders.of(Keyed::checkout).seconds(60).run();
-        System.out.println(report.failed().size() + " of " + report.orders() + " orders fail, and the others come to the same: " + report.whole());
+        System.out.println(report.failed().size() + " of " + report.orders() + " orders fail, and the others come to the same: "
+                + report.whole());
     }
 }

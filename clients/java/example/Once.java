@@ -17,6 +17,7 @@ public class Once {
 
     public static void main(String[] args) {
         Report report = Orders.of(Once::checkout).run();
-        System.out.println(report.failed().size() + " of " + report.orders() + " orders fail, and the others come to the same: " + report.whole());
+        System.out.println(report.failed().size() + " of " + report.orders() + " orders fail, and the others come to the same: "
+                + report.whole());
     }
 }

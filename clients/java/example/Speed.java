@@ -18,7 +18,6 @@ import java.sql.Statement;
 import java.util.ArrayList;
 import java.util.Base64;
 import java.util.List;
-import java.util.concurrent.TimeUnit;
 import java.util.concurrent.atomic.AtomicInteger;
 
 /**
@@ -103,7 +102,7 @@ public final class Speed {
 
     private StoreService service(int threads, Functions functions) {
         Store store = address.startsWith("jdbc:") ? JdbcStore.open(address) : EtcdStore.open(address);
-        return new StoreService(store, functions, threads, 10, TimeUnit.SECONDS, false);
+        return StoreService.builder(store, functions).threads(threads).build();
     }
 
     private void slice() throws Exception {

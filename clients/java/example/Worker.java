@@ -5,7 +5,6 @@ import java.sql.Connection;
 import java.sql.PreparedStatement;
 import java.sql.SQLException;
 import java.util.List;
-import java.util.concurrent.TimeUnit;
 
 public class Worker {
     static Object pay(Connection db, List<Object> args) throws SQLException {
@@ -25,7 +24,7 @@ public class Worker {
             return;
         }
         Functions functions = new Functions().transactional("pay", 1, Worker::pay);
-        StoreService worker = new StoreService(store, functions, 8, 10, TimeUnit.SECONDS, true);
+        StoreService worker = StoreService.builder(store, functions).threads(8).takesAll(true).build();
         Runtime.getRuntime().addShutdownHook(new Thread(worker::close)); // waits for the functions that run
         Thread.currentThread().join(); // the service's threads are daemons
     }

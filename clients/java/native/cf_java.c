@@ -37,6 +37,9 @@ enum { HERE = 0, BY_EXECUTOR = 1, LANES = 2 };
 /* In whose name a machine itself settles stages: CLOCK of Request.java. */
 enum { OWN = 1 };
 
+/* The lowest bit of each field of a reply; Machine.java has the widths, too. */
+enum REPLY { REPLY_ANSWER = 8, REPLY_SETTLED = 12, REPLY_CLAIMED = 20, REPLY_READY = 26, REPLY_MORE = 33, REPLY_WORDS = 34 };
+
 /* What Java reads and writes, in the machine's order of bytes; Machine.java has the places. */
 struct block {
   int32_t done;     /* how many of the words that waited were done */
@@ -315,8 +318,7 @@ INLINE void write_told(struct block *block, size_t k, uint32_t stage, const cf_o
   block->told[k].number = outcome->kind == CF_VALUE ? outcome->value.number : (int32_t)outcome->code;
 }
 
-/* The end of a crossing, in one number: 8 bits of the code; then from 8 on the answer, 12 how many are told, 20 claimed, 26 ready, and 33 whether
- * there are more of them. `finish` has one bit more. */
+/* The end of a crossing: the reply. Its lowest bits are the code. */
 INLINE jlong end(struct crossing *it, uint32_t code, uint32_t answer) {
   struct core *core = it->core;
   size_t left;
@@ -326,8 +328,8 @@ INLINE jlong end(struct crossing *it, uint32_t code, uint32_t answer) {
   else core->heard = (size_t)core->block.events;
   time_events(core, ticks());
   for (size_t k = 0; k < it->n; k++) write_told(&core->block, k, it->told[k].stage, &it->told[k].outcome);
-  return (jlong)((uint64_t)code | (uint64_t)answer << 8 | (uint64_t)it->n << 12 | (uint64_t)it->claimed << 20 | (uint64_t)it->ready << 26 |
-                 (uint64_t)it->more << 33);
+  return (jlong)((uint64_t)code | (uint64_t)answer << REPLY_ANSWER | (uint64_t)it->n << REPLY_SETTLED |
+                 (uint64_t)it->claimed << REPLY_CLAIMED | (uint64_t)it->ready << REPLY_READY | (uint64_t)it->more << REPLY_MORE);
 }
 
 INLINE void begin(struct crossing *it, jlong at) { it->core = CORE(at), it->n = it->claimed = it->ready = 0, it->more = false; }
@@ -385,7 +387,7 @@ static uint32_t finish_late(struct crossing *it, uint8_t who, cf_task *task) {
 }
 
 /* Finishes a stage that the caller has claimed, by a value's number, -1 for null, or by an exception's code. Then it claims as `apply` does.
- * Where this is the last finish, it also brings the words, if they are few: bit 34 of the reply says so. */
+ * Where this is the last finish, it also brings the words, if they are few: REPLY_WORDS says so. */
 CALL(jlong, finish)
 (JNIEnv *env, jobject machine, jlong at, jint waiting, jint stage, jboolean throws, jint number, jint who, jboolean last) {
   (void)env, (void)machine;
@@ -399,7 +401,7 @@ CALL(jlong, finish)
   if (code == CF_NOT_HELD) code = finish_late(&it, (uint8_t)who, &task);
   if (code == CF_OK && task.held) claim_all(&it, who);
   jlong reply = end(&it, code, task.finished);
-  return last && code == CF_OK && write_words(it.core) ? reply | (jlong)1 << 34 : reply;
+  return last && code == CF_OK && write_words(it.core) ? reply | (jlong)1 << REPLY_WORDS : reply;
 }
 
 /* Finishes a stage by this word, which links it to a relay, unless it is 0. If that was in time, the relay follows a stage from now on. */
@@ -445,7 +447,7 @@ CALL(jlong, gather)(JNIEnv *env, jobject machine, jlong at, jint waiting, jint f
 }
 
 /* Does the words that wait, and sets a deadline of a stage: it times out then, or gets the value of this number, -1 for null. */
-CALL(jlong, deadline)(JNIEnv *env, jobject machine, jlong at, jint waiting, jint stage, jlong moment, jboolean gives, jint number) {
+CALL(jlong, setDeadline)(JNIEnv *env, jobject machine, jlong at, jint waiting, jint stage, jlong moment, jboolean gives, jint number) {
   (void)env, (void)machine;
   struct crossing it;
   cf_value value = {number < 0 ? CF_NIL : CF_INT, number < 0 ? 0 : number};
@@ -457,7 +459,7 @@ CALL(jlong, deadline)(JNIEnv *env, jobject machine, jlong at, jint waiting, jint
 }
 
 /* Lets time pass up to a moment, and tells that of the next deadline. */
-CALL(jlong, pass)(JNIEnv *env, jobject machine, jlong at, jint waiting, jlong moment, jint who) {
+CALL(jlong, passTimeTo)(JNIEnv *env, jobject machine, jlong at, jint waiting, jlong moment, jint who) {
   (void)env, (void)machine;
   struct crossing it;
   size_t told = 0;
@@ -474,7 +476,7 @@ CALL(jlong, pass)(JNIEnv *env, jobject machine, jlong at, jint waiting, jlong mo
 }
 
 /* What had no place. */
-CALL(jlong, more)(JNIEnv *env, jobject machine, jlong at, jint who) {
+CALL(jlong, fetchMore)(JNIEnv *env, jobject machine, jlong at, jint who) {
   (void)env, (void)machine;
   struct crossing it;
   size_t told = 0;
@@ -486,7 +488,7 @@ CALL(jlong, more)(JNIEnv *env, jobject machine, jlong at, jint who) {
 }
 
 /* How a stage was settled, as what is told, in the first place there; else -1. */
-CALL(jint, ask)(JNIEnv *env, jobject machine, jlong at, jint stage) {
+CALL(jint, fetchOutcome)(JNIEnv *env, jobject machine, jlong at, jint stage) {
   (void)env, (void)machine;
   struct core *core = CORE(at);
   cf_stage now;
@@ -497,7 +499,7 @@ CALL(jint, ask)(JNIEnv *env, jobject machine, jlong at, jint stage) {
 }
 
 /* How many stages for executors are ready, from a number on, and which: as many as there is place for. */
-CALL(jint, ready)(JNIEnv *env, jobject machine, jlong at, jint from) {
+CALL(jint, fetchReady)(JNIEnv *env, jobject machine, jlong at, jint from) {
   (void)env, (void)machine;
   struct core *core = CORE(at);
   uint16_t stage;
@@ -538,7 +540,7 @@ CALL(void, destroy)(JNIEnv *env, jclass class, jlong at) {
   free_core(CORE(at));
 }
 
-CALL(void, since)(JNIEnv *env, jobject machine, jlong at, jlong since) {
+CALL(void, setSince)(JNIEnv *env, jobject machine, jlong at, jlong since) {
   (void)env, (void)machine;
   CORE(at)->since = since ? (uint64_t)since : ticks();
 }
@@ -601,7 +603,7 @@ CALL(jint, open)(JNIEnv *env, jobject machine, jlong at, jlong plan, jint room, 
 
 /* Opens a request of no plan for two words: one that attaches a stage whose function an executor calls, which came at that moment, and then one
  * as `apply` does it. Where it is refused, the core is of no use. */
-CALL(jlong, first)(JNIEnv *env, jobject machine, jlong at, jlong attach, jlong since, jlong word, jint who) {
+CALL(jlong, openWith)(JNIEnv *env, jobject machine, jlong at, jlong attach, jlong since, jlong word, jint who) {
   (void)env, (void)machine;
   struct core *core = CORE(at);
   uint32_t code = open_anew(core, &empty, 1);

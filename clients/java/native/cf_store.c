@@ -1,4 +1,4 @@
-/* The library's views of rows (docs/C.md, "A row in a store") as native methods of cf.store.Row, and the system's lock of cf.store.Line.
+/* The library's views of rows (docs/C.md, "A row in a store") as native methods of cf.store.NativeRow, and the system's lock of cf.store.Line.
  *
  * What the library is owed, and where it is met: each view stands in a block of its own, which isn't moved; the lock of its request orders the
  * calls that have it (View.java); Row.java keeps it until it is closed, once, and makes no call then. Arrays of Java's are read within their
@@ -20,7 +20,7 @@ struct view {
 };
 
 #define VIEW(at) ((struct view *)(intptr_t)(at))
-#define CALL(type, name) JNIEXPORT type JNICALL Java_cf_store_Row_##name
+#define CALL(type, name) JNIEXPORT type JNICALL Java_cf_store_NativeRow_##name
 
 /* Builds a plan of rows, as cf_java.c has them: form, function or -1, count of sources, sources. */
 static uint32_t build(cf_handle *plan, const jint *rows, jsize n) {
@@ -65,7 +65,7 @@ CALL(void, close)(JNIEnv *env, jclass self, jlong view) {
 }
 
 /* The token of the first of these words, or a code negated. */
-CALL(jlong, plan)(JNIEnv *env, jclass self, jlong view, jlongArray words) {
+CALL(jlong, planPut)(JNIEnv *env, jclass self, jlong view, jlongArray words) {
   (void)self;
   uint64_t token = 0;
   const jsize n = (*env)->GetArrayLength(env, words);
@@ -77,7 +77,7 @@ CALL(jlong, plan)(JNIEnv *env, jclass self, jlong view, jlongArray words) {
 }
 
 /* Whether the put has landed at whose place this entry stands, or a code negated. */
-CALL(jint, met)(JNIEnv *env, jclass self, jlong view, jlong word, jlong token) {
+CALL(jint, landed)(JNIEnv *env, jclass self, jlong view, jlong word, jlong token) {
   (void)env, (void)self;
   const cf_entry entry = {.word = (uint64_t)word, .token = (uint64_t)token};
   uint8_t landed = 0;
@@ -85,7 +85,7 @@ CALL(jint, met)(JNIEnv *env, jclass self, jlong view, jlong word, jlong token) {
   return code == CF_OK ? landed : -(jint)code;
 }
 
-CALL(void, giveUp)(JNIEnv *env, jclass self, jlong view) {
+CALL(void, giveUpPut)(JNIEnv *env, jclass self, jlong view) {
   (void)env, (void)self;
   cf_row_give_up(&VIEW(view)->row);
 }
@@ -101,9 +101,9 @@ static void stage_out(jint *at, uint16_t number, cf_stage it) {
   outcome_out(at, it.outcome);
 }
 
-/* Sees an entry. `told` gets the reply: answer, number, kind of arguments, two values of a kind and a number each, and an outcome's five numbers.
+/* Takes in an entry. `told` gets the reply: answer, number, kind of arguments, two values of a kind and a number each, and an outcome's five numbers.
  * The stages that it changed come as an array, of nine numbers each; or nothing comes, and the code negated stands first in `told`. */
-CALL(jintArray, saw)(JNIEnv *env, jclass self, jlong view, jlong word, jlong token, jintArray told) {
+CALL(jintArray, takeIn)(JNIEnv *env, jclass self, jlong view, jlong word, jlong token, jintArray told) {
   (void)self;
   struct view *it = VIEW(view);
   const cf_entry entry = {.word = (uint64_t)word, .token = (uint64_t)token};
@@ -142,7 +142,7 @@ CALL(jint, grow)(JNIEnv *env, jclass self, jlong view, jint more) {
 }
 
 /* This session's number, or a code negated. */
-CALL(jint, number)(JNIEnv *env, jclass self, jlong view) {
+CALL(jint, callerNumber)(JNIEnv *env, jclass self, jlong view) {
   (void)env, (void)self;
   uint8_t who = 0;
   const uint32_t code = cf_row_number(&VIEW(view)->row, &who);
@@ -150,7 +150,7 @@ CALL(jint, number)(JNIEnv *env, jclass self, jlong view) {
 }
 
 /* The lowest ready stage from a number on, or -1. */
-CALL(jint, ready)(JNIEnv *env, jclass self, jlong view, jint from) {
+CALL(jint, lowestReady)(JNIEnv *env, jclass self, jlong view, jint from) {
   (void)env, (void)self;
   uint16_t stage = 0;
   return cf_ledger_ready(&VIEW(view)->row, (uint16_t)from, &stage) == CF_OK ? stage : -1;
@@ -165,7 +165,7 @@ static cf_task task_of(jint stage, jint kind, jint number) {
 }
 
 /* The word that finishes a stage of the session with this answer, or -1 where it hasn't the stage. */
-CALL(jlong, finish)(JNIEnv *env, jclass self, jlong view, jint stage, jint kind, jint number) {
+CALL(jlong, finishWord)(JNIEnv *env, jclass self, jlong view, jint stage, jint kind, jint number) {
   (void)env, (void)self;
   const cf_task task = task_of(stage, kind, number);
   uint64_t word = 0;
@@ -181,7 +181,7 @@ CALL(jint, nextClaim)(JNIEnv *env, jclass self, jlong view, jint held, jint kind
 }
 
 /* Whether a claim is open of a stage from a number on. `claim` gets the lowest one's stage and its session. */
-CALL(jboolean, openClaim)(JNIEnv *env, jclass self, jlong view, jint from, jlongArray claim) {
+CALL(jboolean, nextOpenClaim)(JNIEnv *env, jclass self, jlong view, jint from, jlongArray claim) {
   (void)self;
   cf_row_claim it;
   if (cf_row_open_claim(&VIEW(view)->row, (uint16_t)from, &it) != CF_OK) return false;
@@ -191,7 +191,7 @@ CALL(jboolean, openClaim)(JNIEnv *env, jclass self, jlong view, jint from, jlong
 }
 
 /* The word that fails the lowest stage from a number on that a session has, or -1. */
-CALL(jlong, abandon)(JNIEnv *env, jclass self, jlong view, jlong session, jint from) {
+CALL(jlong, abandonWord)(JNIEnv *env, jclass self, jlong view, jlong session, jint from) {
   (void)env, (void)self;
   uint64_t word = 0;
   return cf_row_abandon(&VIEW(view)->row, (uint64_t)session, (uint16_t)from, 0, &word) == CF_OK ? (jlong)word : -1;

@@ -20,7 +20,7 @@ public final class Ends<H> {
     private final Consumer<? super H> hook;
     private final String logger;
     private final ThreadPoolExecutor thread = new ThreadPoolExecutor(1, 1, IDLE_MILLIS, TimeUnit.MILLISECONDS, new LinkedBlockingQueue<>(MOST),
-            Ends::waitedFor);
+            Ends::newThread);
     private volatile boolean isFull;
 
     /** Warns by the logger of this name. */
@@ -31,7 +31,7 @@ public final class Ends<H> {
     }
 
     /** A thread that the JVM waits for, also where a daemon makes it. */
-    private static Thread waitedFor(Runnable run) {
+    private static Thread newThread(Runnable run) {
         Thread made = new Thread(run, "cf-ends");
         made.setDaemon(false);
         return made;
@@ -43,7 +43,7 @@ public final class Ends<H> {
      */
     public void tell(Supplier<? extends H> history, Executor within) {
         try {
-            thread.execute(() -> told(history, within));
+            thread.execute(() -> callHook(history, within));
             isFull = false;
         } catch (RejectedExecutionException full) {
             if (!isFull) {
@@ -55,7 +55,7 @@ public final class Ends<H> {
         }
     }
 
-    private void told(Supplier<? extends H> made, Executor within) {
+    private void callHook(Supplier<? extends H> made, Executor within) {
         try {
             H history = made.get();
             if (within == null) {
@@ -69,7 +69,7 @@ public final class Ends<H> {
     }
 
     /** Takes no more, and waits until the hook was told of all, for so many seconds at most. */
-    public void end(long seconds) throws InterruptedException {
+    public void drain(long seconds) throws InterruptedException {
         thread.shutdown();
         thread.awaitTermination(seconds, TimeUnit.SECONDS);
     }

@@ -36,7 +36,7 @@ public enum Form {
         handles = text.equals("handle") || text.equals("whenComplete") || text.startsWith("exceptionally");
     }
 
-    public static Form of(int number) {
+    public static Form byNumber(int number) {
         return ALL[number];
     }
 

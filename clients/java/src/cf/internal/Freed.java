@@ -34,15 +34,15 @@ public final class Freed extends PhantomReference<Object> {
     }
 
     /** Frees now, once. */
-    public void now() {
-        Runnable act = take();
+    public void freeNow() {
+        Runnable act = takeFirst();
         if (act != null) {
             act.run();
         }
     }
 
     /** What frees, for the one who calls it; null where somebody has it. */
-    private Runnable take() {
+    private Runnable takeFirst() {
         synchronized (FIRST) {
             Runnable act = free;
             if (act != null) {
@@ -58,18 +58,18 @@ public final class Freed extends PhantomReference<Object> {
     public static Runnable poll() {
         Runnable act = null;
         for (Freed gone; act == null && (gone = (Freed) GONE.poll()) != null;) {
-            act = gone.take();
+            act = gone.takeFirst();
         }
         return act;
     }
 
     /** Frees some of what can't be reached any more. */
-    public static void some() {
+    public static void freeSome() {
         free(SOME);
     }
 
     /** Frees all of it. */
-    public static void all() {
+    public static void freeAll() {
         free(Integer.MAX_VALUE);
     }
 

@@ -6,6 +6,6 @@ public final class Full {
 
     /** Of a request or a flow of this name. */
     public Full(String name) {
-        text = "\"" + Text.escaped(name) + "\" has no place for the stage: a request may have 4,096";
+        text = "\"" + Text.escape(name) + "\" has no place for the stage: a request may have 4,096";
     }
 }

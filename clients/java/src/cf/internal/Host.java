@@ -14,7 +14,7 @@ import java.util.logging.Level;
 import java.util.logging.Logger;
 
 /**
- * What a service over a store has beside that: time, chance, locks and threads. This one is the process as it is. A test gives a service another
+ * The time, the chance, the locks and the threads of a service over a store. This one is the process as it is. A test gives a service another
  * one, so that a search decides all of these.
  */
 public class Host {
@@ -25,11 +25,11 @@ public class Host {
     private ExecutorService pool;
     private Thread pump;
 
-    /** What a thread is to do for a request: see what is to be done there; act on a timer; forget it once it is closed. */
+    /** A thread's job for a request: work on it; act on a timer; forget it once it is closed. */
     public enum Job { WORK, FIRE, LET_GO }
 
     /** A function's call. */
-    public interface Call {
+    public interface FunctionCall {
         Object call() throws Throwable;
     }
 
@@ -38,23 +38,23 @@ public class Host {
         return System.nanoTime();
     }
 
-    /** Lets so many milliseconds pass. */
+    /** Waits so many milliseconds. */
     public void sleep(long millis) throws InterruptedException {
         Thread.sleep(millis);
     }
 
     /** A number of so many bits by chance, of at most 63. */
-    public long chance(int bits) {
+    public long randomBits(int bits) {
         return CHANCE.nextLong() >>> 64 - bits;
     }
 
     /** A lock that its owner may take again. */
-    public Lock lock() {
+    public Lock newLock() {
         return new ReentrantLock();
     }
 
-    /** Begins so many threads for jobs, at least one, and one that looks what is new. It is called once. */
-    public void begin(int threads, Runnable looks) {
+    /** Starts so many threads for jobs, at least one, and one that looks for news. It is called once. */
+    public void startThreads(int threads, Runnable looks) {
         String named = "cf-store-" + HOSTS.incrementAndGet();
         AtomicInteger number = new AtomicInteger();
         pool = Executors.newFixedThreadPool(Math.max(threads, 1), run -> daemon(run, named + "-" + number.incrementAndGet()));
@@ -79,7 +79,7 @@ public class Host {
     }
 
     /** Begins no more jobs, and waits for those that run. */
-    public void end() throws InterruptedException {
+    public void shutDown() throws InterruptedException {
         pool.shutdown();
         pool.awaitTermination(Long.MAX_VALUE, TimeUnit.NANOSECONDS);
         pump.interrupt();
@@ -87,41 +87,41 @@ public class Host {
     }
 
     /** Calls a function of this name. */
-    public Object call(String function, Call call) throws Throwable {
+    public Object call(String function, FunctionCall call) throws Throwable {
         return call.call();
     }
 
-    /** Comes back at once, or throws on what ends a run and is no outcome of a function. */
-    public void passes(Throwable thrown) {}
+    /** Throws an exception on that ends a run, and isn't the outcome of a function. */
+    public void rethrowIfRunEnds(Throwable thrown) {}
 
-    /** Says that something can't be done now in a request, or in the store where none is named. */
-    public void warns(String text, String request, Throwable thrown) {
+    /** Warns that something can't be done now in a request, or in the store where none is named. */
+    public void warn(String text, String request, Throwable thrown) {
         LOGGER.log(Level.WARNING, text, thrown);
     }
 
-    /** Says that a request can't be gone on with. Where it was dropped, another of its name may be opened. */
-    public void breaks(String text, boolean isDropped) {
+    /** Warns that a request is broken. Where it was dropped, another one of its name may be opened. */
+    public void warnBroken(String text, boolean isDropped) {
         LOGGER.log(Level.WARNING, text);
     }
 
-    /** A word of this service's was told to stand at a place of a request's row, and this is the answer that its event has. */
-    public void did(String request, int place, long word, int answer) {}
+    /** Notes that a word of this service's stands at a place of a request's row, and the answer to its event. */
+    public void noteAnswer(String request, int place, long word, int answer) {}
 
-    /** Whether a word of a session says that the session is there. In a search no time passes with words, so they don't. */
-    public boolean hears() {
+    /** Whether a word of a session is a sign of its life. In a search no time passes with words, so it isn't there. */
+    public boolean takesWordsAsBeats() {
         return true;
     }
 
-    /** Somebody looks at a stage, as this process has read it. */
-    public void looked() {}
+    /** Notes that a stage is read, as this process has it. */
+    public void noteLook() {}
 
-    /** Somebody waits for a stage until it is settled, or for so many nanoseconds, if they aren't negative. Whether he has waited by now. */
-    public boolean waits(Supplier<String> name, BooleanSupplier isSettled, long nanos) {
+    /** In a search, waits until a stage is settled, or so many nanoseconds have passed, if they aren't negative. Whether it has waited. */
+    public boolean awaitSettled(Supplier<String> name, BooleanSupplier isSettled, long nanos) {
         return false;
     }
 
-    /** Tells those who wait for a stage; whether anybody acts on that within the call. */
-    public void tells(boolean isHeard, Runnable act) {
+    /** Completes a stage's future, by which its dependents are called within this call, if there are any. */
+    public void wake(boolean isHeard, Runnable act) {
         act.run();
     }
 }

@@ -44,7 +44,7 @@ public final class Native {
 
     /**
      * What words did to the plan of these rows, as a text of a kind of {@link Tale}, which gets the place of {@code told}. The texts stand one
-     * behind the other, and of each {@link Tale.Said} their number and lengths in bytes. There are times for all words, or none. A code.
+     * behind the other, and of each {@link Tale.Label} their number and lengths in bytes. There are times for all words, or none. A code.
      */
     public static native int tale(int[] rows, int room, long[] words, long[] times, byte[] texts, int[] lengths, int kind, byte[][] told);
 

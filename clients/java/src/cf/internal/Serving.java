@@ -14,10 +14,10 @@ public interface Serving {
     boolean isStopped();
 
     /** Whether it has begun or opened a request. */
-    boolean has(String request);
+    boolean hasRequest(String request);
 
     /** Whether it is a stage of one of its requests. */
-    boolean has(StoredStage stage);
+    boolean hasStage(StoredStage stage);
 
     /** Whether it has given a request up. */
     boolean isBroken(String request);
@@ -26,14 +26,14 @@ public interface Serving {
     boolean isFiring(Store.Timer timer);
 
     /** Whether it has a stage's function. */
-    boolean knows(Reader all, int stage);
+    boolean knowsFunction(RequestReader all, int stage);
 
-    /** Whether it has a request of which somebody here has yet to be told, or has a claim that was granted without its being told. */
-    boolean hasUntold(String request, Reader all);
+    /** Whether somebody here waits for a stage of a request that is settled by all words, or a claim was granted that it doesn't know of. */
+    boolean hasUntold(String request, RequestReader all);
 
-    /** Says that it is there, and looks who else is, if it is time to. */
+    /** Puts a sign of life and reads those of others, if it is time to. */
     void beat();
 
-    /** The same, and looks what is due and what is new. */
-    void round();
+    /** The same, and looks for timers and news. */
+    void runRound();
 }

@@ -4,17 +4,17 @@ import cf.store.Functions;
 import cf.store.Store;
 import java.sql.Connection;
 
-/** Makes what a search over a store needs. {@link Watched#stores} gives it. */
+/** Makes what a search over a store needs. {@link WatchedServices#stores} gives it. */
 public interface Stores {
     /** A service that has another host. The lease is in nanoseconds. */
     Serving service(Store store, Functions functions, int threads, long lease, boolean takesAll, Host host);
 
     /** A reader of a request that stands in a store. */
-    Reader reader(Store store, Store.Opened opened);
+    RequestReader reader(Store store, Store.Opened opened);
 
     /** A connection as a transactional function has it: it refuses what ends the transaction. */
-    Connection lent(Connection db);
+    Connection guardConnection(Connection db);
 
     /** The stage that a word claims, or -1 where it is no claim. */
-    int claimed(long word);
+    int claimedStage(long word);
 }

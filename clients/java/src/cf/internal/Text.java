@@ -9,7 +9,7 @@ public final class Text {
     private Text() {}
 
     /** What is told of a value or an exception, not escaped yet. */
-    public static String of(Describe describe, Object thing) {
+    public static String describe(Describe describe, Object thing) {
         if (thing == null) {
             return "null";
         }
@@ -21,16 +21,16 @@ public final class Text {
     }
 
     /** With control and format characters, separators of lines, and halves of surrogate pairs written as JSON does. */
-    public static String escaped(String text) {
-        return escaped(text, c -> isHidden(c) || isHalf(c));
+    public static String escape(String text) {
+        return escape(text, c -> isHidden(c) || isHalf(c));
     }
 
     /** In UTF-8, which has no halves of surrogate pairs: they are written as JSON does. The library escapes all else. */
     public static byte[] utf8(String text) {
-        return escaped(text, Text::isHalf).getBytes(StandardCharsets.UTF_8);
+        return escape(text, Text::isHalf).getBytes(StandardCharsets.UTF_8);
     }
 
-    private static String escaped(String text, IntPredicate which) {
+    private static String escape(String text, IntPredicate which) {
         StringBuilder escaped = null;
         for (int k = 0, wide; k < text.length(); k += wide) {
             int c = text.codePointAt(k);

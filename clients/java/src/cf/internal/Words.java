@@ -52,19 +52,19 @@ public final class Words {
 
     /** The sources of a stage that a word attaches. */
     public static int[] sources(long word) {
-        int second = low(word) >>> 12 & 0xfff;
+        int second = lowBits(word) >>> 12 & 0xfff;
         return tag(word) == 0 ? new int[0] : tag(word) == 1 ? new int[] {stage(word)} : new int[] {stage(word), second};
     }
 
     /** The same event, of another caller. */
-    public static long by(int who, long word) {
+    public static long withCaller(int who, long word) {
         return word & ~(0xffL << 48) | (long) who << 48;
     }
 
     private static final String[] NAMES = {"", "complete", "fail", "cancel", "claim", "finish", "tick", "attach", "failAs"};
 
     /** Its call's name in scripts. */
-    public static String name(long word) {
+    public static String kindName(long word) {
         return NAMES[kind(word)];
     }
 
@@ -72,7 +72,7 @@ public final class Words {
         return (int) (word >>> 56);
     }
 
-    public static int who(long word) {
+    public static int caller(long word) {
         return (int) (word >>> 48) & 0xff;
     }
 
@@ -84,17 +84,17 @@ public final class Words {
         return (int) (word >>> 32) & 0xf;
     }
 
-    public static int low(long word) {
+    public static int lowBits(long word) {
         return (int) word;
     }
 
     /** Whether a finish throws. */
-    public static boolean throwing(long word) {
+    public static boolean isThrowing(long word) {
         return kind(word) == FINISH && tag(word) == 2;
     }
 
     /** Whether a finish links its stage to another one. */
-    public static boolean linking(long word) {
+    public static boolean isLinking(long word) {
         return kind(word) == FINISH && tag(word) == 3;
     }
 

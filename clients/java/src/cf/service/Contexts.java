@@ -4,7 +4,7 @@ import java.util.concurrent.Executor;
 
 /**
  * Takes a context along with functions, such as a logger's MDC or a span: a function is called within that of the place where it was attached.
- * {@link Service#carrying} chooses it. For OpenTelemetry there is {@code cf.service.opentelemetry.Spans.CONTEXTS}; this is the one for SLF4J's MDC:
+ * {@link Service#withContexts} takes it. For OpenTelemetry there is {@code cf.service.opentelemetry.Spans.CONTEXTS}; this is one for SLF4J's MDC:
  *
  * <pre>{@code
  * Contexts mdc = () -> {
@@ -19,7 +19,7 @@ import java.util.concurrent.Executor;
  *         }
  *     };
  * };
- * Service service = new Service(pool).carrying(Spans.CONTEXTS.and(mdc));
+ * Service service = new Service(pool).withContexts(Spans.CONTEXTS.and(mdc));
  * }</pre>
  */
 @FunctionalInterface

@@ -6,7 +6,7 @@ import java.util.Collection;
 import java.util.Map;
 
 /**
- * Says what histories, the texts of stages and flight recordings tell of a value or an exception. {@link Service#describing} and
+ * Says what histories, the texts of stages and flight recordings tell of a value or an exception. {@link Service#withDescribe} and
  * {@link Service#request(String, Describe)} choose it. Names of requests, stages and threads are told whatever it says.
  *
  * <pre>{@code
@@ -15,7 +15,7 @@ import java.util.Map;
  */
 @FunctionalInterface
 public interface Describe {
-    /** The first 60 characters of what {@code toString} gives. */
+    /** The first 60 characters of {@code toString}. */
     Describe ALL = value -> {
         String text;
         try {
@@ -38,7 +38,7 @@ public interface Describe {
     Describe NOTHING = value -> "-";
 
     /**
-     * What is told of a value or an exception. It isn't asked for null. If it throws, {@code ?} is told. Whoever takes a history or tells it calls
+     * The text of a value or an exception, never of null. If it throws, the text is {@code ?}. The thread that takes a history or its text calls
      * this, and of a recording the thread that settles the stage; no lock is held. Control characters, line separators and characters that turn
      * the direction of a text are escaped as in JSON, so no text can add a line to a history.
      *

@@ -18,7 +18,7 @@ final class Faults {
     private Throwable[] errors = new Throwable[2];
     private int count;
     /** Of each stage that has failed what it is told by. */
-    private Fault[] ends = NONE;
+    private Fault[] stageFaults = NONE;
 
     /** What an exception is told by: the stage's outcome, and what functions behind it are called with. */
     static final class Fault {
@@ -55,7 +55,7 @@ final class Faults {
         /** The exception, which is the same for all who ask. */
         Throwable error() {
             if (error == null) {
-                ERROR.compareAndSet(this, null, wrapping(cause.error));
+                ERROR.compareAndSet(this, null, wrap(cause.error));
             }
             return error;
         }
@@ -69,7 +69,7 @@ final class Faults {
         }
 
         /** What failed at first, which isn't wrapped, unless somebody has thrown it so. */
-        Throwable raw() {
+        Throwable rawError() {
             return cause != null ? cause.error : error;
         }
     }
@@ -78,7 +78,7 @@ final class Faults {
         this.sources = sources;
     }
 
-    int code(Throwable error) {
+    int codeOf(Throwable error) {
         if (count > 0 && errors[count - 1] == error) {
             return count - 1;
         }
@@ -90,53 +90,53 @@ final class Faults {
     }
 
     /** What a stage is told by that was settled so, from now on. */
-    Fault told(int stage, int kind, boolean isWrapped, int code) {
-        if (stage < ends.length && ends[stage] != null) {
-            return ends[stage];
+    Fault faultOfSettled(int stage, int kind, boolean isWrapped, int code) {
+        if (stage < stageFaults.length && stageFaults[stage] != null) {
+            return stageFaults[stage];
         }
-        Fault told = isWrapped ? wrapped(stage, kind, code) : raw(kind, code);
+        Fault told = isWrapped ? wrappedFault(stage, kind, code) : newFault(kind, code);
         keep(stage, told);
         return told;
     }
 
     /** What the source of a stage is told by that handles it. */
-    Fault ofSource(int stage, int kind, boolean isWrapped, int code) {
-        return told(sources.of(stage)[0], kind, isWrapped, code);
+    Fault faultOfSource(int stage, int kind, boolean isWrapped, int code) {
+        return faultOfSettled(sources.sourcesOf(stage)[0], kind, isWrapped, code);
     }
 
     /** A stage that stands for another one, and is yet to be told, is told by the same, if it fails in the same way. */
-    void stands(int stage, int kind, int code, Fault other) {
+    void shareFault(int stage, int kind, int code, Fault other) {
         if (other != null && isOf(other, kind, code)) {
             keep(stage, other);
         }
     }
 
     /** What a failed stage is told by; else null. */
-    Fault of(int stage) {
-        return stage < ends.length ? ends[stage] : null;
+    Fault faultOf(int stage) {
+        return stage < stageFaults.length ? stageFaults[stage] : null;
     }
 
     private void keep(int stage, Fault told) {
-        if (stage >= ends.length) {
-            ends = Arrays.copyOf(ends, Math.max(stage + 1, Math.min(Machine.MOST_STAGES, 2 * ends.length)));
+        if (stage >= stageFaults.length) {
+            stageFaults = Arrays.copyOf(stageFaults, Math.max(stage + 1, Math.min(Machine.MOST_STAGES, 2 * stageFaults.length)));
         }
-        ends[stage] = told;
+        stageFaults[stage] = told;
     }
 
     /** Who takes it of a source that wraps passes that on. Others wrap what the source has, or what their function has thrown. */
-    private Fault wrapped(int stage, int kind, int code) {
+    private Fault wrappedFault(int stage, int kind, int code) {
         Fault of = null;
-        for (int source : sources.of(stage)) {
-            Fault its = of(source);
+        for (int source : sources.sourcesOf(stage)) {
+            Fault its = faultOf(source);
             if (of == null && its != null && isOf(its, kind, code)) {
                 of = its;
             }
         }
-        of = of != null ? of : raw(kind, code);
+        of = of != null ? of : newFault(kind, code);
         return of.isWrapped() ? of : new Fault(of);
     }
 
-    private Fault raw(int kind, int code) {
+    private Fault newFault(int kind, int code) {
         switch (kind) {
             case History.CANCELLED:
                 return new Fault(new CancellationException(), false, false);
@@ -150,11 +150,12 @@ final class Faults {
     }
 
     private boolean isOf(Fault fault, int kind, int code) {
-        return kind == History.THROWN ? fault.isCoded && fault.raw() == errors[code] : !fault.isCoded && fault.isTimeout == (kind == History.TIMED_OUT);
+        return kind == History.THROWN ? fault.isCoded && fault.rawError() == errors[code]
+                : !fault.isCoded && fault.isTimeout == (kind == History.TIMED_OUT);
     }
 
     /** A completion exception. If its cause throws when it is asked for a text, it has none. */
-    private static CompletionException wrapping(Throwable error) {
+    private static CompletionException wrap(Throwable error) {
         try {
             return new CompletionException(error);
         } catch (Throwable unspeakable) {

@@ -59,24 +59,24 @@ final class FlightRecorder extends Recorder {
     }
 
     @Override
-    void word(String request, long word) {
+    void recordWord(String request, long word) {
         WordEvent event = new WordEvent();
-        event.request = Text.escaped(request);
-        event.event = Words.name(word);
+        event.request = Text.escape(request);
+        event.event = Words.kindName(word);
         event.stage = Words.stage(word);
-        event.caller = Words.who(word);
+        event.caller = Words.caller(word);
         event.word = word;
         event.commit();
     }
 
     @Override
-    void stage(String request, int number, String form, String name, String outcome) {
+    void recordStage(String request, int number, String form, String name, String outcome) {
         StageEvent event = new StageEvent();
-        event.request = Text.escaped(request);
+        event.request = Text.escape(request);
         event.number = number;
         event.form = form;
-        event.name = Text.escaped(name);
-        event.outcome = Text.escaped(outcome);
+        event.name = Text.escape(name);
+        event.outcome = Text.escape(outcome);
         event.commit();
     }
 }

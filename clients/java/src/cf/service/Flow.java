@@ -38,23 +38,23 @@ public final class Flow {
     };
 
     private final String name;
-    private final List<Row> rows = new ArrayList<>();
+    private final List<PlannedStage> planned = new ArrayList<>();
     private final List<Integer> promises = new ArrayList<>();
-    private volatile Row[] fixed;
+    private volatile PlannedStage[] fixedStages;
     private volatile Machine.Plan plan;
     private boolean startsReady;
     private int edges;
 
-    static final class Row {
+    static final class PlannedStage {
         final Form form;
-        final int[] of;
+        final int[] sources;
         final Object function;
         Executor executor;
         String name;
 
-        Row(Form form, int[] of, Object function, Executor executor) {
+        PlannedStage(Form form, int[] of, Object function, Executor executor) {
             this.form = form;
-            this.of = of;
+            this.sources = of;
             this.function = function;
             this.executor = executor;
         }
@@ -84,10 +84,10 @@ public final class Flow {
             return Flow.this;
         }
 
-        /** What histories call it. This step itself is given back. */
+        /** Sets its name in histories, and gives the step itself. */
         public Step<T> named(String name) {
             synchronized (Flow.this) {
-                changed(number).name = name;
+                changeableStage(number).name = name;
             }
             return this;
         }
@@ -100,7 +100,7 @@ public final class Flow {
         /** Has its function called by this executor. This step itself is given back. */
         public Step<T> async(Executor executor) {
             synchronized (Flow.this) {
-                changed(number).executor = Objects.requireNonNull(executor);
+                changeableStage(number).executor = Objects.requireNonNull(executor);
             }
             return this;
         }
@@ -147,36 +147,36 @@ public final class Flow {
 
         /** Plans a stage behind this one, as {@link CompletionStage#thenCombine}. */
         public <U, V> Step<V> thenCombine(Step<? extends U> other, BiFunction<? super T, ? super U, ? extends V> fn) {
-            return step(Form.COMBINE, fn, number, own(other));
+            return step(Form.COMBINE, fn, number, numberOf(other));
         }
 
         /** Plans a stage behind this one, as {@link CompletionStage#thenAcceptBoth}. */
         public <U> Step<Void> thenAcceptBoth(Step<? extends U> other, BiConsumer<? super T, ? super U> action) {
-            return step(Form.ACCEPT_BOTH, action, number, own(other));
+            return step(Form.ACCEPT_BOTH, action, number, numberOf(other));
         }
 
         /** Plans a stage behind this one, as {@link CompletionStage#runAfterBoth}. */
         public Step<Void> runAfterBoth(Step<?> other, Runnable action) {
-            return step(Form.RUN_BOTH, action, number, own(other));
+            return step(Form.RUN_BOTH, action, number, numberOf(other));
         }
 
         /** Plans a stage behind this one, as {@link CompletionStage#applyToEither}. */
         public <U> Step<U> applyToEither(Step<? extends T> other, Function<? super T, U> fn) {
-            return step(Form.APPLY_EITHER, fn, number, own(other));
+            return step(Form.APPLY_EITHER, fn, number, numberOf(other));
         }
 
         /** Plans a stage behind this one, as {@link CompletionStage#acceptEither}. */
         public Step<Void> acceptEither(Step<? extends T> other, Consumer<? super T> action) {
-            return step(Form.ACCEPT_EITHER, action, number, own(other));
+            return step(Form.ACCEPT_EITHER, action, number, numberOf(other));
         }
 
         /** Plans a stage behind this one, as {@link CompletionStage#runAfterEither}. */
         public Step<Void> runAfterEither(Step<?> other, Runnable action) {
-            return step(Form.RUN_EITHER, action, number, own(other));
+            return step(Form.RUN_EITHER, action, number, numberOf(other));
         }
     }
 
-    /** What {@link Service#start} gives, or who completes the request's stage. */
+    /** A step without a function: {@link Service#start} gets its value, or the request's stage is completed later. */
     public synchronized <U> Step<U> promise() {
         Step<U> step = add(Form.SOURCE, null, null);
         promises.add(step.number());
@@ -195,12 +195,12 @@ public final class Flow {
 
     /** As {@link Request#allOf}, in one stage, of however many steps. */
     public Step<Void> allOf(Step<?>... of) {
-        return add(Form.ALL_OF, null, null, own(of));
+        return add(Form.ALL_OF, null, null, numbersOf(of));
     }
 
     /** As {@link Request#anyOf}, in one stage, of however many steps. */
     public Step<Object> anyOf(Step<?>... of) {
-        return add(Form.ANY_OF, null, null, own(of));
+        return add(Form.ANY_OF, null, null, numbersOf(of));
     }
 
     /** The name of its requests. */
@@ -211,82 +211,82 @@ public final class Flow {
     private synchronized <U> Step<U> step(Form form, Object function, int... of) {
         Objects.requireNonNull(function);
         if (form.composes) {
-            open(2, of.length);
+            checkOpen(2, of.length);
             add(Form.SOURCE, null, null);
-            changed(rows.size() - 1).name = "relay";
+            changeableStage(planned.size() - 1).name = "relay";
         }
         return add(form, function, null, of);
     }
 
     private synchronized <U> Step<U> add(Form form, Object function, Executor executor, int... of) {
-        open(1, of.length);
+        checkOpen(1, of.length);
         edges += of.length;
         startsReady |= of.length == 0 && form != Form.SOURCE;
-        rows.add(new Row(form, of, function, executor));
-        return new Step<>(rows.size() - 1);
+        planned.add(new PlannedStage(form, of, function, executor));
+        return new Step<>(planned.size() - 1);
     }
 
-    private int own(Step<?> other) {
+    private int numberOf(Step<?> other) {
         if (other.flow() != this) {
             throw new IllegalArgumentException("the step is of another flow");
         }
         return other.number();
     }
 
-    private int[] own(Step<?>[] of) {
+    private int[] numbersOf(Step<?>[] of) {
         int[] numbers = new int[of.length];
         for (int k = 0; k < of.length; k++) {
-            numbers[k] = own(of[k]);
+            numbers[k] = numberOf(of[k]);
         }
         return numbers;
     }
 
-    private void open() {
-        if (fixed != null) {
-            throw new IllegalStateException("a request of the flow \"" + Text.escaped(name) + "\" was begun");
+    private void checkOpen() {
+        if (fixedStages != null) {
+            throw new IllegalStateException("a request of the flow \"" + Text.escape(name) + "\" was begun");
         }
     }
 
     /** Where there is place for so many steps, and sources of them. */
-    private void open(int steps, int sources) {
-        open();
-        if (rows.size() + steps > Machine.MOST_STAGES || edges + sources > Machine.MOST_EDGES) {
+    private void checkOpen(int steps, int sources) {
+        checkOpen();
+        if (planned.size() + steps > Machine.MOST_STAGES || edges + sources > Machine.MOST_EDGES) {
             throw new RequestFullException(new Full(name));
         }
     }
 
-    private Row changed(int number) {
-        open();
-        return rows.get(number);
+    private PlannedStage changeableStage(int number) {
+        checkOpen();
+        return planned.get(number);
     }
 
     // For requests.
 
     Machine.Plan plan() {
         Machine.Plan made = plan;
-        return made != null ? made : fixed();
+        return made != null ? made : fix();
     }
 
-    private synchronized Machine.Plan fixed() {
+    private synchronized Machine.Plan fix() {
         if (plan == null) {
             int length = 0;
-            for (Row row : rows) {
-                length += 3 + row.of.length;
+            for (PlannedStage row : planned) {
+                length += 3 + row.sources.length;
             }
             int[] numbers = new int[length];
             int at = 0;
-            for (int k = 0; k < rows.size(); k++) {
-                Row row = rows.get(k);
+            for (int k = 0; k < planned.size(); k++) {
+                PlannedStage row = planned.get(k);
                 // Its function is called by an executor, or by whoever makes it ready.
                 numbers[at++] = row.form.ordinal() + (row.form.calls && row.executor != null ? 256 : 0);
                 numbers[at++] = row.form.calls ? k : -1;
-                numbers[at++] = row.of.length;
-                for (int source : row.of) {
+                numbers[at++] = row.sources.length;
+                for (int source : row.sources) {
                     numbers[at++] = source;
                 }
             }
-            Machine.Plan made = new Machine.Plan(numbers, rows.size(), edges);
-            fixed = rows.toArray(new Row[0]);
+            Machine.Plan made = new Machine.Plan(numbers, planned.size(), edges);
+            fixedStages = planned.toArray(new PlannedStage[0]);
             plan = made; // Who reads it finds all that stands above.
         }
         return plan;
@@ -297,36 +297,36 @@ public final class Flow {
         return startsReady;
     }
 
-    int count() {
-        return fixed.length;
+    int stageCount() {
+        return fixedStages.length;
     }
 
-    int promises() {
+    int promiseCount() {
         return promises.size();
     }
 
-    int promise(int k) {
+    int promiseStage(int k) {
         return promises.get(k);
     }
 
-    Row at(int number) {
-        return fixed[number];
+    PlannedStage plannedStage(int number) {
+        return fixedStages[number];
     }
 
     Form form(int number) {
-        return fixed[number].form;
+        return fixedStages[number].form;
     }
 
     Object function(int number) {
-        return fixed[number].function;
+        return fixedStages[number].function;
     }
 
     String name(int number) {
-        return fixed[number].name;
+        return fixedStages[number].name;
     }
 
     <U> Stage<U> stage(Request request, int number) {
-        Row row = fixed[number];
+        PlannedStage row = fixedStages[number];
         return new Stage<>(request, number, row.form, row.function, row.executor == OF_SERVICE ? request.service.executor() : row.executor);
     }
 }

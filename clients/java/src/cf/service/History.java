@@ -2,13 +2,13 @@ package cf.service;
 
 import cf.internal.Form;
 import cf.internal.Tale;
-import cf.internal.Telling;
+import cf.internal.Teller;
 import cf.internal.Text;
 import cf.internal.Words;
 import java.util.Arrays;
 import java.util.List;
 
-/** What happened to a request in memory, which has times and spans, too. */
+/** The history of a request in memory, which has times and spans, too. */
 public final class History extends RequestHistory {
     // Kinds of outcomes and of arguments, answers of claims and finishes: numbers of cf.h.
     static final int GIVES = 1, THROWN = 2, CANCELLED = 3, TIMED_OUT = 4;
@@ -29,7 +29,7 @@ public final class History extends RequestHistory {
     private final Object[] values, errors;
     private Describe describe = Describe.ALL;
     private final String[] threads;
-    /** What the machine told, for tests; else null. */
+    /** What the machine brought, for tests; else null. */
     final int[][] witness;
     /** What a machine answers that does the words once more; and of each stage what it ends in, and its number. */
     private int[] answers, numbers, ends;
@@ -37,13 +37,13 @@ public final class History extends RequestHistory {
     /** Its request's lock is held. {@link #describe} is called once that is free. Where moments are null, they are the machine's. */
     History(String name, Flow flow, Machine machine, String[] names, Object[] values, Throwable[] errors, String[] threads, long[] moments) {
         this.name = name;
-        words = Arrays.copyOf(machine.kept(), machine.events());
+        words = Arrays.copyOf(machine.wordsAndMoments(), machine.events());
         this.flow = flow;
-        long[] kept = machine.kept();
-        times = moments != null ? moments : Machine.times(kept, words.length);
-        began = Machine.began(kept, words.length);
+        long[] kept = machine.wordsAndMoments();
+        times = moments != null ? moments : Machine.wordTimes(kept, words.length);
+        began = Machine.startTime(kept, words.length);
         stages = machine.stages();
-        witness = machine.witnessed();
+        witness = machine.witnesses();
         this.names = names;
         this.values = values;
         this.errors = Arrays.copyOf(errors, errors.length, Object[].class);
@@ -51,11 +51,11 @@ public final class History extends RequestHistory {
     }
 
     /** Keeps texts by this function alone, where it isn't the one that tells all. */
-    History described(Describe by) {
+    History describeBy(Describe by) {
         if (by != Describe.ALL) {
             for (Object[] each : Arrays.asList(values, errors)) {
                 for (int k = 0; k < each.length; k++) {
-                    each[k] = Text.of(by, each[k]);
+                    each[k] = Text.describe(by, each[k]);
                 }
             }
             describe = text -> (String) text;
@@ -81,16 +81,16 @@ public final class History extends RequestHistory {
      */
     public List<Span> spans() {
         read();
-        return SpanReader.of(this);
+        return SpanReader.spansOf(this);
     }
 
-    private int planned() {
-        return flow == null ? 0 : flow.count();
+    private int plannedStages() {
+        return flow == null ? 0 : flow.stageCount();
     }
 
     /** A machine that is to do the words once more. */
     Machine machine() {
-        return new Machine(flow == null ? null : flow.plan(), stages - planned());
+        return new Machine(flow == null ? null : flow.plan(), stages - plannedStages());
     }
 
     /** Does all words once more, once. */
@@ -103,15 +103,15 @@ public final class History extends RequestHistory {
         for (int k = 0; k < words.length; k++) {
             machine.apply(words[k], Machine.NOBODY);
             answers[k] = machine.answer();
-            numbers[k] = machine.number();
+            numbers[k] = machine.replyNumber();
         }
         for (int k = 0; k < stages; k++) {
             if (machine.isSettled(k)) {
-                ends[2 * k] = machine.told(0) >>> 16;
-                ends[2 * k + 1] = machine.number(0);
+                ends[2 * k] = Machine.Settled.outcome(machine.settledBits(0));
+                ends[2 * k + 1] = machine.settledNumber(0);
             }
         }
-        machine.rest(null);
+        machine.giveBackCore(null);
         this.answers = answers;
         this.numbers = numbers;
         this.ends = ends;
@@ -140,20 +140,21 @@ public final class History extends RequestHistory {
         return numbers[event];
     }
 
-    /** What a stage has ended in; 0 where it hasn't. */
+    /** The kind of a stage's outcome; 0 where it has none. */
     int kind(int stage) {
         return ends[2 * stage] & 0xf;
     }
 
-    /** What is told of the fault of a stage. */
+    /** The text of a stage's fault. */
     String failure(int stage) {
         int kind = kind(stage);
-        return kind == THROWN ? told(errors[ends[2 * stage + 1]]) : kind == CANCELLED ? "cancelled" : kind == TIMED_OUT ? "timed out" : "a bad answer";
+        return kind == THROWN ? describeValue(errors[ends[2 * stage + 1]]) : kind == CANCELLED ? "cancelled" : kind == TIMED_OUT ? "timed out"
+                : "a bad answer";
     }
 
-    /** What is told of an exception. */
-    String told(Object error) {
-        return Text.escaped(Text.of(describe, error));
+    /** The text of an exception. */
+    String describeValue(Object error) {
+        return Text.escape(Text.describe(describe, error));
     }
 
     Object error(int code) {
@@ -161,12 +162,12 @@ public final class History extends RequestHistory {
     }
 
     /** The name of a stage, or its form. */
-    String called(int stage, Form form) {
+    String title(int stage, Form form) {
         return names[stage] != null ? names[stage] : form.text;
     }
 
-    /** What a caller is called. */
-    String who(int who) {
+    /** The name of a caller. */
+    String callerName(int who) {
         return who < Request.CLOCK ? "caller" : who == Request.CLOCK ? "clock" : who == Request.RELAY ? "relay"
                 : who == Request.OTHER_THREADS ? "some thread" : threads[who - Request.FIRST_THREAD];
     }
@@ -175,12 +176,12 @@ public final class History extends RequestHistory {
     Form[] allForms() {
         Form[] forms = new Form[stages];
         int at = 0;
-        for (; at < planned(); at++) {
+        for (; at < plannedStages(); at++) {
             forms[at] = flow.form(at);
         }
         for (long word : words) {
             if (Words.kind(word) == Words.ATTACH && at < stages) {
-                forms[at++] = Form.of(Words.low(word) >>> 24);
+                forms[at++] = Form.byNumber(Words.lowBits(word) >>> 24);
             }
         }
         return forms;
@@ -190,8 +191,8 @@ public final class History extends RequestHistory {
     int[][] allSources() {
         int[][] of = new int[stages][];
         int at = 0;
-        for (; at < planned(); at++) {
-            of[at] = flow.at(at).of;
+        for (; at < plannedStages(); at++) {
+            of[at] = flow.plannedStage(at).sources;
         }
         for (long word : words) {
             if (Words.kind(word) == Words.ATTACH && at < stages) {
@@ -208,7 +209,7 @@ public final class History extends RequestHistory {
         StringBuilder text = new StringBuilder();
         for (int source : allSources()[stage]) {
             if (ends[2 * source] == 0) {
-                text.append(text.length() == 0 ? ", waits for " : " and ").append(source).append(' ').append(called(source, forms[source]));
+                text.append(text.length() == 0 ? ", waits for " : " and ").append(source).append(' ').append(title(source, forms[source]));
             }
         }
         return text.toString();
@@ -218,48 +219,49 @@ public final class History extends RequestHistory {
 
     /** What {@code cf run} prints of the script: the replies, and what the stages hold. */
     public String report() {
-        return telling().as(Tale.Kind.REPORT);
+        return teller().text(Tale.Format.REPORT);
     }
 
     /** @hidden */
     @Override
-    protected Telling telling() {
-        return new Telling(name, words) {
+    protected Teller teller() {
+        return new Teller(name, words) {
             @Override
-            protected Tale tale(Tale.Kind kind) {
-                Tale tale = new Tale(flow == null ? NO_ROWS : flow.plan().rows, stages - planned(), kind == Tale.Kind.LINES ? byRelays() : words);
-                if (times != null && kind != Tale.Kind.SCRIPT && kind != Tale.Kind.REPORT) {
-                    tale.time(times);
+            protected Tale newTale(Tale.Format kind) {
+                Tale tale = new Tale(flow == null ? NO_ROWS : flow.plan().rows, stages - plannedStages(),
+                        kind == Tale.Format.LINES ? relayWords() : words);
+                if (times != null && kind != Tale.Format.SCRIPT && kind != Tale.Format.REPORT) {
+                    tale.setTimes(times);
                 }
                 return tale;
             }
 
             @Override
-            protected void says(Tale tale) {
-                tale.say(Tale.Said.STAGES, Arrays.stream(names).map(each -> each == null ? "" : each).toArray(String[]::new));
-                tale.say(Tale.Said.CALLERS, callers(tale.words));
-                tale.say(Tale.Said.VALUES, texts(values));
-                tale.say(Tale.Said.ERRORS, texts(errors));
+            protected void addLabels(Tale tale) {
+                tale.setLabels(Tale.Label.STAGES, Arrays.stream(names).map(each -> each == null ? "" : each).toArray(String[]::new));
+                tale.setLabels(Tale.Label.CALLERS, callerNames(tale.words));
+                tale.setLabels(Tale.Label.VALUES, texts(values));
+                tale.setLabels(Tale.Label.ERRORS, texts(errors));
             }
 
             @Override
-            protected String who(int who) {
-                return History.this.who(who);
+            protected String callerName(int who) {
+                return History.this.callerName(who);
             }
         };
     }
 
     /** The words, with those as a relay's that settle one of this request, which the machine does as the clock. It stands right below a composing stage. */
-    private long[] byRelays() {
+    private long[] relayWords() {
         Form[] forms = allForms();
         return Arrays.stream(words).map(word -> {
             int above = Words.stage(word) + 1;
-            boolean isRelays = Words.who(word) == Request.CLOCK && above < stages && forms[above].composes;
-            return isRelays ? Words.by(Request.RELAY, word) : word;
+            boolean isRelays = Words.caller(word) == Request.CLOCK && above < stages && forms[above].composes;
+            return isRelays ? Words.withCaller(Request.RELAY, word) : word;
         }).toArray();
     }
 
     private String[] texts(Object[] things) {
-        return Arrays.stream(things).map(each -> Text.of(describe, each)).toArray(String[]::new);
+        return Arrays.stream(things).map(each -> Text.describe(describe, each)).toArray(String[]::new);
     }
 }

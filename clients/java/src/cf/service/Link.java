@@ -22,80 +22,80 @@ final class Link extends AtomicReference<Object> implements BiConsumer<Object, T
     /** Whether a fault of the relay is wrapped for all who are told it. */
     final boolean wraps;
     /** The stage at whose end nobody needs the relay any more, until it is told of this. */
-    private Stage<?> behind;
+    private Stage<?> dependent;
 
     /** In the row of this stage, which it hangs on; its places there are the lock's of that stage's request. */
     private Stage<?> source;
-    private Link before;
-    Link after;
+    private Link previous;
+    Link next;
     /** Whoever completes it takes away what hangs behind a future of Java's. */
     private volatile CompletableFuture<Object> release;
 
     /** Links in the order in which they came. */
-    static final class Row {
+    static final class Chain {
         private Link first, last;
 
         void add(Link link) {
-            link.before = last;
+            link.previous = last;
             if (last == null) {
                 first = link;
             } else {
-                last.after = link;
+                last.next = link;
             }
             last = link;
         }
 
-        /** All of them, by {@link Link#after}. */
-        Link take() {
+        /** All of them, by {@link Link#next}. */
+        Link takeAll() {
             Link all = first;
             first = last = null;
             return all;
         }
 
         void remove(Link link) {
-            if (first == null || link.before == null && first != link) {
+            if (first == null || link.previous == null && first != link) {
                 return; // They were taken, or this one was.
             }
-            if (link.before == null) {
-                first = link.after;
+            if (link.previous == null) {
+                first = link.next;
             } else {
-                link.before.after = link.after;
+                link.previous.next = link.next;
             }
-            if (link.after == null) {
-                last = link.before;
+            if (link.next == null) {
+                last = link.previous;
             } else {
-                link.after.before = link.before;
+                link.next.previous = link.previous;
             }
-            link.before = link.after = null;
+            link.previous = link.next = null;
         }
     }
 
     Link(Stage<?> relay, Stage<?> behind, boolean wraps) {
         this.relay = relay;
-        this.behind = behind;
+        this.dependent = behind;
         this.wraps = wraps;
     }
 
     /** The relay, which the caller is to settle; or null where that was done, or isn't needed. */
-    Stage<?> take() {
+    Stage<?> takeRelay() {
         Stage<?> taken = relay;
         relay = null;
         return taken;
     }
 
     /** Who runs the relay's request; null where nobody does, or the relay was taken. */
-    Watch watch() {
+    Watch relayWatch() {
         Stage<?> stage = relay;
         return stage == null ? null : stage.request.watch;
     }
 
     /** It stands in a row now: that of a stage whose request's lock is held. */
-    void hangsOn(Stage<?> stage) {
+    void setSource(Stage<?> stage) {
         source = stage;
     }
 
     /** Hangs it on a future that is no stage. What that has told by the end of the call is given back, else null. */
-    Object hang(CompletionStage<?> of) {
+    Object hangOn(CompletionStage<?> of) {
         if (of.getClass() == CompletableFuture.class && !((CompletableFuture<?>) of).isDone()) {
             CompletableFuture<?> future = (CompletableFuture<?>) of;
             CompletableFuture<Object> end = release = new CompletableFuture<>();
@@ -117,17 +117,17 @@ final class Link extends AtomicReference<Object> implements BiConsumer<Object, T
         if (compareAndSet(null, told) || get() != HANGS) {
             return; // By whoever hangs it up: what a chain of finished futures tells is no recursion.
         }
-        Request.told(this, told);
+        Request.settleLinked(this, told);
     }
 
     /** Lets it go at the end of the stage that needs the relay. */
-    void untilSettled() {
-        Stage<?> end = behind;
-        behind = null;
-        untilSettled(end);
+    void removeOnceSettled() {
+        Stage<?> end = dependent;
+        dependent = null;
+        removeOnceSettled(end);
     }
 
-    void untilSettled(Stage<?> end) {
+    void removeOnceSettled(Stage<?> end) {
         if (relay != null) {
             end.observe(this);
         }
@@ -136,7 +136,7 @@ final class Link extends AtomicReference<Object> implements BiConsumer<Object, T
     /** Lets it go: nobody needs the relay. */
     @Override
     public void run() {
-        if (take() == null) {
+        if (takeRelay() == null) {
             return;
         }
         CompletableFuture<Object> end = release;

@@ -14,15 +14,15 @@ import java.util.concurrent.atomic.AtomicReferenceArray;
 
 /**
  * A request of the library (docs/REQUEST.md), with the times of its words. It decides everything: this class hands over what happens and
- * brings back what is to be done. It is its request's lock. So one thread at a time has what stands behind the handle, which the library
- * asks for; that of a history nobody else knows. Who holds the lock also keeps the core reachable, so that it isn't freed within a call. A
- * core is in one machine or in the pool of one plan, never in two places.
+ * brings back what is to be done. It is its request's lock, so one thread at a time uses the library's handle, as the library demands. The
+ * thread that holds the lock also keeps the core reachable, so that it isn't freed within a call. A core is in one machine or in the pool of
+ * one plan, never in two places.
  *
- * <p>Words that can change nothing but that there is one stage more, since its sources aren't settled, are handed over with the next call
- * that can change something: one crossing does them all.
+ * <p>A word that only attaches a stage, whose sources aren't settled, waits for the next call that can change something: one crossing does
+ * them all.
  *
- * <p>A call that claims tells all stages that are ready for whoever made them ready. So between calls no such stage is ready, unless memory
- * was refused, and each is claimed by the thread that made it ready.
+ * <p>A call that claims takes all ready stages without an executor. So between calls no such stage is ready, unless memory was refused, and
+ * the thread that made a stage ready has claimed it.
  */
 final class Machine {
     static final int MOST_STAGES = 4096, MOST_EDGES = 16384;
@@ -30,11 +30,12 @@ final class Machine {
     /** Who calls a stage's function: the thread that made it ready, or an executor. */
     static final int HERE = 0, BY_EXECUTOR = 1;
 
-    /** What stands for nobody where a caller is asked for who would claim; the reply's arguments are brought then. */
+    /** The caller where none claims; the reply's arguments are brought then. */
     static final int NOBODY = -1;
 
     /** Places in a core's memory, in bytes: those of struct block. */
-    private static final int DONE = 0, NUMBER = 4, EVENTS = 8, MOMENTS = 12, ARGS = 16, DUE = 56, WORDS = 64, LANES = 576, TOLD = 640, CLAIMED = 1664,
+    private static final int DONE = 0, NUMBER = 4, EVENTS = 8, MOMENTS = 12, ARGS = 16, DUE = 56, WORDS = 64, LANES = 576, SETTLED = 640,
+            CLAIMED = 1664,
             READY = 2176;
     /** How many words a core takes at once, and how many ready stages it brings. */
     private static final int MOST_WORDS = 64;
@@ -55,51 +56,129 @@ final class Machine {
         Native.load();
     }
 
+    /** The fields of a reply, each with its lowest bit and its width: the enum REPLY of native/cf_java.c has the same. */
+    private static final class Reply {
+        static int code(long reply) {
+            return field(reply, 0, 8);
+        }
+
+        static int answer(long reply) {
+            return field(reply, 8, 4);
+        }
+
+        static int settledCount(long reply) {
+            return field(reply, 12, 8);
+        }
+
+        static int claimedCount(long reply) {
+            return field(reply, 20, 6);
+        }
+
+        static int readyCount(long reply) {
+            return field(reply, 26, 7);
+        }
+
+        /** Whether something had no place. */
+        static boolean hasMore(long reply) {
+            return field(reply, 33, 1) != 0;
+        }
+
+        /** Whether the words and their moments stand where words wait. */
+        static boolean hasWords(long reply) {
+            return field(reply, 34, 1) != 0;
+        }
+    }
+
+    /** The fields of the number that tells of a settled stage. */
+    static final class Settled {
+        static int stage(int bits) {
+            return field(bits, 0, 12);
+        }
+
+        static int kind(int bits) {
+            return field(bits, 16, 4);
+        }
+
+        static boolean isWrapped(int bits) {
+            return field(bits, 20, 1) != 0;
+        }
+
+        /** Whether its value has a number, and isn't null. */
+        static boolean hasValue(int bits) {
+            return field(bits, 21, 1) != 0;
+        }
+
+        /** All but the stage. */
+        static int outcome(int bits) {
+            return bits >>> 16;
+        }
+    }
+
+    /** The fields of the number that tells what a claimed stage's function is called with. */
+    static final class Arguments {
+        static int kind(int bits) {
+            return field(bits, 0, 2);
+        }
+
+        /** How the source ended, where the function takes an outcome. */
+        static int outcomeKind(int bits) {
+            return field(bits, 4, 4);
+        }
+
+        static boolean isWrapped(int bits) {
+            return field(bits, 8, 1) != 0;
+        }
+    }
+
+    private static int field(long bits, int lowest, int width) {
+        return (int) (bits >>> lowest) & (1 << width) - 1;
+    }
+
     private final Plan plan;
     private Core core;
-    /** How many stages there are, and how many of them it has told. */
-    private int stages, settled;
-    private int waiting;
+    /** How many stages there are, and how many of them are settled. */
+    private int stages, settledStages;
+    private int waitingWords;
     /** The reply to the last call, as native/cf_java.c packs it; before it is opened, the word that waits then, and since when. */
     private long reply, since;
     /** The words and their moments, which count where there is no core, and a bit for each stage whose function an executor calls. */
-    private long[] kept, executors = NONE;
-    private int keptWords;
-    /** What sets again what isn't in the words. */
-    private Runnable again;
-    /** Of the thread that opened it, in the pool. */
-    private int place;
+    private long[] keptWords, executors = NONE;
+    private int keptCount;
+    /** Sets relays and deadlines again, which aren't in the words. */
+    private Runnable restore;
+    /** The place in the pool of the thread that opened it. */
+    private int poolPlace;
     /** Whether words came once the core was given back. */
-    private boolean cameBack;
-    /** What was told: of a stage its number and outcome, of a claim its stage and arguments. */
+    private boolean isReopened;
+    /** Of each settled stage its number and outcome, of each claim its stage and arguments. */
     private final List<int[]> witness = WITNESSED ? new ArrayList<>() : null;
 
     /** Memory outside the heap: a core of native/cf_java.c. */
     static final class Core {
-        final long at;
+        final long address;
         final ByteBuffer memory;
         final Freed freed;
 
-        /** What outlives a core that nobody can reach; it is told of at first, so that a core that fails to be made is freed, too. */
-        private static final class Outside implements Runnable {
-            /** Of the plan that it is of. It keeps no pool of a plan that nobody has any more. */
+        /** The memory, which outlives a core that nobody can reach. It is registered first, so that a core that fails to be made is freed, too. */
+        private static final class Allocation implements Runnable {
+            /** The pool of its plan, which it doesn't keep. */
             private final WeakReference<Pool> pool;
-            private long at;
+            private long address;
             private ByteBuffer memory;
 
-            private Outside(WeakReference<Pool> pool) {
+            private Allocation(WeakReference<Pool> pool) {
                 this.pool = pool;
             }
 
             /** Whether it has a whole core of that plan. */
             boolean isOf(Pool pool) {
-                return at != 0 && memory != null && this.pool == pool.self;
+                return address != 0 && memory != null && this.pool == pool.self;
             }
 
             @Override
             public void run() {
-                long freed = at;
-                at = 0;
+                long freed = address;
+                address = 0;
                 if (freed != 0) {
                     Native.LIVE.getAndDecrement();
                     destroy(freed);
@@ -109,32 +188,32 @@ final class Machine {
 
         /** One of a plan. */
         private Core(Pool pool) {
-            Outside outside = new Outside(pool.self);
+            Allocation outside = new Allocation(pool.self);
             freed = new Freed(this, outside);
-            at = outside.at = created();
+            address = outside.address = createOrThrow();
             Native.LIVE.getAndIncrement();
-            memory = outside.memory = memory(at).order(ByteOrder.nativeOrder());
-            weigh();
+            memory = outside.memory = memory(address).order(ByteOrder.nativeOrder());
+            makeBallast();
         }
 
-        /** What was another one's, which nobody can reach. */
-        private Core(Outside lost) {
-            weigh();
-            Outside outside = new Outside(lost.pool);
+        /** Takes the memory over of a core that nobody can reach. */
+        private Core(Allocation lost) {
+            makeBallast();
+            Allocation outside = new Allocation(lost.pool);
             freed = new Freed(this, outside);
             memory = outside.memory = lost.memory;
-            long handed = lost.at;
-            lost.at = 0; // Where a thread is stopped here, neither one has it, rather than both.
-            at = outside.at = handed;
+            long handed = lost.address;
+            lost.address = 0; // Where a thread is stopped here, neither one has it, rather than both.
+            address = outside.address = handed;
         }
 
-        /** One of this plan that nobody can reach, or a new one. Some of what else can't be reached is freed meanwhile. */
-        static Core found(Pool pool) {
+        /** One of this plan that nobody can reach, or a new one. Some others that nobody can reach are freed meanwhile. */
+        static Core reuseOrCreate(Pool pool) {
             Runnable gone;
             for (int k = 0; k < Freed.SOME && (gone = Freed.poll()) != null; k++) {
                 Core core = null;
                 try {
-                    core = gone instanceof Outside && ((Outside) gone).isOf(pool) ? new Core((Outside) gone) : null;
+                    core = gone instanceof Allocation && ((Allocation) gone).isOf(pool) ? new Core((Allocation) gone) : null;
                 } finally {
                     gone.run(); // It has nothing where it was handed over.
                 }
@@ -150,16 +229,16 @@ final class Machine {
          * many, one that wasn't given back also takes as much in the heap, which is garbage at once: so the collector comes as often as if it
          * saw it. What it has found goes to those who open the next ones. Nobody waits for it, and memory ends only where the system refuses it.
          */
-        private static void weigh() {
+        private static void makeBallast() {
             if (Native.LIVE.get() > MANY) {
                 ballast = new byte[BYTES];
             }
         }
 
-        private static long created() {
+        private static long createOrThrow() {
             long made = create(TIMES);
             if (made == 0) {
-                Freed.all();
+                Freed.freeAll();
                 made = create(TIMES);
             }
             if (made == 0) {
@@ -170,7 +249,7 @@ final class Machine {
     }
 
     /** How many cores aren't freed. */
-    static int live() {
+    static int liveCores() {
         return Native.LIVE.get();
     }
 
@@ -179,16 +258,16 @@ final class Machine {
         private static final int MOST = Math.max(1, Integer.getInteger("cf.kept", 64));
         private final AtomicReferenceArray<Core> free;
         /** Requests whose stages are all settled: of each thread that opens requests the last one. */
-        private final AtomicReferenceArray<Machine> over;
+        private final AtomicReferenceArray<Machine> overMachines;
         private final WeakReference<Pool> self = new WeakReference<>(this);
 
         Pool(int stages) {
             free = new AtomicReferenceArray<>(stages <= MOST_KEPT ? MOST : Math.min(MOST, 4));
-            over = new AtomicReferenceArray<>(free.length());
+            overMachines = new AtomicReferenceArray<>(free.length());
         }
 
         /** Of this thread. */
-        private int place() {
+        private int placeOfThread() {
             return ((int) Thread.currentThread().getId() & Integer.MAX_VALUE) % free.length();
         }
 
@@ -196,12 +275,12 @@ final class Machine {
          * All stages of this request are settled. Most likely nobody needs it any more, and perhaps nobody closes it: so the next one of its
          * thread that is over has its core given back. Where two come at once, one may be forgotten here, which the collector finds.
          */
-        private void over(Machine machine) {
-            Machine before = over.get(machine.place);
+        private void noteOver(Machine machine) {
+            Machine before = overMachines.get(machine.poolPlace);
             if (before != machine) {
-                over.lazySet(machine.place, machine);
+                overMachines.lazySet(machine.poolPlace, machine);
                 if (before != null) {
-                    before.restsUnasked();
+                    before.giveBackUnasked();
                 }
             }
         }
@@ -232,11 +311,11 @@ final class Machine {
 
     /** A plan of the library; it is freed once no request needs it. */
     static final class Plan {
-        final long at;
+        final long address;
         final int[] rows;
         final int stages;
         /** How many stages there may be by and by: two edges are set aside for each that is attached. */
-        final int most;
+        final int mostStages;
         final Pool pool;
 
         Plan(int[] rows, int stages, int edges) {
@@ -244,10 +323,10 @@ final class Machine {
             if (made < 0) {
                 throw Native.refusal((int) -made);
             }
-            at = made;
+            address = made;
             this.rows = rows;
             this.stages = stages;
-            most = Math.min(MOST_STAGES, stages + (MOST_EDGES - edges) / 2);
+            mostStages = Math.min(MOST_STAGES, stages + (MOST_EDGES - edges) / 2);
             pool = new Pool(stages);
             new Freed(this, () -> Native.forget(made));
         }
@@ -255,11 +334,11 @@ final class Machine {
 
     Machine(Plan plan, int room) {
         this.plan = plan;
-        stages = planned();
+        stages = plannedStages();
         open(room);
     }
 
-    /** One of no plan that is opened by whoever makes the first call after this one. Its stage is an executor's. */
+    /** One without a plan, which the first call after this one opens. Its stage has an executor. */
     Machine(long word) {
         plan = null;
         reply = word;
@@ -268,7 +347,7 @@ final class Machine {
         executors = ONE;
     }
 
-    private int planned() {
+    private int plannedStages() {
         return plan == null ? 0 : plan.stages;
     }
 
@@ -276,81 +355,81 @@ final class Machine {
         return plan == null ? NO_PLAN : plan.pool;
     }
 
-    /** Has a core again, if it was given back, in which all is as it was. */
+    /** The core; if it was given back, another one, in which all is as it was. */
     private Core core() {
         if (core == null) {
-            cameBack = kept != null;
-            open(stages - planned());
-            if (again != null) {
+            isReopened = keptWords != null;
+            open(stages - plannedStages());
+            if (restore != null) {
                 try {
-                    again.run();
+                    restore.run();
                 } catch (Throwable refused) {
                     Core half = core;
                     core = null; // Nobody uses it once it is freed, wherever this thread is stopped.
-                    half.freed.now();
+                    half.freed.freeNow();
                     throw refused;
                 }
-                again = null;
+                restore = null;
             }
-            kept = null;
+            keptWords = null;
         }
         return core;
     }
 
-    private Core taken() {
-        place = pool().place();
-        Core core = pool().take(place);
+    private Core takeCore() {
+        poolPlace = pool().placeOfThread();
+        Core core = pool().take(poolPlace);
         if (core == null) {
-            return Core.found(pool());
+            return Core.reuseOrCreate(pool());
         }
-        Freed.some();
+        Freed.freeSome();
         return core;
     }
 
     /** With so much room, of which the machine makes more itself. */
     private void open(int room) {
-        Core core = taken();
-        long of = plan == null ? 0 : plan.at;
-        int code = open(core.at, of, room, kept, keptWords, executors);
+        Core core = takeCore();
+        long of = plan == null ? 0 : plan.address;
+        int code = open(core.address, of, room, keptWords, keptCount, executors);
         if (code == Native.NO_MEMORY) {
-            Freed.all();
-            code = open(core.at, of, room, kept, keptWords, executors);
+            Freed.freeAll();
+            code = open(core.address, of, room, keptWords, keptCount, executors);
         }
         if (code != Native.OK) {
-            core.freed.now();
+            core.freed.freeNow();
             throw Native.refusal(code);
         }
         boolean waits = isUnopened();
         if (waits) {
             core.memory.putLong(WORDS, reply);
             core.memory.put(LANES, (byte) BY_EXECUTOR);
-            since(core.at, since);
+            setSince(core.address, since);
         }
         // No method is called from here on, so that a stack that is at its end can't leave half of it.
         this.core = core;
-        waiting = waits ? 1 : 0;
+        waitingWords = waits ? 1 : 0;
         reply = 0; // What that brought was of the core before.
     }
 
     private boolean isUnopened() {
-        return kept == null && reply != 0;
+        return keptWords == null && reply != 0;
     }
 
-    /** Opens it, and does both the word that waits and this one. Where that fails, the word waits as before. */
-    private void first(long word, int who) {
-        Core core = taken();
-        long told = first(core.at, reply, since, word, who);
-        if (((int) told & 0xff) == Native.NO_MEMORY) {
-            Freed.all();
-            told = first(core.at, reply, since, word, who);
+    /** Opens a core, and does the word that waits and this one. Where that fails, the word waits as before. */
+    private void openWith(long word, int who) {
+        Core core = takeCore();
+        long told = openWith(core.address, reply, since, word, who);
+        if (Reply.code(told) == Native.NO_MEMORY) {
+            Freed.freeAll();
+            told = openWith(core.address, reply, since, word, who);
         }
-        int code = (int) told & 0xff;
+        int code = Reply.code(told);
         if (code != Native.OK) {
-            core.freed.now();
+            core.freed.freeNow();
             throw Native.refusal(code);
         }
         this.core = core;
-        done(told);
+        acceptReply(told);
     }
 
     int stages() {
@@ -358,53 +437,53 @@ final class Machine {
     }
 
     boolean hasPlace(int more) {
-        return stages + more <= (plan == null ? MOST_STAGES : plan.most);
+        return stages + more <= (plan == null ? MOST_STAGES : plan.mostStages);
     }
 
-    private void byExecutor(int stage) {
+    private void noteExecutor(int stage) {
         if (executors == ONE || executors.length <= stage >>> 6) {
             executors = Arrays.copyOf(executors, Math.max(2 * executors.length, (stage >>> 6) + 1));
         }
         executors[stage >>> 6] |= 1L << stage;
     }
 
-    /** A stage more whose sources aren't settled. */
+    /** Attaches a stage whose sources aren't settled. */
     int attachLater(long word, int lane) {
         Core core = core();
-        if (waiting == MOST_WORDS) {
+        if (waitingWords == MOST_WORDS) {
             flush();
         }
-        if (waiting == 0 && TIMES) {
-            since(core.at, 0);
+        if (waitingWords == 0 && TIMES) {
+            setSince(core.address, 0);
         }
-        core.memory.putLong(WORDS + 8 * waiting, word);
-        core.memory.put(LANES + waiting, (byte) lane);
-        waiting++;
-        return attached(lane);
+        core.memory.putLong(WORDS + 8 * waitingWords, word);
+        core.memory.put(LANES + waitingWords, (byte) lane);
+        waitingWords++;
+        return countAttached(lane);
     }
 
     int attach(long word, int lane, int who) {
         apply(word, lane, who);
-        return attached(lane);
+        return countAttached(lane);
     }
 
     /** Attaches stages that wait for all of those, or for one of them: one less than those, of which the last one does. */
     void gather(Form form, short[] of, int who) {
-        done(gather(core().at, waiting, form.ordinal(), of, who));
+        acceptReply(gather(core().address, waitingWords, form.ordinal(), of, who));
         stages += of.length - 1;
     }
 
-    private int attached(int lane) {
+    private int countAttached(int lane) {
         if (lane == BY_EXECUTOR) {
-            byExecutor(stages);
+            noteExecutor(stages);
         }
         return stages++;
     }
 
-    /** Does what waits. Nothing is told of such words. */
+    /** Does the words that wait. They settle nothing. */
     void flush() {
-        if (waiting > 0) {
-            done(apply(core().at, waiting, 0, HERE, NOBODY));
+        if (waitingWords > 0) {
+            acceptReply(apply(core().address, waitingWords, 0, HERE, NOBODY));
         }
     }
 
@@ -415,163 +494,163 @@ final class Machine {
 
     private void apply(long word, int lane, int who) {
         if (core == null && isUnopened() && lane == HERE) {
-            first(word, who);
+            openWith(word, who);
         } else {
-            done(apply(core().at, waiting, word, lane, who));
+            acceptReply(apply(core().address, waitingWords, word, lane, who));
         }
     }
 
     /** Finishes a stage that the caller has claimed, by the number of a value or exception, and claims what is ready then. */
     void finish(int stage, boolean isThrown, int number, int who) {
-        done(finish(core().at, waiting, stage, isThrown, number, who, settled == stages - 1));
+        acceptReply(finish(core().address, waitingWords, stage, isThrown, number, who, settledStages == stages - 1));
     }
 
     /** Finishes a stage by this word, which links it, to a relay where that isn't -1; from now on the relay follows that stage. */
     void link(long word, int relay, int stage, int who) {
-        done(link(core().at, waiting, word, relay, stage, who));
+        acceptReply(link(core().address, waitingWords, word, relay, stage, who));
     }
 
     /** From now on the relay follows that stage. */
     void follow(int relay, int stage) {
-        done(link(core().at, waiting, 0, relay, stage, NOBODY));
+        acceptReply(link(core().address, waitingWords, 0, relay, stage, NOBODY));
     }
 
-    void deadline(int stage, Stage.Limit limit) {
-        done(deadline(core().at, waiting, stage, limit.moment, limit.gives, limit.number));
+    void setDeadline(int stage, Stage.Limit limit) {
+        acceptReply(setDeadline(core().address, waitingWords, stage, limit.moment, limit.hasValue, limit.number));
     }
 
     /** Lets time pass up to a moment. */
-    void pass(long moment, int who) {
-        done(pass(core().at, waiting, moment, who));
+    void passTimeTo(long moment, int who) {
+        acceptReply(passTimeTo(core().address, waitingWords, moment, who));
     }
 
     /** Brings what had no place, and says whether there was any. */
-    boolean more(int who) {
-        if ((reply >>> 33 & 1) == 0) {
+    boolean fetchMore(int who) {
+        if (!Reply.hasMore(reply)) {
             return false;
         }
-        done(more(core.at, who));
+        acceptReply(fetchMore(core.address, who));
         return true;
     }
 
-    private void done(long told) {
-        int code = (int) told & 0xff;
+    private void acceptReply(long told) {
+        int code = Reply.code(told);
         if (code != Native.OK) {
-            refused(code);
+            throwRefusal(code);
         }
         // No method is called from here on, so that a stack that is at its end can't leave half of it.
         reply = told;
-        waiting = 0;
-        settled += told();
+        waitingWords = 0;
+        settledStages += settledCount();
         if (WITNESSED) {
-            witness();
+            addWitness();
         }
     }
 
-    /** Some of the words that waited may have been done. */
-    private void refused(int code) {
+    /** Drops the words that were done before a refusal, and throws that. */
+    private void throwRefusal(int code) {
         ByteBuffer memory = core.memory;
         int done = memory.getInt(DONE);
         reply = 0;
-        waiting -= done;
-        for (int k = 0; k < waiting; k++) {
+        waitingWords -= done;
+        for (int k = 0; k < waitingWords; k++) {
             memory.putLong(WORDS + 8 * k, memory.getLong(WORDS + 8 * (k + done)));
             memory.put(LANES + k, memory.get(LANES + k + done));
         }
         throw Native.refusal(code);
     }
 
-    private void witness() {
-        for (int k = 0; k < told(); k++) {
-            witness.add(new int[] {told(k), number(k)});
+    private void addWitness() {
+        for (int k = 0; k < settledCount(); k++) {
+            witness.add(new int[] {settledBits(k), settledNumber(k)});
         }
-        for (int k = 0; k < claimed(); k++) {
-            witness.add(new int[] {claimed(k), kind(k), first(k), second(k)});
+        for (int k = 0; k < claimedCount(); k++) {
+            witness.add(new int[] {claimedStage(k), argumentBits(k), firstArgument(k), secondArgument(k)});
         }
     }
 
-    /** What was told until now; null where that isn't kept. */
-    int[][] witnessed() {
+    /** What was brought until now; null where that isn't kept. */
+    int[][] witnesses() {
         return witness == null ? null : witness.toArray(new int[0][]);
     }
 
-    // What the last call brought, which stands in the core.
+    // What the last call brought into the core.
 
     int answer() {
-        return (int) reply >>> 8 & 0xf;
+        return Reply.answer(reply);
     }
 
-    int number() {
+    int replyNumber() {
         return core.memory.getInt(NUMBER);
     }
 
-    int argument(int at) {
+    int replyArgument(int at) {
         return core.memory.getInt(ARGS + 4 * at);
     }
 
-    /** The moment of the next deadline, behind {@link #pass}; {@code Long.MAX_VALUE} where there is none. */
-    long due() {
+    /** The moment of the next deadline, behind {@link #passTimeTo}; {@code Long.MAX_VALUE} where there is none. */
+    long nextDeadline() {
         return core.memory.getLong(DUE);
     }
 
     /** How many stages were settled. */
-    int told() {
-        return (int) (reply >>> 12) & 0xff;
+    int settledCount() {
+        return Reply.settledCount(reply);
     }
 
-    /** One of them: its number, and what it is settled with, as {@link Request} reads it. */
-    int told(int k) {
-        return core.memory.getInt(TOLD + 8 * k);
+    /** One of them, as {@link Settled} reads it. */
+    int settledBits(int k) {
+        return core.memory.getInt(SETTLED + 8 * k);
     }
 
     /** Its value's number, or its exception's. */
-    int number(int k) {
-        return core.memory.getInt(TOLD + 4 + 8 * k);
+    int settledNumber(int k) {
+        return core.memory.getInt(SETTLED + 4 + 8 * k);
     }
 
     /** How many stages were claimed. */
-    int claimed() {
-        return (int) (reply >>> 20) & 0x3f;
+    int claimedCount() {
+        return Reply.claimedCount(reply);
     }
 
-    int claimed(int k) {
+    int claimedStage(int k) {
         return core.memory.getInt(CLAIMED + 16 * k);
     }
 
-    /** What its function is called with: 2 bits of the kind of arguments; of an outcome the kind from bit 4 on, and whether it is wrapped. */
-    int kind(int k) {
+    /** What its function is called with, as {@link Arguments} reads it. */
+    int argumentBits(int k) {
         return core.memory.getInt(CLAIMED + 4 + 16 * k);
     }
 
     /** The number of its first value, or of its exception; -1 for null. */
-    int first(int k) {
+    int firstArgument(int k) {
         return core.memory.getInt(CLAIMED + 8 + 16 * k);
     }
 
-    int second(int k) {
+    int secondArgument(int k) {
         return core.memory.getInt(CLAIMED + 12 + 16 * k);
     }
 
     /** How many stages became ready whose functions executors call. */
-    int ready() {
-        return (int) (reply >>> 26) & 0x7f;
+    int readyCount() {
+        return Reply.readyCount(reply);
     }
 
-    int ready(int k) {
+    int readyStage(int k) {
         return core.memory.getShort(READY + 2 * k);
     }
 
     /** Those of the plan that are ready before anything was done, as many as there is place for, from a number on. */
-    int readyFrom(int stage) {
-        return ready(core().at, stage);
+    int fetchReady(int stage) {
+        return fetchReady(core().address, stage);
     }
 
-    /** Brings a stage as the first that is told, and says whether it is settled. */
+    /** Brings the outcome of a stage as that of the first settled one, and says whether it is settled. */
     boolean isSettled(int stage) {
         core();
         flush();
-        check(ask(core.at, stage));
-        return told(0) != -1;
+        check(fetchOutcome(core.address, stage));
+        return settledBits(0) != -1;
     }
 
     private static void check(int code) {
@@ -583,48 +662,48 @@ final class Machine {
     // All of it.
 
     int events() {
-        return (core == null ? keptWords : core.memory.getInt(EVENTS)) + waiting;
+        return (core == null ? keptCount : core.memory.getInt(EVENTS)) + waitingWords;
     }
 
     /** The words, and behind them the moments: of each its ticks, in 56 bits, and how many events were done since the one before it. */
-    long[] kept() {
-        if (core == null && kept != null) {
-            return kept;
+    long[] wordsAndMoments() {
+        if (core == null && keptWords != null) {
+            return keptWords;
         }
         core();
         flush();
         int events = events();
         long[] all = new long[events + core.memory.getInt(MOMENTS)];
-        if ((reply >>> 34 & 1) != 0) {
+        if (Reply.hasWords(reply)) {
             for (int k = 0; k < all.length; k++) {
                 all[k] = core.memory.getLong(WORDS + 8 * k);
             }
         } else {
-            check(words(core.at, all, 0, events));
+            check(words(core.address, all, 0, events));
         }
         return all;
     }
 
     /** Those words that were done from a place on. A core that was given back isn't asked for again. */
     long[] words(int from) {
-        int count = events() - waiting - from;
+        int count = events() - waitingWords - from;
         if (count == 0 || core == null) {
-            return count == 0 ? NONE : Arrays.copyOfRange(kept, from, from + count);
+            return count == 0 ? NONE : Arrays.copyOfRange(keptWords, from, from + count);
         }
         long[] some = new long[count];
-        check(words(core.at, some, from, count));
+        check(words(core.address, some, from, count));
         return some;
     }
 
     /** The time of each word in nanoseconds from the first one's on, of what was kept; null without times. */
-    static long[] times(long[] kept, int count) {
+    static long[] wordTimes(long[] kept, int count) {
         if (!TIMES) {
             return null;
         }
         double rate = Native.nanosPerTick();
         long[] times = new long[count];
         for (int k = count, at = 0; k < kept.length; k++) {
-            long time = Math.round(ticks(kept[k], kept[count]) * rate);
+            long time = Math.round(ticksBetween(kept[k], kept[count]) * rate);
             for (int events = (int) kept[k] & 0xff; events > 0 && at < count; events--) {
                 times[at++] = time;
             }
@@ -633,70 +712,70 @@ final class Machine {
     }
 
     /** When the first word was done, of what was kept, in nanoseconds since 1970. */
-    static long began(long[] kept, int count) {
+    static long startTime(long[] kept, int count) {
         long now = TimeUnit.MILLISECONDS.toNanos(System.currentTimeMillis());
-        return TIMES && count < kept.length ? now - Math.round(ticks(Native.ticks() << 8, kept[count]) * Native.nanosPerTick()) : now;
+        return TIMES && count < kept.length ? now - Math.round(ticksBetween(Native.ticks() << 8, kept[count]) * Native.nanosPerTick()) : now;
     }
 
     /** From one moment to another, of what was kept. */
-    private static long ticks(long moment, long since) {
+    private static long ticksBetween(long moment, long since) {
         return (moment & ~0xffL) - (since & ~0xffL) >>> 8;
     }
 
-    /** Gives the core back. A word that comes nevertheless has another one do all words again, and then this, if it isn't null. */
-    void rest(Runnable again) {
+    /** Gives the core back. If a word comes nevertheless, another core does all words again, and then this is run, if it isn't null. */
+    void giveBackCore(Runnable again) {
         if (core == null) {
             return;
         }
-        long[] all = kept();
+        long[] all = wordsAndMoments();
         Core core = this.core;
-        keptWords = events();
-        kept = all;
-        this.again = again;
+        keptCount = events();
+        keptWords = all;
+        this.restore = again;
         this.core = null;
-        if (!isSmall() || !pool().put(core, place)) {
-            core.freed.now();
+        if (!isSmall() || !pool().put(core, poolPlace)) {
+            core.freed.freeNow();
         }
     }
 
     private boolean isSmall() {
-        return stages - planned() <= MOST_KEPT && events() <= 16 * MOST_KEPT;
+        return stages - plannedStages() <= MOST_KEPT && events() <= 16 * MOST_KEPT;
     }
 
-    /** Whether all its stages were told as settled. */
+    /** Whether all its stages are settled. */
     boolean isOver() {
-        return settled == stages;
+        return settledStages == stages;
     }
 
     /**
      * Whether it may give its core back unasked. Where words come nevertheless, the core that it has again stays, so that all words are done again
      * but once.
      */
-    boolean mayRest() {
-        return isOver() && !cameBack && isSmall();
+    boolean mayGiveBackCore() {
+        return isOver() && !isReopened && isSmall();
     }
 
-    /** Has the core given back by and by. Whoever calls has no lock. */
-    void over() {
-        pool().over(this);
+    /** Has the core given back with the next request of its thread that is over. The caller holds no lock. */
+    void giveBackLater() {
+        pool().noteOver(this);
     }
 
-    /** Gives the core back, unless there is no memory for the words now: then it stays. */
-    void rests() {
+    /** Gives the core back, unless there is no memory for the words now. */
+    void tryGiveBackCore() {
         try {
-            rest(null);
+            giveBackCore(null);
         } catch (VirtualMachineError none) {
-            // Whoever closes the request may have more.
+            // There may be more as the request is closed.
         }
     }
 
-    private void restsUnasked() {
+    private void giveBackUnasked() {
         if (core == null) { // It was closed. If another thread has just had it opened again, it isn't over.
             return;
         }
         synchronized (this) {
-            if (mayRest()) {
-                rests();
+            if (mayGiveBackCore()) {
+                tryGiveBackCore();
             }
         }
     }
@@ -717,18 +796,18 @@ final class Machine {
 
     native long link(long core, int waiting, long word, int relay, int stage, int who);
 
-    native long deadline(long core, int waiting, int stage, long moment, boolean gives, int number);
+    native long setDeadline(long core, int waiting, int stage, long moment, boolean gives, int number);
 
-    native long pass(long core, int waiting, long moment, int who);
+    native long passTimeTo(long core, int waiting, long moment, int who);
 
-    native long more(long core, int who);
+    native long fetchMore(long core, int who);
 
-    native int ask(long core, int stage);
+    native int fetchOutcome(long core, int stage);
 
-    native int ready(long core, int from);
+    native int fetchReady(long core, int from);
 
     /** This is when the first word came that waits: these ticks, or now. */
-    native void since(long core, long ticks);
+    native void setSince(long core, long ticks);
 
     /** A core without a request, or 0. */
     static native long create(boolean timed);
@@ -741,7 +820,7 @@ final class Machine {
     native int open(long core, long plan, int room, long[] kept, int n, long[] executors);
 
     /** A request of no plan, of which the first word attaches an executor's stage and came at that moment, and then this one is done as above. */
-    native long first(long core, long attach, long since, long word, int who);
+    native long openWith(long core, long attach, long since, long word, int who);
 
     /** The n words from a place on, and behind them the moments for which there is place. */
     native int words(long core, long[] into, int from, int n);

@@ -2,9 +2,9 @@ package cf.service;
 
 /** What a flight recording is told, where the JVM has recordings. */
 abstract class Recorder {
-    private static final Recorder JVMS = ofJvm();
+    private static final Recorder JVMS = find();
 
-    private static Recorder ofJvm() {
+    private static Recorder find() {
         try {
             Class.forName("jdk.jfr.Event");
             return (Recorder) Class.forName("cf.service.FlightRecorder").getDeclaredConstructor().newInstance();
@@ -17,12 +17,12 @@ abstract class Recorder {
      * Null until the JVM records anything, whose start would cost the first request some tenths of a second; and where it can't. It is asked
      * each time: a listener of the JVM's would keep the class loader for good.
      */
-    static Recorder now() {
+    static Recorder current() {
         return JVMS != null && JVMS.isOn() ? JVMS : null;
     }
 
     static boolean hasStages() {
-        Recorder recorder = now();
+        Recorder recorder = current();
         return recorder != null && recorder.takesStages();
     }
 
@@ -33,7 +33,7 @@ abstract class Recorder {
 
     abstract boolean takesStages();
 
-    abstract void word(String request, long word);
+    abstract void recordWord(String request, long word);
 
-    abstract void stage(String request, int number, String form, String name, String outcome);
+    abstract void recordStage(String request, int number, String form, String name, String outcome);
 }

@@ -31,7 +31,8 @@ import java.util.stream.Collectors;
  * for a thing that happens, and not for a cache. {@link #close} says what becomes of its memory outside the heap.
  *
  * <p>A request has at most 4,096 stages. All methods that attach one more throw {@link RequestFullException}, and change nothing; if it
- * {@link #goesOn() goes on}, the stage goes to a further request instead. Where the system refuses memory, an {@link OutOfMemoryError} is thrown.
+ * {@link #continueInNext() continues in a next one}, the stage goes there instead. Where the system refuses memory, an {@link OutOfMemoryError} is
+ * thrown.
  *
  * <p>{@code Thread.stop}, which Java has up to version 19, may leave the request unusable that it strikes; others go on.
  */
@@ -46,46 +47,46 @@ public final class Request implements AutoCloseable {
      *
      * What is kept where.
      * - Machine: the graph, the claims, the words, relays within the request and deadlines, in a core outside the heap
-     *   (native/cf_java.c). One crossing does the words that wait and one change, and brings back the reply, the stages that
-     *   were settled, those that this thread has claimed by it, with their arguments, and those that are ready for executors.
-     * - Request: the stages that aren't settled (of a flow, those that were asked for), their names, the values, the
-     *   exceptions (Faults) and the threads. A value is the index in `values`, an exception the index in `faults`, and a
-     *   thread the number of a caller; the words hold these numbers.
-     * - Stage: its number, form and executor, which never change. `told` is what it is settled with: null before, then
-     *   NIL, a value or a Fault. `function` is there until it is claimed, or not needed. The part that Stage inherits of
-     *   CompletableFuture decides nothing. It is told last, and wakes who waits.
-     * - News: what one operation of one thread was told and has yet to tell. Each operation has its own. A Call in it is a
-     *   function that this thread has claimed.
-     * - Link: what a relay hangs by on a future that is no stage of its request.
+     *   (native/cf_java.c). One crossing does the words that wait and one change. It brings back the reply, the settled stages,
+     *   the stages that this thread has claimed, with their arguments, and the stages that are ready for executors.
+     * - Request: the open stages (of a flow, those that were asked for), their names, the values, the exceptions (Faults) and
+     *   the threads. A value is the index in `values`, an exception the index in `faults`, and a thread the number of a caller;
+     *   the words hold these numbers.
+     * - Stage: its number, form and executor, which never change. `outcome` is null at first, and then NIL, a value or a Fault.
+     *   `function` is there until it is claimed, or not needed. The part that Stage inherits of CompletableFuture decides
+     *   nothing. It is settled last, which wakes the waiters.
+     * - FollowUps: what one operation of one thread has yet to do once the lock is free. Each operation has its own. A
+     *   ClaimedCall in it is a function that this thread has claimed.
+     * - Link: ties a relay to a future that is no stage of its request.
      *
      * Locks. The monitor of `machine` is the request's lock. It guards the machine and its core, all fields of this class that
-     * aren't final but `goesOn`, and of each stage `function`, `dependents`, `unwritten`, `more` and the rows of links in
-     * that. `told`, `more` and `next` are volatile, so they can be read without it. No thread holds the locks of two
+     * aren't final but `isContinued`, and of each stage `function`, `dependents`, `extras` and the chains of links there.
+     * `outcome`, `extras` and `next` are volatile, so they can be read without the lock. No thread holds the locks of two
      * requests. Under the lock no function, callback or executor is called, and nobody is woken. A flight recording takes
      * words there. No `toString` of a user's is called there either: an exception that wraps another one asks for its text,
      * so it is made once the lock is free (Fault.error). Below the lock there is one more, that of the list of Freed, around
      * a few assignments.
      *
-     * An operation (complete, fail, cancel, attach, work, relayed, passes) goes like this:
+     * An operation (complete, fail, cancel, attach, claimAndCall, settleRelay, passTime) goes like this:
      * 1. checkDepth throws where the stack is nearly full. Nothing was done then.
-     * 2. Under the lock, the machine is called once. `publish` reads what it brings: it writes `told` of each stage that is
-     *    settled, and notes in News these stages, the functions that were claimed, and the stages for executors. So whoever
-     *    sees an outcome also sees all outcomes of earlier words.
-     * 3. The lock is free. `tell` takes one thing after another out of News, in this order: relays of other requests, which
-     *    are settled under their request's lock; settled stages, which are shown; stages for executors; claimed functions,
-     *    of one request the lowest first. Each of these may add to News. The loop is the only way from a stage to the next
-     *    one, so a chain of any length, also through many requests, takes no more stack.
-     * 4. What was thrown meanwhile, as an Error by an executor or by an action that Java's classes have attached, keeps
-     *    nothing else from being told. The first of it is thrown at the end.
+     * 2. Under the lock, the machine is called once. `publish` reads what it brings: it writes `outcome` of each settled stage,
+     *    and notes in FollowUps these stages, the claimed functions, and the stages for executors. So a thread that sees one
+     *    outcome also sees all outcomes of earlier words.
+     * 3. The lock is free. `tell` takes one thing after another out of FollowUps, in this order: relays of other requests,
+     *    which are settled under their request's lock; settled stages, whose waiters are woken; stages for executors; claimed
+     *    functions, of one request the lowest first. Each of these may add to FollowUps. The loop is the only way from a stage
+     *    to the next one, so a chain of any length, also through many requests, takes no more stack.
+     * 4. An Error of an executor, or of an action that Java's classes have attached, doesn't end the loop. The first one is
+     *    thrown at the end.
      *
      * A function from ready to finished. A stage has an executor or it hasn't: these are the two lanes of the machine.
      * - Without one, the thread that made it ready calls its function, as in CompletableFuture. Each call of the machine that
      *   can make such stages ready claims them all for its thread. So between calls none is ready, and no thread calls what
-     *   another one has made ready. `call` calls the function without the lock, and finishes the stage: one crossing finishes
-     *   it and claims what that made ready. If somebody settles a claimed stage before its turn, its function isn't called,
-     *   and the finish comes too late.
-     * - With one, the executor is given a Task. Its thread claims the stage in `work`, and goes on as above. An executor that
-     *   throws has its stage claimed and finished with what it threw (`refused`).
+     *   another one has made ready. `callFunction` calls the function without the lock, and finishes the stage: one crossing
+     *   finishes it and claims what that made ready. If somebody settles a claimed stage before its turn, its function isn't
+     *   called, and the finish comes too late.
+     * - With one, the executor is given a StageTask. Its thread claims the stage in `claimAndCall`, and goes on as above. If an
+     *   executor throws, its stage is claimed and finished with what it threw (`failRefused`).
      * A claim may be refused, since somebody has settled the stage meanwhile: then nothing is called. A finish may come too
      * late: then the machine says so, and the value or exception is kept for the history alone.
      *
@@ -94,50 +95,50 @@ public final class Request implements AutoCloseable {
      * is attached at once, and what it takes of its sources it takes in that word. Stages that wait for three or more are attached
      * by one call, and only the last of them has a Stage, unless there is a watch or a recording. A composing stage has a source right
      * below it, its relay. Where its function gives a lower stage of this request, the finish links to that. Where it gives
-     * anything else, the finish links to the relay: the machine has it follow a higher stage of this request, and what is
-     * elsewhere settles it by a Link.
+     * anything else, the finish links to the relay: the machine has it follow a higher stage of this request, and a Link
+     * settles it by what is elsewhere.
      *
-     * Relays. Of a future that isn't a stage of this request, a source of this request takes the place. Link.hang hangs it on
-     * any CompletionStage, `feeds` on a stage of another request. Whoever takes the relay out of its link (Link.take) settles
-     * it. Once the stage is settled for which the relay was made, the link is let go, so a future that lives long keeps
-     * nothing of requests that are over.
+     * Relays. A source of this request stands for a future that isn't a stage of it. Link.hangOn hangs it on any
+     * CompletionStage, `addOutsideLink` on a stage of another request. The thread that takes the relay out of its link
+     * (Link.takeRelay) settles it. Once the stage is settled for which the relay was made, the link is removed, so a future
+     * that lives long keeps nothing of requests that are over.
      *
-     * Deadlines. Stage.orTimeout and completeOnTimeout set a deadline of the machine (`limit`). A request has one Waits.Alarm, at
-     * its first deadline, and Clock one thread that knows all alarms. Then `passes` lets time pass up to it, in a thread of its
-     * own, where it is an operation as all others; what is settled is so by the caller CLOCK. What was attached without an
-     * executor is called there. The next deadline gets its alarm before that, so it comes after the one before it, and isn't
-     * delayed by what hangs on that. Once no stage is open that has a deadline, the clock forgets the request.
+     * Deadlines. Stage.orTimeout and completeOnTimeout set a deadline of the machine (`setLimit`). A request has one
+     * Waits.Alarm, at its first deadline, and Clock one thread that knows all alarms. Then `passTime` lets time pass up to it,
+     * in a thread of its own, as an operation like any other; the caller CLOCK settles stages there, and functions that were
+     * attached without an executor are called there. The next deadline gets its alarm before that, so it comes after the one
+     * before it, and isn't delayed by these functions. Once no open stage has a deadline, the clock forgets the request.
      *
      * Room. A request has at most 4,096 stages, and of a flow's, two edges are set aside for each stage that is attached.
      * `hasPlace` is asked under the lock, before anything is attached. Where there is none, the request throws, or hands the
-     * call on to `next`, if it goes on. The machine makes more room itself.
+     * call on to `next`, if it is continued there. The machine makes more room itself.
      *
      * Memory. Where the system refuses memory, an OutOfMemoryError is thrown, and the words that were done by then stand
-     * (Machine.refused). `close` keeps the words in the heap and gives the core to the next request; a word that comes later
-     * has another core do all words again. Relays and deadlines aren't in the words: the stages that have any (`unwritten`)
-     * know them, and `setAgain` sets them again. Most likely a request whose stages are all settled isn't needed any more,
-     * so the next one of its thread that is so far has its core given back, too (`publish` notes it, Machine.over). Where it
-     * is needed nevertheless, it keeps the core that it has then. Cores of requests that nobody can reach are freed by
-     * whoever opens the next ones (Freed).
+     * (Machine.throwRefusal). `close` keeps the words in the heap and gives the core to the next request; a later word makes
+     * another core do all words again. Relays and deadlines aren't in the words: the stages that have any (`unwritten`)
+     * know them, and `restoreUnwritten` sets them again. Most likely a request whose stages are all settled isn't needed any
+     * more, so the next such request of its thread has its core given back, too (`publish` notes it, Machine.giveBackLater).
+     * Where it is needed nevertheless, it keeps the core that it has then. Cores of requests that nobody can reach are freed by
+     * the threads that open the next ones (Freed).
      *
-     * Contexts and ends. Where the service has contexts, a function that is attached is a Carried, which has what was captured
-     * before anything is done; one of a flow becomes one as it is claimed (`granted`). `closed` sees to it that a hook of the
-     * service's is told of the request once, by `Ends`, as soon as the stages that it has then are settled.
+     * Contexts and ends. Where the service has contexts, a function that is attached is a ContextFunction, which has what was
+     * captured before anything is done; one of a flow becomes one as it is claimed (`takeClaimed`). `tellEndOnceSettled` hands
+     * the request to the service's hook once, by `Ends`, as soon as the stages that it has then are settled.
      *
-     * Watches. A service may have a Watch, as cf.testing makes it, which takes the place of executors and the clock. It is told of each
-     * word under the lock, and has `tell` hand it the News, which it works off as a Turn, one function at a time. Tasks, limits and waits are the
-     * watch's, and histories have its time and its callers.
+     * Watches. A service may have a Watch, as cf.testing makes it, which takes the place of executors and the clock. It is
+     * called for each word under the lock. `tell` hands it the FollowUps, and it works these off as a Turn, one function at a time.
+     * Tasks, limits and waits are the watch's, and histories have its time and its callers.
      *
-     * Which methods call user code, all without a lock: those that `tell` calls, which are `show` (what Java's own methods
-     * have attached; Describe, for a recording), `hand` (Executor.execute) and `call` (a stage's function); handStarted and
-     * `execute`, which call an executor; `history`, which calls Describe; Link.hang, which calls whenComplete of
-     * somebody's CompletionStage; and those that call Contexts: the constructors, `attach`, `started` and `oneCall`.
+     * Which methods call user code, all without a lock: those that `tell` calls, which are `wakeWaiters` (what Java's own methods
+     * have attached; Describe, for a recording), `handToExecutor` (Executor.execute) and `callFunction` (a stage's function);
+     * handStarted and `execute`, which call an executor; `history`, which calls Describe; Link.hangOn, which calls whenComplete
+     * of somebody's CompletionStage; and those that call Contexts: the constructors, `attach`, `attachStarted` and `oneCall`.
      */
 
     /** The callers of a history (docs/FORMATS.md, "Callers"): the machine itself is the clock. Nobody here is caller 0. */
     static final int CLOCK = 1, RELAY = 2, FIRST_THREAD = 3, OTHER_THREADS = 63;
 
-    /** Of how many stages a request that goes on gathers all at once. */
+    /** How many stages a request that continues in a next one gathers at once. */
     private static final int MOST_GATHERED = 1024;
     private static final Stage<?>[] NO_STAGES = {};
     private static final Link[] NO_LINKS = {};
@@ -145,53 +146,53 @@ public final class Request implements AutoCloseable {
     private static final long[] NO_MOMENTS = {};
 
     final Service service;
-    /** Who runs it, as a test does; else null. */
+    /** The test that runs it, or null. */
     final Watch watch;
     private final String name;
-    /** It has one stage, and rests once that is settled. */
-    private final boolean single;
-    /** Of which it has the first stages, or null. */
+    /** Whether it has one stage, and gives its core back once that is settled. */
+    private final boolean isSingle;
+    /** The flow of its first stages, or null. */
     private final Flow flow;
     final Machine machine;
-    /** What is told of values and exceptions. */
+    /** Makes texts of values and exceptions. */
     final Describe describe;
-    /** The contexts of where it was opened; null without. */
-    private final Executor within;
+    /** The contexts of the place where it was opened, or null. */
+    private final Executor context;
 
-    /** Those that aren't settled; of a flow, those that were asked for. */
+    /** The open stages; of a flow, those that were asked for. */
     private Stage<?>[] stages;
     private String[] names;
     private Object[] values;
     private int valueCount;
     private Faults faults;
     private Sources sources;
-    /** At whose end what nothing behind it needs is cancelled; null where there is none. Whether that has come. */
-    private Stage<?> last;
-    private boolean ends;
+    /** The stage at whose end the stages are cancelled that nothing behind it needs, or null. Whether it is settled. */
+    private Stage<?> lastNeeded;
+    private boolean isLastNeededSettled;
     private long thread = Long.MIN_VALUE;
     private long[] threads;
     private String[] threadNames = new String[1];
     private int threadCount;
-    /** How many relays and deadlines of stages that aren't settled the machine has: these aren't in the words. */
+    /** How many relays and deadlines of open stages the machine has: these aren't in the words. */
     private int unwritten;
-    /** By when time is to pass; null where there was never a limit. */
+    /** Null where there was never a limit. */
     private Alarm alarm;
     /** Whether a core that it has again is given back once all relays and deadlines have ended. */
     private boolean isClosed;
     /** Whether a stage of its flow was asked for. */
     private boolean isAsked;
-    /** Up to where a recording has the words. */
-    private int recorded;
-    private boolean goesOn;
+    /** How many words a recording has. */
+    private int recordedWords;
+    private boolean isContinued;
     /** When events were, in a watch's time. */
     private long[] moments = NO_MOMENTS;
-    private int stamped;
-    /** Whether the service's hook was told that it has ended. */
-    private boolean isTold;
+    private int stampedEvents;
+    /** Whether the service's hook has got its history. */
+    private boolean isEndTold;
     private volatile Request next;
 
     Request(Service service, String name, Flow flow, int room, Describe describe) {
-        this(service, name, flow, room, describe, service.captured());
+        this(service, name, flow, room, describe, service.captureContext());
     }
 
     private Request(Service service, String name, Flow flow, int room, Describe describe, Executor within) {
@@ -199,14 +200,14 @@ public final class Request implements AutoCloseable {
         watch = service.watch;
         this.name = name;
         this.flow = flow;
-        single = false;
+        isSingle = false;
         this.describe = describe;
-        this.within = within;
+        this.context = within;
         machine = new Machine(flow == null ? null : flow.plan(), room);
-        values = flow != null ? new Object[flow.count()] : NO_VALUES;
+        values = flow != null ? new Object[flow.stageCount()] : NO_VALUES;
         stages = flow == null && room > 0 ? new Stage<?>[room] : NO_STAGES;
         if (watch != null) {
-            watch.opened(this);
+            watch.requestOpened(this);
         }
     }
 
@@ -216,39 +217,39 @@ public final class Request implements AutoCloseable {
         watch = null;
         name = "one call";
         flow = null;
-        single = true;
+        isSingle = true;
         describe = service.describe();
-        within = service.captured();
+        context = service.captureContext();
         values = new Object[1];
         stages = new Stage<?>[1];
-        machine = new Machine(Words.attach(who(), Form.SUPPLY, 0, 0, 0, 0));
+        machine = new Machine(Words.attach(callerNumber(), Form.SUPPLY, 0, 0, 0, 0));
     }
 
-    /** A request of one stage that rests once that is settled. The executor's thread opens its machine, and gives it back. */
+    /** A request of one stage that gives its core back once that is settled. The executor's thread opens its machine. */
     static <U> Stage<U> oneCall(Service service, Supplier<U> supplier) {
         Objects.requireNonNull(supplier);
         if (service.watch != null) {
             return new Request(service, "one call", null, 1, service.describe()).supplyAsync(supplier);
         }
         Request request = new Request(service);
-        Object function = request.within == null ? supplier : new Carried(request.within, supplier);
+        Object function = request.context == null ? supplier : new ContextFunction(request.context, supplier);
         Stage<U> stage = new Stage<>(request, 0, Form.SUPPLY, function, service.executor());
         request.stages[0] = stage; // Nobody else has it yet.
         request.handStarted(stage);
         return stage;
     }
 
-    /** What an executor is given. */
-    private static final class Task implements Runnable, CompletableFuture.AsynchronousCompletionTask, Watch.Task {
+    /** The task that an executor gets. */
+    private static final class StageTask implements Runnable, CompletableFuture.AsynchronousCompletionTask, Watch.ReadyStage {
         private final Stage<?> stage;
 
-        Task(Stage<?> stage) {
+        StageTask(Stage<?> stage) {
             this.stage = stage;
         }
 
         @Override
         public void run() {
-            stage.request.work(stage);
+            stage.request.claimAndCall(stage);
         }
 
         @Override
@@ -258,7 +259,7 @@ public final class Request implements AutoCloseable {
 
         @Override
         public Watch.Turn claim() {
-            return stage.request.claim(stage);
+            return stage.request.claimForWatch(stage);
         }
     }
 
@@ -276,7 +277,7 @@ public final class Request implements AutoCloseable {
 
     /** Attaches a stage whose function this executor calls. */
     public <U> Stage<U> supplyAsync(Supplier<U> supplier, Executor executor) {
-        return started(Form.SUPPLY, Objects.requireNonNull(supplier), Objects.requireNonNull(executor));
+        return attachStarted(Form.SUPPLY, Objects.requireNonNull(supplier), Objects.requireNonNull(executor));
     }
 
     /** Attaches a stage without a value, whose function the service's executor calls. */
@@ -286,7 +287,7 @@ public final class Request implements AutoCloseable {
 
     /** Attaches a stage without a value, whose function this executor calls. */
     public Stage<Void> runAsync(Runnable runnable, Executor executor) {
-        return started(Form.RUN_ASYNC, Objects.requireNonNull(runnable), Objects.requireNonNull(executor));
+        return attachStarted(Form.RUN_ASYNC, Objects.requireNonNull(runnable), Objects.requireNonNull(executor));
     }
 
     /**
@@ -301,7 +302,7 @@ public final class Request implements AutoCloseable {
     /** An executor that hands each task to this one after a time. */
     public Executor delayedExecutor(long delay, TimeUnit unit, Executor executor) {
         return watch == null ? Service.delayedExecutor(delay, unit, executor)
-                : act -> watch.later(unit.toNanos(delay), () -> execute(executor, act));
+                : act -> watch.runLater(unit.toNanos(delay), () -> execute(executor, act));
     }
 
     /** Attaches a stage without a function, which somebody settles: it stands for {@code new CompletableFuture<>()}. */
@@ -311,36 +312,36 @@ public final class Request implements AutoCloseable {
 
     /** Attaches a stage that is completed with this value. */
     public <U> Stage<U> completedFuture(U value) {
-        return completed(this.<U>promise(), value);
+        return completeNew(this.<U>promise(), value);
     }
 
     /** Attaches a stage that has failed with this exception. */
     public <U> Stage<U> failedFuture(Throwable error) {
         Objects.requireNonNull(error);
-        return failed(this.<U>promise(), error);
+        return failNew(this.<U>promise(), error);
     }
 
     /** Attaches a stage that is completed with this value, and that has the methods of {@link CompletionStage} alone. */
     public <U> CompletionStage<U> completedStage(U value) {
-        return completed(this.<U>minimal(), value);
+        return completeNew(this.<U>attachMinimal(), value);
     }
 
     /** Attaches a stage that has failed with this exception, and that has the methods of {@link CompletionStage} alone. */
     public <U> CompletionStage<U> failedStage(Throwable error) {
         Objects.requireNonNull(error);
-        return failed(this.<U>minimal(), error);
+        return failNew(this.<U>attachMinimal(), error);
     }
 
-    private <U> Stage<U> minimal() {
+    private <U> Stage<U> attachMinimal() {
         return attach(Form.SOURCE, null, null, null, null, true);
     }
 
-    private static <U> Stage<U> completed(Stage<U> stage, U value) {
+    private static <U> Stage<U> completeNew(Stage<U> stage, U value) {
         stage.request.complete(stage.number, value);
         return stage;
     }
 
-    private static <U> Stage<U> failed(Stage<U> stage, Throwable error) {
+    private static <U> Stage<U> failNew(Stage<U> stage, Throwable error) {
         stage.request.fail(stage.number, error);
         return stage;
     }
@@ -383,22 +384,22 @@ public final class Request implements AutoCloseable {
             return (Stage<U>) of;
         }
         Link[] link = new Link[1];
-        Stage<U> relay = relay(of, link, 0, false);
-        link[0].untilSettled(relay);
+        Stage<U> relay = attachRelay(of, link, 0, false);
+        link[0].removeOnceSettled(relay);
         return relay;
     }
 
     /** A relay, and its link in this place of a row; see {@link Link#wraps}. */
-    private <U> Stage<U> relay(CompletionStage<U> of, Link[] links, int at, boolean wraps) {
+    private <U> Stage<U> attachRelay(CompletionStage<U> of, Link[] links, int at, boolean wraps) {
         Stage<U> relay = promise();
-        relay.request.name(relay.number, "relay");
+        relay.request.setName(relay.number, "relay");
         links[at] = new Link(relay, null, wraps);
         if (watch != null) {
-            watch.linked(relay, of);
+            watch.relayLinked(relay, of);
         }
-        News news = new News(watch);
-        Throwable thrown = hang(links[at], of, news);
-        tell(news);
+        FollowUps followUps = new FollowUps(watch);
+        Throwable thrown = hangLink(links[at], of, followUps);
+        tell(followUps);
         if (thrown != null) {
             Request.<RuntimeException>rethrow(thrown);
         }
@@ -418,26 +419,26 @@ public final class Request implements AutoCloseable {
         Stage<U> stage;
         boolean isShown, rests;
         synchronized (lock()) {
-            stage = (Stage<U>) at(step.number());
-            isShown = stage.told == null && isShown(stage);
+            stage = (Stage<U>) stageAt(step.number());
+            isShown = stage.outcome == null && showIfSettled(stage);
             isAsked = true;
-            rests = watch == null && mayRest();
+            rests = watch == null && mayGiveBackCore();
         }
         if (isShown) {
-            stage.inherit(); // Nobody else has it.
+            stage.settleInherited(); // Nobody else has it.
         }
         if (rests) {
-            machine.over();
+            machine.giveBackLater();
         }
         return stage;
     }
 
-    /** Whether this is a stage of a flow that was settled before it is asked for, which is told then. The lock is held. */
-    private boolean isShown(Stage<?> stage) {
+    /** Gives a stage of a flow its outcome if it was settled before it is asked for, and says whether it was. The lock is held. */
+    private boolean showIfSettled(Stage<?> stage) {
         boolean isSettled = machine.isSettled(stage.number);
         if (isSettled) {
             stages[stage.number] = null;
-            stage.tells(told(machine.told(0), machine.number(0)));
+            stage.setOutcome(outcomeOf(machine.settledBits(0), machine.settledNumber(0)));
         }
         return isSettled;
     }
@@ -449,8 +450,8 @@ public final class Request implements AutoCloseable {
      *
      * @return this request
      */
-    public Request goesOn() {
-        goesOn = true;
+    public Request continueInNext() {
+        isContinued = true;
         return this;
     }
 
@@ -470,20 +471,20 @@ public final class Request implements AutoCloseable {
      */
     public History history() {
         if (watch != null) {
-            watch.looked(this);
+            watch.historyRead(this);
         }
         History history;
         synchronized (lock()) {
-            history = taken();
+            history = takeHistory();
         }
-        return history.described(describe);
+        return history.describeBy(describe);
     }
 
     /** The same, not described yet. The lock is held. */
-    private History taken() {
+    private History takeHistory() {
         int count = machine.stages();
         String[] names = this.names == null ? new String[count] : Arrays.copyOf(this.names, count);
-        for (int k = 0; flow != null && k < flow.count(); k++) {
+        for (int k = 0; flow != null && k < flow.stageCount(); k++) {
             names[k] = names[k] == null ? flow.name(k) : names[k];
         }
         return new History(name, flow, machine, names, Arrays.copyOf(values, valueCount), faults == null ? new Throwable[0] : faults.errors(),
@@ -505,38 +506,38 @@ public final class Request implements AutoCloseable {
     @Override
     public void close() {
         if (service.ends() != null) {
-            closed();
+            tellEndOnceSettled();
         }
         synchronized (lock()) {
             isClosed = unwritten > 0;
-            machine.rest(isClosed ? this::setAgain : null);
+            machine.giveBackCore(isClosed ? this::restoreUnwritten : null);
         }
     }
 
     /** The stage of a request of one stage is settled: that is its end, unless there are more stages by now. */
-    private void endsAlone() {
+    private void tellEndIfAlone() {
         boolean ends;
         synchronized (lock()) {
             ends = machine.stages() == 1;
         }
         if (ends) {
-            ended();
+            tellEnd();
         }
     }
 
-    private void closed() {
+    private void tellEndOnceSettled() {
         List<Stage<?>> open = new ArrayList<>();
         synchronized (lock()) {
-            for (int k = 0; k < machine.stages() && !isTold; k++) {
+            for (int k = 0; k < machine.stages() && !isEndTold; k++) {
                 if (isOpen(k)) {
-                    open.add(at(k));
+                    open.add(stageAt(k));
                 }
             }
         }
         AtomicInteger left = new AtomicInteger(1 + open.size());
         Runnable settled = () -> {
             if (left.decrementAndGet() == 0) {
-                ended();
+                tellEnd();
             }
         };
         open.forEach(stage -> stage.observe(settled));
@@ -545,7 +546,7 @@ public final class Request implements AutoCloseable {
 
     /** Whether a stage isn't settled. The lock is held. */
     private boolean isOpen(int number) {
-        if (number < stages.length && stages[number] != null || flow == null || number >= flow.count()) {
+        if (number < stages.length && stages[number] != null || flow == null || number >= flow.stageCount()) {
             return number < stages.length && stages[number] != null;
         }
         return !machine.isOver() && !machine.isSettled(number);
@@ -556,24 +557,24 @@ public final class Request implements AutoCloseable {
         return isOpen(number) || !machine.isOver() && !machine.isSettled(number);
     }
 
-    /** Has the service's hook told of it, if it wasn't yet. It throws nothing, nor keeps anybody waiting. */
-    private void ended() {
+    /** Hands the history to the service's hook, once. It throws nothing, and doesn't wait. */
+    private void tellEnd() {
         try {
             History history;
             synchronized (lock()) {
-                if (isTold) {
+                if (isEndTold) {
                     return;
                 }
-                isTold = true;
-                history = taken();
+                isEndTold = true;
+                history = takeHistory();
             }
-            service.ends().tell(() -> history.described(describe), within);
+            service.ends().tell(() -> history.describeBy(describe), context);
         } catch (Throwable none) {
             service.ends().warn("the end of a request isn't told", none);
         }
     }
 
-    void name(int stage, String name) {
+    void setName(int stage, String name) {
         synchronized (lock()) {
             if (names == null || names.length <= stage) {
                 names = names == null ? new String[Math.max(stage + 1, 8)] : Arrays.copyOf(names, 2 * stage);
@@ -582,49 +583,49 @@ public final class Request implements AutoCloseable {
         }
     }
 
-    /** What a stage was named, or else its form and number. */
+    /** A stage's name, or else its form and number. */
     String nameOf(Stage<?> stage) {
         synchronized (lock()) {
             String given = names == null || names.length <= stage.number ? null : names[stage.number];
-            given = given == null && flow != null && stage.number < flow.count() ? flow.name(stage.number) : given;
+            given = given == null && flow != null && stage.number < flow.stageCount() ? flow.name(stage.number) : given;
             return given != null ? given : stage.form.text + " " + stage.number;
         }
     }
 
-    /** What a stage is called: by its name, or by its form. */
-    String called(Stage<?> stage) {
+    /** A stage's number, and its name or form. */
+    String numberedName(Stage<?> stage) {
         synchronized (lock()) {
             String given = names == null || names.length <= stage.number ? null : names[stage.number];
-            given = given == null && flow != null && stage.number < flow.count() ? flow.name(stage.number) : given;
+            given = given == null && flow != null && stage.number < flow.stageCount() ? flow.name(stage.number) : given;
             return stage.number + " " + (given != null ? given : stage.form.text);
         }
     }
 
-    /** The request's lock, for which each thread asks here. */
+    /** The request's lock. */
     Machine lock() {
         if (Waits.leader() != null && !Thread.holdsLock(machine)) {
-            Waits.turn();
+            Waits.awaitTurn();
         }
         return machine;
     }
 
     // Attaching.
 
-    /** A stage whose function waits for nobody. Its word waits for the claim of the executor's thread, which is refused if that isn't so. */
-    private <U> Stage<U> started(Form form, Object function, Executor executor) {
+    /** A stage without sources. Its word waits for the claim by the executor's thread. */
+    private <U> Stage<U> attachStarted(Form form, Object function, Executor executor) {
         if (next != null) {
-            return last().started(form, function, executor);
+            return lastRequest().attachStarted(form, function, executor);
         }
         checkDepth();
-        Object carried = service.carried(function);
+        Object carried = service.withContext(function);
         Stage<U> stage = null;
         synchronized (lock()) {
             if (machine.hasPlace(1)) {
-                stage = added(form, null, null, carried, executor, false, null);
+                stage = attachHere(form, null, null, carried, executor, false, null);
             }
         }
         if (stage == null) {
-            return further().started(form, carried, executor);
+            return openFurther().attachStarted(form, carried, executor);
         }
         handStarted(stage);
         return stage;
@@ -632,16 +633,16 @@ public final class Request implements AutoCloseable {
 
     private void handStarted(Stage<?> stage) {
         if (watch != null) {
-            watch.happened();
-            watch.ready(new Task(stage));
+            watch.eventTold();
+            watch.submit(new StageTask(stage));
             return;
         }
         try {
-            stage.executor.execute(new Task(stage));
+            stage.executor.execute(new StageTask(stage));
         } catch (Throwable refused) {
-            News news = new News(watch);
-            refused(stage, refused, news);
-            tell(news);
+            FollowUps followUps = new FollowUps(watch);
+            failRefused(stage, refused, followUps);
+            tell(followUps);
             Request.<RuntimeException>rethrow(refused);
         }
     }
@@ -656,19 +657,19 @@ public final class Request implements AutoCloseable {
         for (CompletionStage<?> each : of) {
             Objects.requireNonNull(each);
         }
-        return gathered(form, of.clone());
+        return attachGathering(form, of.clone());
     }
 
     /** Of up to two it is one stage; of more as many as the machine needs, in one call. */
-    private <U> Stage<U> gathered(Form form, CompletionStage<?>[] of) {
+    private <U> Stage<U> attachGathering(Form form, CompletionStage<?>[] of) {
         if (of.length < 3) {
             return attach(form, of.length > 0 ? of[0] : null, of.length > 1 ? of[1] : null, null, null, false);
         }
         if (next != null) {
-            return last().gathered(form, of);
+            return lastRequest().attachGathering(form, of);
         }
-        if (goesOn && of.length > MOST_GATHERED) {
-            return inParts(form, of);
+        if (isContinued && of.length > MOST_GATHERED) {
+            return gatherInParts(form, of);
         }
         checkDepth();
         int count = 0;
@@ -676,41 +677,41 @@ public final class Request implements AutoCloseable {
             count += isForeign(each) ? 1 : 0;
         }
         Stage<U> root = null;
-        News news = new News(watch);
+        FollowUps followUps = new FollowUps(watch);
         Link[] links = new Link[count];
         if (hasPlace(of.length - 1 + count)) {
             Stage<?>[] row = new Stage<?>[of.length];
             boolean isWhole = true;
             for (int k = 0, made = 0; k < row.length; k++) {
                 // Who needs only the root needs no relay either once that is settled.
-                row[k] = isForeign(of[k]) ? relay(of[k], links, made++, true) : (Stage<?>) of[k];
+                row[k] = isForeign(of[k]) ? attachRelay(of[k], links, made++, true) : (Stage<?>) of[k];
                 isWhole &= row[k].request == this;
             }
             synchronized (lock()) {
                 if (isWhole && machine.hasPlace(of.length - 1)) {
-                    root = attachAll(form, row, news);
+                    root = attachGathered(form, row, followUps);
                 }
             }
         }
-        untilSettled(links, root);
+        removeOnceSettled(links, root);
         if (root == null) {
-            return further().gathered(form, of);
+            return openFurther().attachGathering(form, of);
         }
-        tell(news);
+        tell(followUps);
         return root;
     }
 
     /** More than one request may have room for: what waits for all waits for stages that wait for a part each. */
-    private <U> Stage<U> inParts(Form form, CompletionStage<?>[] of) {
+    private <U> Stage<U> gatherInParts(Form form, CompletionStage<?>[] of) {
         Stage<?>[] parts = new Stage<?>[(of.length - 1) / MOST_GATHERED + 1];
         for (int k = 0, from = 0; k < parts.length; k++, from += MOST_GATHERED) {
-            parts[k] = gathered(form, Arrays.copyOfRange(of, from, Math.min(of.length, from + MOST_GATHERED)));
+            parts[k] = attachGathering(form, Arrays.copyOfRange(of, from, Math.min(of.length, from + MOST_GATHERED)));
         }
-        Stage<U> root = gathered(form, parts);
+        Stage<U> root = attachGathering(form, parts);
         for (Stage<?> part : parts) {
             // Nobody needs a part then, and the relays of one that ends are let go.
             root.observe(() -> {
-                if (part.told == null) {
+                if (part.outcome == null) {
                     part.cancel(false);
                 }
             });
@@ -718,9 +719,9 @@ public final class Request implements AutoCloseable {
         return root;
     }
 
-    /** The machine attaches one stage less than there are sources, the last of which is asked for. The others are nobody's but a watch's. */
-    private <U> Stage<U> attachAll(Form form, Stage<?>[] of, News news) {
-        int who = who(), first = machine.stages(), count = of.length - 1;
+    /** Attaches one stage less than there are sources, and gives the last one. The others have an object only for a watch or a recording. */
+    private <U> Stage<U> attachGathered(Form form, Stage<?>[] of, FollowUps followUps) {
+        int who = callerNumber(), first = machine.stages(), count = of.length - 1;
         short[] numbers = new short[of.length];
         Stage<?>[] made = new Stage<?>[count];
         for (int k = 0; k < of.length; k++) {
@@ -729,26 +730,26 @@ public final class Request implements AutoCloseable {
         for (int k = watch != null || Recorder.hasStages() ? 0 : count - 1; k < count; k++) {
             made[k] = new Stage<>(this, first + k, form, null, null);
         }
-        makePlace(first + count);
+        growStages(first + count);
         machine.gather(form, numbers, who);
         System.arraycopy(made, 0, stages, first, count);
         for (Stage<?> each : of) {
             each.dependents++;
         }
         for (int k = 0; watch != null && k < count; k++) {
-            attached(made[k], k == 0 ? of[0] : made[k - 1], of[k + 1]);
+            noteAttached(made[k], k == 0 ? of[0] : made[k - 1], of[k + 1]);
         }
-        publish(news, who);
+        publish(followUps, who);
         @SuppressWarnings("unchecked")
         Stage<U> root = (Stage<U>) made[count - 1];
         return root;
     }
 
-    /** Lets go of these links once that stage is settled, or now where it is null, since there was no place. */
-    private static void untilSettled(Link[] links, Stage<?> stage) {
+    /** Removes these links once that stage is settled, or now where it is null, since there was no place. */
+    private static void removeOnceSettled(Link[] links, Stage<?> stage) {
         for (Link link : links) {
             if (link != null && stage != null) {
-                link.untilSettled(stage);
+                link.removeOnceSettled(stage);
             } else if (link != null) {
                 link.run();
             }
@@ -758,46 +759,46 @@ public final class Request implements AutoCloseable {
     /** Attaches a stage behind those, which are of any request. What it takes of them, it takes at once. */
     <U> Stage<U> attach(Form form, CompletionStage<?> first, CompletionStage<?> second, Object function, Executor executor, boolean minimal) {
         if (next != null) {
-            return last().attach(form, first, second, function, executor, minimal);
+            return lastRequest().attach(form, first, second, function, executor, minimal);
         }
         int foreign = (isForeign(first) ? 1 : 0) + (isForeign(second) ? 1 : 0);
         if (foreign > 0) {
             checkDepth();
         }
-        Object carried = service.carried(function);
+        Object carried = service.withContext(function);
         Stage<U> stage = null;
-        News news = null;
+        FollowUps followUps = null;
         Link[] links = foreign == 0 ? NO_LINKS : new Link[2];
         if (foreign == 0 || hasPlace(1 + foreign + (form.composes ? 1 : 0))) {
-            Stage<?> a = own(form, first, links, 0), b = own(form, second, links, 1);
+            Stage<?> a = stageOrRelay(form, first, links, 0), b = stageOrRelay(form, second, links, 1);
             // What went to a further request is of no use here.
             if ((a == null || a.request == this) && (b == null || b.request == this)) {
                 synchronized (lock()) {
                     if (machine.hasPlace(form.composes ? 2 : 1)) {
-                        if (!waits(form, a, b)) {
+                        if (!mayWait(form, a, b)) {
                             checkDepth();
-                            news = new News(watch);
+                            followUps = new FollowUps(watch);
                         }
-                        stage = added(form, a, b, carried, executor, minimal, news);
+                        stage = attachHere(form, a, b, carried, executor, minimal, followUps);
                     }
                 }
             }
         }
-        untilSettled(links, stage);
+        removeOnceSettled(links, stage);
         if (stage == null) {
-            return further().attach(form, first, second, carried, executor, minimal);
+            return openFurther().attach(form, first, second, carried, executor, minimal);
         }
-        if (news != null) {
-            tell(news);
+        if (followUps != null) {
+            tell(followUps);
         } else if (watch != null) {
-            watch.happened();
+            watch.eventTold();
         }
         return stage;
     }
 
     /** That stage, or a relay of it for a stage of this form, whose link is in this place then. */
-    private Stage<?> own(Form form, CompletionStage<?> of, Link[] links, int at) {
-        return isForeign(of) ? relay(of, links, at, !form.handles) : (Stage<?>) of;
+    private Stage<?> stageOrRelay(Form form, CompletionStage<?> of, Link[] links, int at) {
+        return isForeign(of) ? attachRelay(of, links, at, !form.handles) : (Stage<?>) of;
     }
 
     private boolean isForeign(CompletionStage<?> of) {
@@ -811,12 +812,12 @@ public final class Request implements AutoCloseable {
     }
 
     /** Whether a stage behind those can't have anything to do yet, so that its word may wait for the next one. The lock is held. */
-    private static boolean waits(Form form, Stage<?> a, Stage<?> b) {
-        return form == Form.SOURCE || a != null && a.told == null && (b == null || b.told == null);
+    private static boolean mayWait(Form form, Stage<?> a, Stage<?> b) {
+        return form == Form.SOURCE || a != null && a.outcome == null && (b == null || b.outcome == null);
     }
 
     /** The request to which stages go now. */
-    private Request last() {
+    private Request lastRequest() {
         Request at = this;
         for (Request after; (after = at.next) != null;) {
             at = after;
@@ -824,26 +825,26 @@ public final class Request implements AutoCloseable {
         return at;
     }
 
-    private Request further() {
+    private Request openFurther() {
         synchronized (lock()) {
-            if (!goesOn) {
+            if (!isContinued) {
                 throw new RequestFullException(new Full(name));
             }
             if (next == null) {
-                next = new Request(service, name + ", further", null, 32, describe, within).goesOn();
+                next = new Request(service, name + ", further", null, 32, describe, context).continueInNext();
             }
             return next;
         }
     }
 
-    private <U> Stage<U> added(Form form, Stage<?> a, Stage<?> b, Object function, Executor executor, boolean minimal, News news) {
-        int who = who();
+    private <U> Stage<U> attachHere(Form form, Stage<?> a, Stage<?> b, Object function, Executor executor, boolean minimal, FollowUps followUps) {
+        int who = callerNumber();
         if (form.composes) {
             Stage<?> relay = new Stage<>(this, machine.stages(), Form.SOURCE, null, null);
-            enter(relay);
+            putStage(relay);
             reserve(who);
             if (watch != null) {
-                attached(relay, null, null);
+                noteAttached(relay, null, null);
             }
         }
         int number = machine.stages();
@@ -852,8 +853,8 @@ public final class Request implements AutoCloseable {
         int lane = executor == null ? Machine.HERE : Machine.BY_EXECUTOR;
         int sources = b != null ? 2 : a != null ? 1 : 0;
         long word = Words.attach(who, form, sources, a == null ? 0 : a.number, b == null ? 0 : b.number, form.calls ? number : 0);
-        enter(stage); // One whose word fails makes place for the next one of its number.
-        if (news == null) {
+        putStage(stage); // One whose word fails makes place for the next one of its number.
+        if (followUps == null) {
             machine.attachLater(word, lane);
         } else {
             machine.attach(word, lane, who);
@@ -865,86 +866,86 @@ public final class Request implements AutoCloseable {
             b.dependents++;
         }
         if (watch != null) {
-            attached(stage, a, b);
+            noteAttached(stage, a, b);
         }
-        if (news != null) {
-            publish(news, who);
+        if (followUps != null) {
+            publish(followUps, who);
         }
         return stage;
     }
 
-    private void attached(Stage<?> stage, Stage<?> a, Stage<?> b) {
+    private void noteAttached(Stage<?> stage, Stage<?> a, Stage<?> b) {
         stamp();
-        watch.attached(stage, b != null ? Arrays.asList(a, b) : a != null ? Collections.singletonList(a) : Collections.emptyList());
+        watch.stageAttached(stage, b != null ? Arrays.asList(a, b) : a != null ? Collections.singletonList(a) : Collections.emptyList());
     }
 
     private int reserve(int who) {
         return machine.attachLater(Words.attach(who, Form.SOURCE, 0, 0, 0, 0), Machine.HERE);
     }
 
-    private void enter(Stage<?> stage) {
-        makePlace(stage.number + 1);
+    private void putStage(Stage<?> stage) {
+        growStages(stage.number + 1);
         stages[stage.number] = stage;
     }
 
-    private void makePlace(int count) {
+    private void growStages(int count) {
         if (count > stages.length) {
             stages = Arrays.copyOf(stages, Math.min(Machine.MOST_STAGES, Math.max(count + 7, 2 * stages.length)));
         }
     }
 
-    /** A source for a stage that is being made, which calls {@link #entered}: its number, or -1 where there is no place. */
+    /** Attaches a source for a stage that is being made, which calls {@link #enterReserved}; its number, or -1 where there is no place. */
     int reserve() {
         checkDepth();
         synchronized (lock()) {
-            return machine.hasPlace(1) ? reserve(who()) : -1;
+            return machine.hasPlace(1) ? reserve(callerNumber()) : -1;
         }
     }
 
-    void entered(Stage<?> stage) {
+    void enterReserved(Stage<?> stage) {
         synchronized (lock()) {
-            enter(stage);
+            putStage(stage);
             if (watch != null) {
-                attached(stage, null, null);
+                noteAttached(stage, null, null);
             }
         }
     }
 
-    Request followed() {
-        return next != null ? next : further();
+    Request nextOrFurther() {
+        return next != null ? next : openFurther();
     }
 
     /** The stage of a number, which is made now where it is a flow's. */
-    private Stage<?> at(int number) {
+    private Stage<?> stageAt(int number) {
         Stage<?> stage = number < stages.length ? stages[number] : null;
-        if (stage == null && flow != null && number < flow.count()) {
+        if (stage == null && flow != null && number < flow.stageCount()) {
             stage = flow.stage(this, number);
-            enter(stage);
+            putStage(stage);
         }
         return stage;
     }
 
-    /** Makes a flow's request begin: its promises get values, in their order. */
-    void begin(Object[] given) {
+    /** Starts a flow's request: its promises get these values, in their order. */
+    void startFlow(Object[] given) {
         checkDepth();
-        News news = new News(watch);
+        FollowUps followUps = new FollowUps(watch);
         synchronized (lock()) {
-            for (int k = 0; watch != null && k < flow.count(); k++) {
-                watch.attached(at(k), Arrays.stream(flow.at(k).of).mapToObj(this::at).collect(Collectors.toList()));
+            for (int k = 0; watch != null && k < flow.stageCount(); k++) {
+                watch.stageAttached(stageAt(k), Arrays.stream(flow.plannedStage(k).sources).mapToObj(this::stageAt).collect(Collectors.toList()));
             }
-            int who = who(), count = Machine.MOST_READY;
+            int who = callerNumber(), count = Machine.MOST_READY;
             for (int from = 0; flow.startsReady() && count == Machine.MOST_READY;) {
-                count = machine.readyFrom(from);
+                count = machine.fetchReady(from);
                 for (int k = 0; k < count; k++) {
-                    from = machine.ready(k) + 1;
-                    news.handed(at(machine.ready(k)));
+                    from = machine.readyStage(k) + 1;
+                    followUps.addHanded(stageAt(machine.readyStage(k)));
                 }
             }
             for (int k = 0; k < given.length; k++) {
-                change(Words.complete(who, flow.promise(k), number(given[k])), who, news);
+                applyWord(Words.complete(who, flow.promiseStage(k), numberOf(given[k])), who, followUps);
             }
         }
-        tell(news);
+        tell(followUps);
     }
 
     // Settling.
@@ -967,11 +968,11 @@ public final class Request implements AutoCloseable {
      */
     public void cancelAll() {
         checkDepth();
-        News news = new News(watch);
+        FollowUps followUps = new FollowUps(watch);
         synchronized (lock()) {
-            cancelBut(new BitSet(), who(), news);
+            cancelAllBut(new BitSet(), callerNumber(), followUps);
         }
-        tell(news);
+        tell(followUps);
     }
 
     /**
@@ -990,54 +991,54 @@ public final class Request implements AutoCloseable {
             throw new IllegalArgumentException("the stage is of another request: this is to be asked of stage.request()");
         }
         checkDepth();
-        News news = new News(watch);
+        FollowUps followUps = new FollowUps(watch);
         synchronized (lock()) {
-            last = stage.told == null ? stage : null;
-            if (last == null) {
+            lastNeeded = stage.outcome == null ? stage : null;
+            if (lastNeeded == null) {
                 machine.flush();
-                cancelRest(stage, who(), news);
+                cancelRest(stage, callerNumber(), followUps);
             }
         }
-        tell(news);
+        tell(followUps);
     }
 
     /** Cancels what is open, but what stands behind this stage and what that needs. The lock is held. */
-    private void cancelRest(Stage<?> stage, int who, News news) {
-        cancelBut(sources().needed(stage.number, this::isPending, this::followed), who, news);
+    private void cancelRest(Stage<?> stage, int who, FollowUps followUps) {
+        cancelAllBut(sources().needed(stage.number, this::isPending, this::followedStage), who, followUps);
     }
 
     /** Cancels what is open but these, the last stage first. The lock is held. */
-    private void cancelBut(BitSet but, int who, News news) {
+    private void cancelAllBut(BitSet but, int who, FollowUps followUps) {
         if (watch != null) {
-            watch.looked(this);
+            watch.historyRead(this);
         }
         for (int k = machine.stages() - 1; k >= 0; k--) {
             if (isOpen(k) && !but.get(k)) {
-                change(Words.cancel(who, k), who, news);
+                applyWord(Words.cancel(who, k), who, followUps);
             }
         }
     }
 
-    /** Does one word, and tells what came of it. Answers whether it settled the stage. */
+    /** Does one word and its follow-ups, and says whether it settled the stage. */
     private boolean settle(int kind, int stage, Object given) {
         checkDepth();
-        News news = new News(watch);
+        FollowUps followUps = new FollowUps(watch);
         boolean did;
         synchronized (lock()) {
-            int who = who();
-            did = change(word(kind, who, stage, given), who, news);
+            int who = callerNumber();
+            did = applyWord(settlingWord(kind, who, stage, given), who, followUps);
         }
-        tell(news);
+        tell(followUps);
         return did;
     }
 
     /** The word that settles a stage with what is given: a value, an exception, or nothing. */
-    private long word(int kind, int who, int stage, Object given) {
+    private long settlingWord(int kind, int who, int stage, Object given) {
         switch (kind) {
             case Words.COMPLETE:
-                return Words.complete(who, stage, number(given));
+                return Words.complete(who, stage, numberOf(given));
             case Words.FAIL:
-                return Words.fail(who, stage, code((Throwable) given));
+                return Words.fail(who, stage, codeOf((Throwable) given));
             default:
                 return Words.cancel(who, stage);
         }
@@ -1045,27 +1046,27 @@ public final class Request implements AutoCloseable {
 
     // Limits of time.
 
-    /** Has a stage settled after a time: with this value, or as timed out. */
-    void limit(Stage<?> stage, long time, TimeUnit unit, boolean gives, Object value) {
+    /** Sets a limit of time, at which the stage gets this value, or times out. */
+    void setLimit(Stage<?> stage, long time, TimeUnit unit, boolean gives, Object value) {
         if (watch != null) {
-            if (stage.seen(true) == null) {
-                watch.limit(stage, Math.max(0, unit.toNanos(time)), () -> passes(stage, gives, value));
+            if (stage.readOutcome(true) == null) {
+                watch.setLimit(stage, Math.max(0, unit.toNanos(time)), () -> settleAtLimit(stage, gives, value));
             }
             return;
         }
         long moment = Clock.moment(time, unit);
         synchronized (lock()) {
-            if (stage.told != null) {
+            if (stage.outcome != null) {
                 return;
             }
-            Stage.Limit limit = new Stage.Limit(moment, gives, gives ? number(value) : 0);
-            machine.deadline(stage.number, limit);
-            Stage.More more = stage.more();
+            Stage.Limit limit = new Stage.Limit(moment, gives, gives ? numberOf(value) : 0);
+            machine.setDeadline(stage.number, limit);
+            Stage.Extras more = stage.extras();
             more.limits = more.limits != null ? more.limits : new ArrayList<>(1);
             more.limits.add(limit);
-            holds(stage);
+            countUnwritten(stage);
             alarm = alarm != null ? alarm : new Alarm(this);
-            if (!alarm.isFirst(moment)) {
+            if (!alarm.becomesFirst(moment)) {
                 return;
             }
         }
@@ -1078,71 +1079,72 @@ public final class Request implements AutoCloseable {
     }
 
     /**
-     * Lets time pass up to the first deadline, if that has come, and tells what came of it. What hangs on it may take long, so the next deadline
-     * has a thread of its own, which comes after this one has passed.
+     * Lets time pass up to the first deadline, if that has come. The functions behind it may take long, so the next deadline has a thread of its
+     * own.
      */
-    void passes() {
-        News news = new News(watch);
+    void passTime() {
+        FollowUps followUps = new FollowUps(watch);
         long due = Alarm.NEVER;
         synchronized (lock()) {
-            long moment = alarm.passes();
+            long moment = alarm.takeDue();
             if (moment == Alarm.NEVER) {
                 return;
             }
-            int who = who();
-            machine.pass(moment, who);
-            due = machine.due();
-            publish(news, who);
-            due = isDue() && alarm.isFirst(due) ? due : Alarm.NEVER;
+            int who = callerNumber();
+            machine.passTimeTo(moment, who);
+            due = machine.nextDeadline();
+            publish(followUps, who);
+            due = isDue() && alarm.becomesFirst(due) ? due : Alarm.NEVER;
         }
         try {
             if (due < Alarm.NEVER) {
                 alarm.set(due);
             }
         } catch (Throwable none) {
-            news.failure = none;
+            followUps.failure = none;
         }
-        tell(news);
+        tell(followUps);
     }
 
-    /** Has a stage settled whose limit a watch lets pass. */
-    private void passes(Stage<?> stage, boolean gives, Object value) {
-        News news = new News(watch);
+    /** Settles a stage whose limit a watch lets pass. */
+    private void settleAtLimit(Stage<?> stage, boolean gives, Object value) {
+        FollowUps followUps = new FollowUps(watch);
         synchronized (lock()) {
-            change(gives ? Words.complete(CLOCK, stage.number, number(value)) : Words.failAs(CLOCK, stage.number, Words.TIMED_OUT), who(), news);
+            long word = gives ? Words.complete(CLOCK, stage.number, numberOf(value)) : Words.failAs(CLOCK, stage.number, Words.TIMED_OUT);
+            applyWord(word, callerNumber(), followUps);
         }
-        tell(news);
+        tell(followUps);
     }
 
-    /** Has a machine that was opened again follow stages and keep deadlines as it did before. */
-    private void setAgain() {
+    /** Sets relays and deadlines in a machine that was opened again. */
+    private void restoreUnwritten() {
         for (Stage<?> stage : stages) {
-            if (stage != null && stage.isUnwritten()) {
-                if (stage.more.limits != null) {
-                    stage.more.limits.forEach(limit -> machine.deadline(stage.number, limit));
+            if (stage != null && stage.hasUnwritten()) {
+                if (stage.extras.limits != null) {
+                    stage.extras.limits.forEach(limit -> machine.setDeadline(stage.number, limit));
                 }
-                if (stage.more.followed >= 0) {
-                    machine.follow(stage.number, stage.more.followed);
+                if (stage.extras.followedStage >= 0) {
+                    machine.follow(stage.number, stage.extras.followedStage);
                 }
             }
         }
     }
 
-    /** The machine has a relay or a deadline more of this stage. */
-    private void holds(Stage<?> stage) {
-        stage.more().unwritten++;
+    /** Counts one more relay or deadline of this stage. */
+    private void countUnwritten(Stage<?> stage) {
+        stage.extras().unwritten++;
         unwritten++;
     }
 
-    /** A stage was settled of which the machine had a relay or a deadline: the clock forgets the request where that was the last one. */
-    private void released() {
+    /** Stops the request's alarm where the machine has no relay and no deadline any more. */
+    private void stopClockIfIdle() {
         Future<?> over = null;
         synchronized (lock()) {
             if (!isDue()) {
-                over = alarm == null ? null : alarm.forget();
+                over = alarm == null ? null : alarm.clear();
                 if (isClosed) {
                     isClosed = false;
-                    machine.rest(null);
+                    machine.giveBackCore(null);
                 }
             }
         }
@@ -1161,92 +1163,92 @@ public final class Request implements AutoCloseable {
             }
             // A cancellation that says more keeps it.
             boolean isPlain = !fault.isCoded && fault.error().getClass() == CancellationException.class && fault.error().getMessage() == null;
-            return isPlain ? Words.cancel(RELAY, relay) : Words.fail(RELAY, relay, code(fault.error()));
+            return isPlain ? Words.cancel(RELAY, relay) : Words.fail(RELAY, relay, codeOf(fault.error()));
         }
-        return Words.complete(RELAY, relay, number(told == Stage.NIL ? null : told));
+        return Words.complete(RELAY, relay, numberOf(told == Stage.NIL ? null : told));
     }
 
-    /** Sees to it that a relay is settled as that is, which is no stage of its request; or by what that throws when it's asked, which it gives. */
-    private static Throwable hang(Link link, CompletionStage<?> of, News news) {
+    /** Hangs a relay on a future that is no stage of its request, and gives what that throws when it is asked, which fails the relay; or null. */
+    private static Throwable hangLink(Link link, CompletionStage<?> of, FollowUps followUps) {
         Object told;
         Throwable thrown = null;
         if (of instanceof Stage<?>) {
             Stage<?> other = (Stage<?>) of;
-            told = other.request.feeds(other, link) ? null : other.told;
+            told = other.request.addOutsideLink(other, link) ? null : other.outcome;
         } else {
             try {
-                told = link.hang(of);
+                told = link.hangOn(of);
             } catch (Throwable refusal) {
                 thrown = refusal;
                 told = new Fault(refusal);
             }
         }
         if (told != null) {
-            relayed(link, told, news);
+            settleRelayOf(link, told, followUps);
         }
         return thrown;
     }
 
-    /** A future that is no stage tells a link which hangs on it. */
-    static void told(Link link, Object told) {
+    /** Settles the relay of a link as a future is that is no stage. */
+    static void settleLinked(Link link, Object told) {
         if (!Native.hasStack()) {
-            Clock.elsewhere(() -> told(link, told));
+            Clock.runElsewhere(() -> settleLinked(link, told));
             return;
         }
-        News news = new News(link.watch());
-        relayed(link, told, news);
-        tell(news);
+        FollowUps followUps = new FollowUps(link.relayWatch());
+        settleRelayOf(link, told, followUps);
+        tell(followUps);
     }
 
-    private static void relayed(Link link, Object told, News news) {
-        Stage<?> relay = link.take();
+    private static void settleRelayOf(Link link, Object told, FollowUps followUps) {
+        Stage<?> relay = link.takeRelay();
         if (relay != null) {
-            relay.request.relayed(relay, told, link.wraps, news);
+            relay.request.settleRelay(relay, told, link.wraps, followUps);
         }
     }
 
-    private void relayed(Stage<?> relay, Object told, boolean wraps, News news) {
+    private void settleRelay(Stage<?> relay, Object told, boolean wraps, FollowUps followUps) {
         if (told instanceof Fault) {
             ((Fault) told).error(); // Before the lock is held.
         }
         synchronized (lock()) {
-            int who = who();
+            int who = callerNumber();
             long word = relayWord(relay.number, told, wraps);
-            if (relay.told == null && told instanceof Fault && Words.kind(word) != Words.FAIL) {
-                faults().stands(relay.number, Words.kind(word) == Words.CANCEL ? History.CANCELLED : History.TIMED_OUT, 0, (Fault) told);
+            if (relay.outcome == null && told instanceof Fault && Words.kind(word) != Words.FAIL) {
+                faults().shareFault(relay.number, Words.kind(word) == Words.CANCEL ? History.CANCELLED : History.TIMED_OUT, 0, (Fault) told);
             }
-            change(word, who, news);
+            applyWord(word, who, followUps);
         }
     }
 
-    private boolean feeds(Stage<?> stage, Link link) {
+    private boolean addOutsideLink(Stage<?> stage, Link link) {
         synchronized (lock()) {
-            if (stage.told == null) {
-                Stage.More more = stage.more();
-                more.outside = and(more.outside, link);
-                link.hangsOn(stage);
+            if (stage.outcome == null) {
+                Stage.Extras more = stage.extras();
+                more.outsideLinks = addLink(more.outsideLinks, link);
+                link.setSource(stage);
                 return true;
             }
             return false;
         }
     }
 
-    private static Link.Row and(Link.Row row, Link link) {
-        Link.Row longer = row != null ? row : new Link.Row();
+    private static Link.Chain addLink(Link.Chain row, Link link) {
+        Link.Chain longer = row != null ? row : new Link.Chain();
         longer.add(link);
         return longer;
     }
 
     void unlink(Stage<?> stage, Link link) {
         synchronized (lock()) {
-            stage.more.outside.remove(link);
+            stage.extras.outsideLinks.remove(link);
         }
     }
 
-    /** What hangs on a settled stage outside its request. */
-    private Link outside(Stage<?> stage) {
+    /** The links that hang on a settled stage outside its request. */
+    private Link takeOutsideLinks(Stage<?> stage) {
         synchronized (lock()) {
-            return stage.more.outside.take();
+            return stage.extras.outsideLinks.takeAll();
         }
     }
 
@@ -1258,160 +1260,160 @@ public final class Request implements AutoCloseable {
     }
 
     /** Does one word under the lock, and says whether its answer is 1, as of a stage that it settled. */
-    boolean change(long word, int who, News news) {
+    boolean applyWord(long word, int who, FollowUps followUps) {
         machine.apply(word, who);
         boolean answer = machine.answer() == 1;
-        publish(news, who);
+        publish(followUps, who);
         if (watch != null) {
-            watch.changed(this, Words.stage(word), answer);
+            watch.settlingTried(this, Words.stage(word), answer);
         }
         return answer;
     }
 
-    /** Shows under the lock what was settled, and takes what is to be called and handed to executors. */
-    private void publish(News news, int who) {
-        Recorder recorder = Recorder.now();
+    /** Settles under the lock the objects of settled stages, and notes the functions to call and the stages for executors. */
+    private void publish(FollowUps followUps, int who) {
+        Recorder recorder = Recorder.current();
         if (recorder != null) {
             record(recorder);
         }
         try {
             do {
-                for (int k = 0; k < machine.told(); k++) {
-                    settled(machine.told(k), machine.number(k), news);
+                for (int k = 0; k < machine.settledCount(); k++) {
+                    takeSettled(machine.settledBits(k), machine.settledNumber(k), followUps);
                 }
-                for (int k = 0; k < machine.claimed(); k++) {
-                    granted(k, news);
+                for (int k = 0; k < machine.claimedCount(); k++) {
+                    takeClaimed(k, followUps);
                     if (watch != null) {
-                        watch.became(this, machine.claimed(k));
+                        watch.functionReady(this, machine.claimedStage(k));
                     }
                 }
-                for (int k = 0; k < machine.ready(); k++) {
-                    news.handed(at(machine.ready(k)));
+                for (int k = 0; k < machine.readyCount(); k++) {
+                    followUps.addHanded(stageAt(machine.readyStage(k)));
                     if (watch != null) {
-                        watch.became(this, machine.ready(k));
+                        watch.functionReady(this, machine.readyStage(k));
                     }
                 }
-            } while (machine.more(who));
-            if (ends) {
-                Stage<?> stage = last;
-                last = null;
-                ends = false;
-                cancelRest(stage, who, news);
+            } while (machine.fetchMore(who));
+            if (isLastNeededSettled) {
+                Stage<?> stage = lastNeeded;
+                lastNeeded = null;
+                isLastNeededSettled = false;
+                cancelRest(stage, who, followUps);
             }
         } catch (OutOfMemoryError refused) {
-            news.failure = refused;
+            followUps.failure = refused;
         }
         if (watch != null) {
             stamp();
-        } else if (single && machine.isOver() && machine.stages() == 1) {
-            machine.rests();
-        } else if (mayRest()) {
-            news.over = machine;
+        } else if (isSingle && machine.isOver() && machine.stages() == 1) {
+            machine.tryGiveBackCore();
+        } else if (mayGiveBackCore()) {
+            followUps.overMachine = machine;
         }
     }
 
     /** Whether its core may be given back unasked: not before a flow's was asked for a stage, since the machine has to tell of that. */
-    private boolean mayRest() {
-        return machine.mayRest() && (flow == null || isAsked);
+    private boolean mayGiveBackCore() {
+        return machine.mayGiveBackCore() && (flow == null || isAsked);
     }
 
-    /** The events since the last time have this moment of the watch's. */
+    /** Gives the events since the last time this moment of the watch's. */
     private void stamp() {
         int events = machine.events();
-        if (events > stamped) {
+        if (events > stampedEvents) {
             moments = moments.length < events ? Arrays.copyOf(moments, 2 * events) : moments;
-            Arrays.fill(moments, stamped, events, watch.now(this));
-            stamped = events;
+            Arrays.fill(moments, stampedEvents, events, watch.now(this));
+            stampedEvents = events;
         }
     }
 
-    /** Of a stage whose number is in the lowest 12 bits. */
-    private void settled(int what, int number, News news) {
-        int at = what & 0xfff;
+    /** Settles the object of a stage, by the machine's {@link Machine.Settled bits}. */
+    private void takeSettled(int bits, int number, FollowUps followUps) {
+        int at = Machine.Settled.stage(bits);
         Stage<?> stage = at < stages.length ? stages[at] : null;
         if (stage == null && Recorder.hasStages()) {
-            stage = at(at);
+            stage = stageAt(at);
         }
-        Object told = told(what, number);
+        Object told = outcomeOf(bits, number);
         if (watch != null) {
-            watch.settled(this, at, told instanceof Fault || told == Stage.NIL ? null : told, told instanceof Fault ? ((Fault) told).raw() : null,
-                    told instanceof Fault && ((Fault) told).isWrapped());
+            watch.stageSettled(this, at, told instanceof Fault || told == Stage.NIL ? null : told,
+                    told instanceof Fault ? ((Fault) told).rawError() : null, told instanceof Fault && ((Fault) told).isWrapped());
         }
         if (stage != null) {
-            ends |= stage == last;
+            isLastNeededSettled |= stage == lastNeeded;
             stages[at] = null;
-            if (stage.isUnwritten()) {
-                unwritten -= stage.more.unwritten;
-                stage.more.limits = null;
+            if (stage.hasUnwritten()) {
+                unwritten -= stage.extras.unwritten;
+                stage.extras.limits = null;
             }
-            stage.tells(told);
-            news.settled(stage);
+            stage.setOutcome(told);
+            followUps.addSettled(stage);
         }
     }
 
-    private Object told(int what, int number) {
-        int kind = what >>> 16 & 0xf, at = what & 0xfff;
+    private Object outcomeOf(int bits, int number) {
+        int kind = Machine.Settled.kind(bits), at = Machine.Settled.stage(bits);
         if (kind == History.GIVES) {
-            return (what >>> 21 & 1) == 0 ? Stage.NIL : values[number];
+            return Machine.Settled.hasValue(bits) ? values[number] : Stage.NIL;
         }
-        int followed = followed(at);
+        int followed = followedStage(at);
         if (followed >= 0) {
-            faults().stands(at, kind, number, faults().of(followed));
+            faults().shareFault(at, kind, number, faults().faultOf(followed));
         }
-        return faults().told(at, kind, (what >>> 20 & 1) != 0, number);
+        return faults().faultOfSettled(at, kind, Machine.Settled.isWrapped(bits), number);
     }
 
     /** The stage of this request that a relay follows, or -1. */
-    private int followed(int number) {
+    private int followedStage(int number) {
         Stage<?> stage = number < stages.length ? stages[number] : null;
-        return stage == null || stage.more == null ? -1 : stage.more.followed;
+        return stage == null || stage.extras == null ? -1 : stage.extras.followedStage;
     }
 
-    /** The exception that the source of a stage is told by, which has failed so. It may have to be made: no lock is held. */
+    /** The exception of a stage's failed source. It may have to be made: no lock is held. */
     Throwable failure(int stage, int failed, int code) {
         Fault fault;
         synchronized (lock()) {
-            fault = faults().ofSource(stage, failed & 0xf, failed >>> 4 != 0, code);
+            fault = faults().faultOfSource(stage, failed & 0xf, failed >>> 4 != 0, code);
         }
         return fault.error();
     }
 
-    private void claim(Stage<?> stage, int who, News news) {
+    private void claimStage(Stage<?> stage, int who, FollowUps followUps) {
         machine.apply(Words.claim(who, stage.number), who);
-        publish(news, who);
+        publish(followUps, who);
     }
 
-    /** Takes the function of a stage that was claimed, and what it is called with. */
-    private void granted(int k, News news) {
-        int number = machine.claimed(k), kind = machine.kind(k);
+    /** Takes the function of the kth claimed stage, and its arguments. */
+    private void takeClaimed(int k, FollowUps followUps) {
+        int number = machine.claimedStage(k), bits = machine.argumentBits(k);
         Stage<?> stage = number < stages.length ? stages[number] : null;
         Object function = stage != null ? stage.function : flow.function(number), first = null, second = null;
         int failed = 0;
         if (stage != null) {
             stage.function = null;
         }
-        if (within != null && flow != null && number < flow.count()) {
-            function = new Carried(within, function);
+        if (context != null && flow != null && number < flow.stageCount()) {
+            function = new ContextFunction(context, function);
         }
-        switch (kind & 3) {
+        switch (Machine.Arguments.kind(bits)) {
             case History.NO_ARGS:
                 break;
             case History.ONE:
-                first = value(machine.first(k));
+                first = value(machine.firstArgument(k));
                 break;
             case History.TWO:
-                first = value(machine.first(k));
-                second = value(machine.second(k));
+                first = value(machine.firstArgument(k));
+                second = value(machine.secondArgument(k));
                 break;
             default:
-                int of = kind >>> 4 & 0xf;
+                int of = Machine.Arguments.outcomeKind(bits);
                 if (of == History.GIVES) {
-                    first = value(machine.first(k));
+                    first = value(machine.firstArgument(k));
                 } else {
-                    failed = of | (kind >>> 8 & 1) << 4;
+                    failed = of | (Machine.Arguments.isWrapped(bits) ? 1 << 4 : 0);
                 }
         }
-        Call call = news.call();
+        ClaimedCall call = followUps.newCall();
         call.request = this;
         call.number = number;
         call.stage = stage;
@@ -1419,212 +1421,212 @@ public final class Request implements AutoCloseable {
         call.function = function;
         call.first = first;
         call.second = second;
-        call.failed = failed;
-        call.code = machine.first(k);
-        news.claimed(call);
+        call.sourceFailure = failed;
+        call.failureCode = machine.firstArgument(k);
+        followUps.addCall(call);
     }
 
-    private News claim(Stage<?> stage) {
-        News news = new News(watch);
+    private FollowUps claimForWatch(Stage<?> stage) {
+        FollowUps followUps = new FollowUps(watch);
         synchronized (lock()) {
-            claim(stage, who(), news);
+            claimStage(stage, callerNumber(), followUps);
         }
-        watch.happened();
-        return news;
+        watch.eventTold();
+        return followUps;
     }
 
-    /** Claims a stage for an executor's thread, calls its function, and goes on with what that thread is to call then. */
-    void work(Stage<?> stage) {
+    /** Claims a stage for an executor's thread, calls its function, and then all that this thread is to call. */
+    void claimAndCall(Stage<?> stage) {
         checkDepth();
-        News news = new News(watch);
+        FollowUps followUps = new FollowUps(watch);
         synchronized (lock()) {
-            claim(stage, who(), news);
+            claimStage(stage, callerNumber(), followUps);
         }
-        tell(news);
+        tell(followUps);
     }
 
     /**
-     * Tells who waits, hands stages to executors, and calls functions until there is none that this thread is to call. What one of them throws
-     * here, as an Error may be, keeps nothing from the others, and is thrown in the end.
+     * Wakes waiters, hands stages to executors, and calls functions until there is none that this thread is to call. If one of them throws an Error,
+     * the others come all the same, and the first Error is thrown at the end.
      */
-    static void tell(News news) {
-        if (news.watch != null) {
-            news.watch.happened();
-            news.watch.tells(news);
+    static void tell(FollowUps followUps) {
+        if (followUps.watch != null) {
+            followUps.watch.eventTold();
+            followUps.watch.takeOver(followUps);
             return;
         }
         Throwable first = null;
         for (boolean goesOn = true; goesOn;) {
             try {
-                goesOn = tellNext(news);
+                goesOn = tellNext(followUps);
             } catch (Throwable thrown) {
                 first = first == null ? thrown : first;
             }
         }
-        first = first == null ? news.failure : first;
+        first = first == null ? followUps.failure : first;
         if (first != null) {
             Request.<RuntimeException>rethrow(first);
         }
     }
 
-    /** Each of these takes what it is about first, so that it comes but once. */
-    static boolean tellNext(News news) {
+    /** Does one follow-up, and says whether there was one. It is taken out first, so that it comes but once. */
+    static boolean tellNext(FollowUps followUps) {
         Stage<?> stage;
         Link link;
-        Call call;
+        ClaimedCall call;
         Machine over;
-        if ((over = news.pollOver()) != null) {
-            over.over();
-        } else if ((link = news.pollRelayed()) != null) {
-            relayed(link, news.told, news);
-        } else if ((stage = news.pollSettled()) != null) {
-            if (stage.more != null && stage.more.outside != null) {
-                news.relayed(stage.request.outside(stage), stage.told);
+        if ((over = followUps.pollOver()) != null) {
+            over.giveBackLater();
+        } else if ((link = followUps.pollRelayed()) != null) {
+            settleRelayOf(link, followUps.relayedOutcome, followUps);
+        } else if ((stage = followUps.pollSettled()) != null) {
+            if (stage.extras != null && stage.extras.outsideLinks != null) {
+                followUps.setRelayed(stage.request.takeOutsideLinks(stage), stage.outcome);
             }
-            if (news.watch != null && stage.hasJavas()) {
-                news.watch.user(stage::show);
+            if (followUps.watch != null && stage.hasJavaDependents()) {
+                followUps.watch.callUserCode(stage::wakeWaiters);
             } else {
-                stage.show();
+                stage.wakeWaiters();
             }
-            if (stage.isUnwritten()) {
-                stage.request.released();
+            if (stage.hasUnwritten()) {
+                stage.request.stopClockIfIdle();
             }
-            if (stage.request.single && stage.request.service.ends() != null) {
-                stage.request.endsAlone();
+            if (stage.request.isSingle && stage.request.service.ends() != null) {
+                stage.request.tellEndIfAlone();
             }
-        } else if ((stage = news.pollHanded()) != null) {
-            stage.request.hand(stage, news);
-        } else if ((call = news.pollCall()) != null) {
-            call.request.call(call, news);
+        } else if ((stage = followUps.pollHanded()) != null) {
+            stage.request.handToExecutor(stage, followUps);
+        } else if ((call = followUps.pollCall()) != null) {
+            call.request.callFunction(call, followUps);
         } else {
             return false;
         }
         return true;
     }
 
-    /** Has this executor call what another one was given. A stage whose function it refuses ends by that. */
+    /** Hands a task to this executor. If the executor refuses the function of a stage, the stage fails with that. */
     static void execute(Executor executor, Runnable act) {
         try {
             executor.execute(act);
         } catch (Throwable refused) {
-            if (!(act instanceof Task)) {
+            if (!(act instanceof StageTask)) {
                 throw refused;
             }
-            Stage<?> stage = ((Task) act).stage;
-            News news = new News(stage.request.watch);
-            stage.request.refused(stage, refused, news);
-            tell(news);
+            Stage<?> stage = ((StageTask) act).stage;
+            FollowUps followUps = new FollowUps(stage.request.watch);
+            stage.request.failRefused(stage, refused, followUps);
+            tell(followUps);
         }
     }
 
-    private void hand(Stage<?> stage, News news) {
+    private void handToExecutor(Stage<?> stage, FollowUps followUps) {
         if (watch != null) {
-            watch.ready(new Task(stage));
+            watch.submit(new StageTask(stage));
             return;
         }
         try {
-            stage.executor.execute(new Task(stage));
+            stage.executor.execute(new StageTask(stage));
         } catch (Throwable refusal) {
-            refused(stage, refusal, news);
+            failRefused(stage, refusal, followUps);
         }
     }
 
-    /** A stage whose executor takes nothing ends by what that threw. */
-    private void refused(Stage<?> stage, Throwable refused, News news) {
+    /** Fails a stage whose executor has refused it with what that threw. */
+    private void failRefused(Stage<?> stage, Throwable refused, FollowUps followUps) {
         synchronized (lock()) {
-            int who = who();
+            int who = callerNumber();
             machine.apply(Words.claim(who, stage.number), who);
             if (machine.answer() == History.GRANTED) {
-                machine.finish(stage.number, true, code(refused), who);
+                machine.finish(stage.number, true, codeOf(refused), who);
             }
-            publish(news, who);
+            publish(followUps, who);
         }
     }
 
-    /** Calls a function, unless its stage was settled since it was claimed, and finishes the stage: then too late, so that no claim stays open. */
-    private void call(Call call, News news) {
+    /** Calls a function, unless its stage was settled since it was claimed, and finishes the stage in any case, so that no claim stays open. */
+    private void callFunction(ClaimedCall call, FollowUps followUps) {
         int number = call.number;
-        boolean isSettled = call.stage != null && call.stage.told != null;
+        boolean isSettled = call.stage != null && call.stage.outcome != null;
         Form form = call.form;
         Object function = call.function, first = call.first, second = null, given = null;
         Throwable thrown = null;
         try {
-            second = isSettled ? null : call.second();
-            news.called(call);
-            given = isSettled ? null : Carried.call(form, function, first, second);
+            second = isSettled ? null : call.secondArgument();
+            followUps.recycle(call);
+            given = isSettled ? null : ContextFunction.call(form, function, first, second);
         } catch (Throwable error) {
             thrown = error;
         }
-        finish(number, form, second, isSettled, given, thrown, news);
+        finish(number, form, second, isSettled, given, thrown, followUps);
     }
 
-    /** Finishes a stage with what its function gave or has thrown, unless it was settled before that was called. */
-    void finish(int number, Form form, Object second, boolean isSettled, Object given, Throwable thrown, News news) {
+    /** Finishes a stage with what its function has returned or thrown, or too late where it was settled before. */
+    void finish(int number, Form form, Object second, boolean isSettled, Object given, Throwable thrown, FollowUps followUps) {
         if (thrown != null && form == Form.WHEN_COMPLETE && second != null && second != thrown) {
             ((Throwable) second).addSuppressed(thrown);
         }
         Link link = null;
         synchronized (lock()) {
-            int who = who();
+            int who = callerNumber();
             if (thrown != null) {
-                machine.finish(number, true, code(thrown), who);
+                machine.finish(number, true, codeOf(thrown), who);
             } else if (isSettled || !form.composes) {
-                machine.finish(number, false, number(given), who);
+                machine.finish(number, false, numberOf(given), who);
             } else {
                 link = link(number, (CompletionStage<?>) given, who);
             }
-            publish(news, who);
+            publish(followUps, who);
             if (watch != null && (thrown != null || isSettled || !form.composes)) {
-                watch.finished(this, number, -1);
+                watch.functionFinished(this, number, -1);
             }
         }
         if (link != null) {
             if (watch != null) {
-                watch.linked(at(number - 1), (CompletionStage<?>) given);
+                watch.relayLinked(stageAt(number - 1), (CompletionStage<?>) given);
             }
-            hang(link, (CompletionStage<?>) given, news);
-            link.untilSettled();
+            hangLink(link, (CompletionStage<?>) given, followUps);
+            link.removeOnceSettled();
         }
     }
 
-    /** Links a stage to what its function gave, or to the relay below it: that relay's link where it is to be settled from outside. */
+    /** Links a stage to the stage that its function gave, or to the relay below it; the relay's link, where something outside settles it. */
     private Link link(int number, CompletionStage<?> to, int who) {
         Stage<?> own = to instanceof Stage<?> && ((Stage<?>) to).request == this ? (Stage<?>) to : null;
         if (own != null && own.number < number) {
             machine.link(Words.finishLinking(who, number, own.number), -1, 0, who);
-            linked(number, own.number);
+            noteFinishLinking(number, own.number);
             return null;
         }
         Stage<?> relay = relayOf(number);
-        name(relay.number, own == null ? "relay of what is elsewhere" : "relay of " + own.number);
+        setName(relay.number, own == null ? "relay of what is elsewhere" : "relay of " + own.number);
         machine.link(Words.finishLinking(who, number, relay.number), own == null ? -1 : relay.number, own == null ? 0 : own.number, who);
-        linked(number, relay.number);
+        noteFinishLinking(number, relay.number);
         if (watch != null && own != null) {
-            watch.follows(this, relay.number, own.number);
+            watch.stageFollows(this, relay.number, own.number);
         }
         if (machine.answer() != History.WON) {
             return null;
         }
         if (own == null) {
-            return new Link(relay, at(number), true);
+            return new Link(relay, stageAt(number), true);
         }
         if (stages[relay.number] == relay) {
-            relay.more().followed = own.number;
-            holds(relay); // Also where the machine has just settled it, which is yet to be told.
+            relay.extras().followedStage = own.number;
+            countUnwritten(relay); // Also where the machine has just settled it, which is yet to be told.
         }
         return null;
     }
 
-    private void linked(int number, int to) {
+    private void noteFinishLinking(int number, int to) {
         if (watch != null) {
-            watch.finished(this, number, to);
+            watch.functionFinished(this, number, to);
         }
     }
 
-    /** The source below a composing stage, which stands in for what its function makes. */
+    /** The source below a composing stage, which stands for what its function gives. */
     private Stage<?> relayOf(int number) {
-        if (flow != null && number < flow.count()) {
-            return at(number - 1);
+        if (flow != null && number < flow.stageCount()) {
+            return stageAt(number - 1);
         }
         Stage<?> relay = stages[number - 1];
         return relay != null ? relay : new Stage<>(this, number - 1, Form.SOURCE, null, null);
@@ -1632,19 +1634,19 @@ public final class Request implements AutoCloseable {
 
     private void record(Recorder recorder) {
         if (recorder.takesWords()) {
-            for (long word : machine.words(recorded)) {
-                recorder.word(name, word);
+            for (long word : machine.words(recordedWords)) {
+                recorder.recordWord(name, word);
             }
         }
-        recorded = machine.events();
+        recordedWords = machine.events();
     }
 
     // What the machine's numbers stand for. The lock is held.
 
     /** The calling thread's number in words. */
-    int who() {
+    int callerNumber() {
         if (watch != null) {
-            return who(watch.caller());
+            return callerNumber(watch.callerName());
         }
         long id = Thread.currentThread().getId();
         if (thread == id) {
@@ -1655,24 +1657,24 @@ public final class Request implements AutoCloseable {
                 return FIRST_THREAD + k;
             }
         }
-        return FIRST_THREAD + threadCount >= OTHER_THREADS ? OTHER_THREADS : entered(id);
+        return FIRST_THREAD + threadCount >= OTHER_THREADS ? OTHER_THREADS : addThread(id);
     }
 
-    private int who(String name) {
+    private int callerNumber(String name) {
         for (int k = 0; k < threadCount; k++) {
             if (threadNames[k].equals(name)) {
                 return FIRST_THREAD + k;
             }
         }
-        return FIRST_THREAD + threadCount >= OTHER_THREADS ? OTHER_THREADS : entered(threadCount, name);
+        return FIRST_THREAD + threadCount >= OTHER_THREADS ? OTHER_THREADS : addThread(threadCount, name);
     }
 
-    private int entered(long id) {
+    private int addThread(long id) {
         String name = Thread.currentThread().getName();
-        return entered(id, name.isEmpty() ? "thread " + id : name);
+        return addThread(id, name.isEmpty() ? "thread " + id : name);
     }
 
-    private int entered(long id, String name) {
+    private int addThread(long id, String name) {
         if (threadCount == 0) {
             thread = id;
         } else {
@@ -1688,7 +1690,7 @@ public final class Request implements AutoCloseable {
         return FIRST_THREAD + threadCount++;
     }
 
-    private int number(Object value) {
+    private int numberOf(Object value) {
         if (value == null) {
             return Words.NIL;
         }
@@ -1707,8 +1709,8 @@ public final class Request implements AutoCloseable {
         return number < 0 ? null : values[number];
     }
 
-    private int code(Throwable error) {
-        return faults().code(error);
+    private int codeOf(Throwable error) {
+        return faults().codeOf(error);
     }
 
     private Faults faults() {

@@ -4,7 +4,7 @@ import cf.internal.Full;
 
 /**
  * A stage finds no room: a request or a flow has at most 4,096 stages, which name other stages as their sources at most 16,384 times. Nothing was
- * changed. {@link Request#goesOn} lets further stages go to a further request.
+ * changed. {@link Request#isContinued} lets further stages go to a further request.
  */
 public final class RequestFullException extends IllegalStateException {
     private static final long serialVersionUID = 1;

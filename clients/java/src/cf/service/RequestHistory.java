@@ -1,7 +1,7 @@
 package cf.service;
 
 import cf.internal.Tale;
-import cf.internal.Telling;
+import cf.internal.Teller;
 import java.io.ByteArrayOutputStream;
 import java.io.IOException;
 import java.io.InputStream;
@@ -11,7 +11,7 @@ import java.nio.file.Files;
 import java.nio.file.Path;
 
 /**
- * What happened to a request, in memory or in a store, up to the moment when the history was taken. Each text takes time by the number of events:
+ * The history of a request, in memory or in a store, up to the moment when it was taken. Each text takes time by the number of events:
  * the library does them once more, and tells the same in each language.
  *
  * <p>Values and exceptions are told by the request's {@link Describe}; names are always told. The words of {@link #toString} and {@link #line} are
@@ -21,18 +21,18 @@ public abstract class RequestHistory {
     /** @hidden */
     protected RequestHistory() {}
 
-    /** @hidden What tells it. */
-    protected abstract Telling telling();
+    /** @hidden Makes its texts. */
+    protected abstract Teller teller();
 
     /** The events in their order, each as a word of 64 bits. */
     public long[] words() {
-        return telling().words.clone();
+        return teller().words.clone();
     }
 
     /** A line for each event with its time, and one for each stage that it settled. Names and texts can't add a line: see {@link Describe}. */
     @Override
     public String toString() {
-        return telling().as(Tale.Kind.LINES);
+        return teller().text(Tale.Format.LINES);
     }
 
     /**
@@ -40,15 +40,15 @@ public abstract class RequestHistory {
      * between. A semicolon of a name or a text is escaped as in JSON.
      */
     public String line() {
-        return telling().as(Tale.Kind.LINE);
+        return teller().text(Tale.Format.LINE);
     }
 
     /**
      * What {@code cf_look check} judges, and {@code cf_look page} shows: the events, with the replies and outcomes that they have by the graph.
-     * What isn't judged are names, times in nanoseconds from the first event on, values and exceptions as texts.
+     * Names, times in nanoseconds from the first event on, and the texts of values and exceptions aren't judged.
      */
     public String account() {
-        return withoutEnd(telling().as(Tale.Kind.ACCOUNT));
+        return withoutEnd(teller().text(Tale.Format.ACCOUNT));
     }
 
     /**
@@ -56,7 +56,7 @@ public abstract class RequestHistory {
      * has what they returned or threw. It is of version 3 if an event times a stage out, else of version 2.
      */
     public String script() {
-        return withoutEnd(telling().as(Tale.Kind.SCRIPT));
+        return withoutEnd(teller().text(Tale.Format.SCRIPT));
     }
 
     /**

@@ -2,7 +2,7 @@ package cf.service;
 
 import cf.internal.Ends;
 import cf.internal.Watch;
-import cf.internal.Watched;
+import cf.internal.WatchedServices;
 import java.util.Objects;
 import java.util.concurrent.CompletableFuture;
 import java.util.concurrent.Executor;
@@ -13,8 +13,8 @@ import java.util.function.Consumer;
 import java.util.function.Supplier;
 
 /**
- * Opens requests. It has the executor that calls the functions of {@code Async} stages for which no other one is given, and says what all its
- * requests tell of values, what goes along with their functions, and who is told of their ends. A process needs one. Any thread may use it.
+ * Opens requests. It has the executor for functions of {@code Async} stages without one, the texts that its requests make of values, the contexts of
+ * their functions, and the hook for their ends. A process needs one service. Any thread may use it.
  *
  * <p>It has no threads of its own, keeps no list of its requests, and needs no closing: shut the executor down yourself.
  */
@@ -26,21 +26,21 @@ public final class Service {
     private final Describe describe;
     /** Null where nothing goes along with functions. */
     private final Contexts contexts;
-    /** Null where nobody is told of ends. */
+    /** Null without a hook. */
     private final Ends<History> ends;
     private final AtomicLong requests;
     /** Whether its requests go on in further ones. */
-    private final boolean goesOn;
-    /** Who runs it, as a test does; else null. */
+    private final boolean isContinued;
+    /** The test that runs it, or null. */
     final Watch watch;
 
     static {
-        Watched.madeBy((executor, watch) -> new Service(executor, Describe.ALL, null, null, new AtomicLong(), false, watch));
+        WatchedServices.setMaker((executor, watch) -> new Service(executor, Describe.ALL, null, null, new AtomicLong(), false, watch));
     }
 
     /** With the executor that {@link CompletableFuture} uses if none is given: the common pool, or a thread for each task if that has one thread. */
     public Service() {
-        this(usual());
+        this(commonExecutor());
     }
 
     /**
@@ -59,26 +59,26 @@ public final class Service {
         this.contexts = contexts;
         this.ends = ends;
         this.requests = requests;
-        this.goesOn = goesOn;
+        this.isContinued = goesOn;
         this.watch = watch;
     }
 
-    /** A service with the same executor, whose requests tell their values and exceptions by this function in histories, texts and recordings. */
-    public Service describing(Describe describe) {
-        return new Service(executor, Objects.requireNonNull(describe), contexts, ends, requests, goesOn, watch);
+    /** A service with the same executor, whose histories, texts and recordings show values and exceptions as this makes texts of them. */
+    public Service withDescribe(Describe describe) {
+        return new Service(executor, Objects.requireNonNull(describe), contexts, ends, requests, isContinued, watch);
     }
 
     /**
      * A service with the same executor, whose functions are called within the context of the place where each was attached. A function of a flow is
      * called within that of the place where its request was opened.
      */
-    public Service carrying(Contexts contexts) {
-        return new Service(executor, describe, Objects.requireNonNull(contexts), ends, requests, goesOn, watch);
+    public Service withContexts(Contexts contexts) {
+        return new Service(executor, describe, Objects.requireNonNull(contexts), ends, requests, isContinued, watch);
     }
 
     /**
      * A service with the same executor, which hands the history of each request to this hook, once: when the request was closed, and the stages are
-     * settled that it had then. What is attached later isn't told. A request of one stage ({@link #supplyAsync}) is over once that is settled; if
+     * settled that it had then. Stages that are attached later aren't in it. A request of one stage ({@link #supplyAsync}) is over once that is settled; if
      * more stages were attached by then, close {@code stage.request()}.
      *
      * <p>The hook is called on the thread {@code cf-ends}, with one request after another, and within the context of the place where the request was
@@ -86,18 +86,18 @@ public final class Service {
      * aren't told, and one warning says so. The thread is no daemon: the JVM waits for it, unless {@code System.exit} ends the JVM.
      */
     public Service onEnd(Consumer<? super History> hook) {
-        return new Service(executor, describe, contexts, new Ends<>(Objects.requireNonNull(hook), "cf.service"), requests, goesOn, watch);
+        return new Service(executor, describe, contexts, new Ends<>(Objects.requireNonNull(hook), "cf.service"), requests, isContinued, watch);
     }
 
-    /** A service with the same executor, each of whose requests {@link Request#goesOn goes on} if it is full. */
-    public Service goesOn() {
+    /** A service with the same executor, each of whose requests {@link Request#continueInNext continues in a next one} if it is full. */
+    public Service withNextRequests() {
         return new Service(executor, describe, contexts, ends, requests, true, watch);
     }
 
     /**
      * Opens a request.
      *
-     * @param name what histories and logs call it, whatever is told of values: put no secret into it. Several requests may have one name
+     * @param name its name in histories and logs, which always show it: put no secret into it. Several requests may have one name
      */
     public Request request(String name) {
         return request(name, describe);
@@ -105,7 +105,7 @@ public final class Service {
 
     /** Opens a request that tells its values and exceptions by this function. */
     public Request request(String name, Describe describe) {
-        return goingOn(new Request(this, Objects.requireNonNull(name), null, ROOM, Objects.requireNonNull(describe)));
+        return continued(new Request(this, Objects.requireNonNull(name), null, ROOM, Objects.requireNonNull(describe)));
     }
 
     /** Opens a request that is named by a number, as {@code request 17}. */
@@ -125,23 +125,23 @@ public final class Service {
      * @throws IllegalArgumentException where there are more values than promises
      */
     public Request start(Flow flow, Object... given) {
-        if (given.length > flow.promises()) {
-            throw new IllegalArgumentException(given.length + " values for " + flow.promises() + " promises");
+        if (given.length > flow.promiseCount()) {
+            throw new IllegalArgumentException(given.length + " values for " + flow.promiseCount() + " promises");
         }
-        Request request = goingOn(new Request(this, flow.name(), flow, 0, describe));
-        request.begin(given);
+        Request request = continued(new Request(this, flow.name(), flow, 0, describe));
+        request.startFlow(given);
         return request;
     }
 
-    private Request goingOn(Request request) {
-        return goesOn ? request.goesOn() : request;
+    private Request continued(Request request) {
+        return isContinued ? request.continueInNext() : request;
     }
 
     /** An executor that hands each task to another one after a time, as {@link CompletableFuture}'s of that name. */
     public static Executor delayedExecutor(long delay, TimeUnit unit, Executor executor) {
         Objects.requireNonNull(unit);
         Objects.requireNonNull(executor);
-        return act -> Clock.after(delay, unit, () -> Request.execute(executor, act));
+        return act -> Clock.runAfter(delay, unit, () -> Request.execute(executor, act));
     }
 
     Executor executor() {
@@ -157,17 +157,18 @@ public final class Service {
     }
 
     /** The contexts of this place, or null. */
-    Executor captured() {
+    Executor captureContext() {
         return contexts == null ? null : contexts.capture();
     }
 
-    /** A function with what goes along with it, unless it has that already. */
-    Object carried(Object function) {
-        return contexts == null || function == null || function instanceof Carried ? function : new Carried(contexts.capture(), function);
+    /** A function with its context, unless it has that already. */
+    Object withContext(Object function) {
+        return contexts == null || function == null || function instanceof ContextFunction ? function
+                : new ContextFunction(contexts.capture(), function);
     }
 
     /** Java's rule: the common pool, or a thread for each task where that has but one. */
-    private static Executor usual() {
+    private static Executor commonExecutor() {
         try {
             return (Executor) CompletableFuture.class.getMethod("defaultExecutor").invoke(new CompletableFuture<>());
         } catch (ReflectiveOperationException eight) {

@@ -15,7 +15,7 @@ final class Sources {
     private final Flow flow;
     private final Machine machine;
     /** Of each stage that was attached; behind a finish that links, of any stage, with the one that its function gave as the last. */
-    private int[][] of;
+    private int[][] sources;
     private int stages, words;
     /** Whose function has given another stage; and of which forms they are. */
     private final BitSet linked = new BitSet();
@@ -24,42 +24,42 @@ final class Sources {
     Sources(Flow flow, Machine machine) {
         this.flow = flow;
         this.machine = machine;
-        stages = flow == null ? 0 : flow.count();
-        of = new int[Math.max(8, stages)][];
-        forms = new Form[of.length];
+        stages = flow == null ? 0 : flow.stageCount();
+        sources = new int[Math.max(8, stages)][];
+        forms = new Form[sources.length];
         for (int k = 0; k < stages; k++) {
             forms[k] = flow.form(k);
         }
     }
 
     /** Those of a stage, in their order. Of one whose function gave another stage it is that one alone. */
-    int[] of(int stage) {
+    int[] sourcesOf(int stage) {
         read();
-        return linked.get(stage) ? new int[] {of[stage][of[stage].length - 1]} : all(stage);
+        return linked.get(stage) ? new int[] {sources[stage][sources[stage].length - 1]} : allSources(stage);
     }
 
-    private int[] all(int stage) {
-        return of[stage] != null ? of[stage] : flow.at(stage).of;
+    private int[] allSources(int stage) {
+        return sources[stage] != null ? sources[stage] : flow.plannedStage(stage).sources;
     }
 
     private void read() {
         for (long word : machine.words(words)) {
             words++;
             if (Words.kind(word) == Words.ATTACH) {
-                if (stages == of.length) {
-                    of = Arrays.copyOf(of, 2 * stages);
+                if (stages == sources.length) {
+                    sources = Arrays.copyOf(sources, 2 * stages);
                     forms = Arrays.copyOf(forms, 2 * stages);
                 }
-                forms[stages] = Form.of(Words.low(word) >>> 24);
-                of[stages++] = Words.sources(word);
-            } else if (Words.linking(word) && !linked.get(Words.stage(word))) {
-                of[Words.stage(word)] = with(all(Words.stage(word)), Words.low(word));
+                forms[stages] = Form.byNumber(Words.lowBits(word) >>> 24);
+                sources[stages++] = Words.sources(word);
+            } else if (Words.isLinking(word) && !linked.get(Words.stage(word))) {
+                sources[Words.stage(word)] = append(allSources(Words.stage(word)), Words.lowBits(word));
                 linked.set(Words.stage(word));
             }
         }
     }
 
-    private static int[] with(int[] some, int one) {
+    private static int[] append(int[] some, int one) {
         int[] more = Arrays.copyOf(some, some.length + 1);
         more[some.length] = one;
         return more;
@@ -76,12 +76,12 @@ final class Sources {
         for (int before = 0; before < needed.cardinality();) {
             before = needed.cardinality();
             for (int k = 0; k < stages; k++) {
-                needed.set(k, needed.get(k) || Arrays.stream(awaited(k, follows)).anyMatch(needed::get));
+                needed.set(k, needed.get(k) || Arrays.stream(awaitedStages(k, follows)).anyMatch(needed::get));
             }
         }
         for (int before = 0; before < needed.cardinality();) {
             before = needed.cardinality();
-            for (int each : needed.stream().filter(k -> waits(k, isOpen)).flatMap(k -> Arrays.stream(awaited(k, follows))).toArray()) {
+            for (int each : needed.stream().filter(k -> needsSources(k, isOpen)).flatMap(k -> Arrays.stream(awaitedStages(k, follows))).toArray()) {
                 needed.set(each);
             }
         }
@@ -89,14 +89,14 @@ final class Sources {
     }
 
     /** What a stage waits for, also of one that composes: its relay, which stands right below it. */
-    private int[] awaited(int stage, IntUnaryOperator follows) {
-        int[] some = forms[stage].composes ? with(all(stage), stage - 1) : all(stage);
+    private int[] awaitedStages(int stage, IntUnaryOperator follows) {
+        int[] some = forms[stage].composes ? append(allSources(stage), stage - 1) : allSources(stage);
         int followed = follows.applyAsInt(stage);
-        return followed < 0 ? some : with(some, followed);
+        return followed < 0 ? some : append(some, followed);
     }
 
     /** Whether a stage may need its sources: one that needs one alone doesn't once it has that. */
-    private boolean waits(int stage, IntPredicate isOpen) {
-        return isOpen.test(stage) && (!forms[stage].isEither || Arrays.stream(all(stage)).allMatch(isOpen));
+    private boolean needsSources(int stage, IntPredicate isOpen) {
+        return isOpen.test(stage) && (!forms[stage].isEither || Arrays.stream(allSources(stage)).allMatch(isOpen));
     }
 }

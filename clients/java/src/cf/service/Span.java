@@ -4,9 +4,9 @@ import java.util.Collections;
 import java.util.List;
 import java.util.Map;
 
-/** What {@link History#spans} tells of a request, or of one call of a function, for OpenTelemetry. */
+/** A span of {@link History#spans}, for OpenTelemetry: that of a request, or of one call of a function. */
 public final class Span {
-    /** How what it is about ended: it hasn't, with a value, or with an exception. */
+    /** How the request or the call ended: not yet, with a value, or with an exception. */
     public enum Status {
         /** It isn't settled. */
         UNSET,
@@ -53,7 +53,7 @@ public final class Span {
         return start;
     }
 
-    /** In nanoseconds since 1970: the finish, and for the request, and what isn't finished, the last event. */
+    /** The finish, in nanoseconds since 1970; for the request, or a call that isn't finished, the last event. */
     public long end() {
         return end;
     }
@@ -73,12 +73,12 @@ public final class Span {
         return status;
     }
 
-    /** What it failed with, or an empty text. */
+    /** The text of its exception, or an empty text. */
     public String message() {
         return message;
     }
 
-    /** Attributes of the event at the end that tells what the function has thrown, or null. */
+    /** Attributes of the event at the end that has the function's exception, or null. */
     public Map<String, String> thrown() {
         return thrown;
     }

@@ -47,13 +47,13 @@ final class SpanReader {
         }
     }
 
-    static List<Span> of(History history) {
+    static List<Span> spansOf(History history) {
         if (history.events() == 0) {
             return Collections.emptyList();
         }
         SpanReader it = new SpanReader(history);
         List<Span> spans = new ArrayList<>();
-        spans.add(it.whole());
+        spans.add(it.wholeSpan());
         for (int k = 0; k < it.claims.length; k++) {
             if (it.claims[k] != NONE) {
                 spans.add(it.span(k));
@@ -63,7 +63,7 @@ final class SpanReader {
     }
 
     private void read(int k, long word) {
-        int who = Words.who(word), stage = Words.stage(word);
+        int who = Words.caller(word), stage = Words.stage(word);
         switch (Words.kind(word)) {
             case Words.ATTACH:
                 inner[history.number(k)] |= running[who] > 0;
@@ -77,10 +77,10 @@ final class SpanReader {
             case Words.FINISH:
                 if (finishes[stage] == NONE && claims[stage] != NONE) {
                     finishes[stage] = k;
-                    running[Words.who(history.word(claims[stage]))]--;
+                    running[Words.caller(history.word(claims[stage]))]--;
                 }
                 if (Words.tag(word) == LINKS) {
-                    inner[Words.low(word)] = true;
+                    inner[Words.lowBits(word)] = true;
                 }
                 break;
             default:
@@ -88,7 +88,7 @@ final class SpanReader {
     }
 
     /** The span of the request, which has failed where a stage has that nothing waits for. */
-    private Span whole() {
+    private Span wholeSpan() {
         Span.Status status = Span.Status.OK;
         String message = "";
         boolean isEmpty = true;
@@ -108,7 +108,7 @@ final class SpanReader {
         int claim = claims[stage], finish = finishes[stage];
         Map<String, Object> attributes = new LinkedHashMap<>();
         attributes.put("cf.stage", stage);
-        attributes.put("cf.caller", history.who(Words.who(history.word(claim))));
+        attributes.put("cf.caller", history.callerName(Words.caller(history.word(claim))));
         attributes.put("cf.form", forms[stage].text);
         List<Integer> sources = new ArrayList<>();
         for (int source : of[stage]) {
@@ -117,7 +117,8 @@ final class SpanReader {
             }
         }
         Span.Status status = status(stage);
-        return new Span(stage, history.called(stage, forms[stage]), history.moment(claim), history.moment(finish == NONE ? history.events() - 1 : finish),
+        return new Span(stage, history.title(stage, forms[stage]), history.moment(claim),
+                history.moment(finish == NONE ? history.events() - 1 : finish),
                 attributes, sources, status, status == Span.Status.ERROR ? history.failure(stage) : "",
                 finish == NONE ? null : thrown(history.word(finish)));
     }
@@ -132,11 +133,11 @@ final class SpanReader {
             return null;
         }
         Map<String, String> thrown = new LinkedHashMap<>();
-        Object error = history.error(Words.low(finish));
+        Object error = history.error(Words.lowBits(finish));
         if (error instanceof Throwable) { // and not what was told of it
             thrown.put("exception.type", error.getClass().getName());
         }
-        thrown.put("exception.message", history.told(error));
+        thrown.put("exception.message", history.describeValue(error));
         return thrown;
     }
 }

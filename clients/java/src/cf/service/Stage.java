@@ -21,8 +21,8 @@ import java.util.function.Supplier;
 
 /**
  * A {@link CompletableFuture} of a request: each call that changes something is an event of the request's history. Its state is decided by the
- * request's machine, which is proved. The part that it inherits of {@code CompletableFuture} is told what was decided, wakes those who wait, and
- * serves what the JDK's classes attach by themselves.
+ * request's machine, which is proved. The part that it inherits of {@code CompletableFuture} gets the outcome, wakes the waiters, and
+ * serves the JDK's classes.
  *
  * <p>A function without {@code Async} is called by the thread that settles the stage's source, once all else is settled that follows from that
  * event; if several are ready, that of the lowest stage comes first. If the source is settled, the attaching call calls it. Behind a stage that timed
@@ -76,27 +76,27 @@ public class Stage<T> extends Waits<T> {
     short dependents;
     Stage<?> nextSettled, nextReady;
 
-    /** What few stages have. */
-    static final class More {
+    /** Fields that few stages need. */
+    static final class Extras {
         /** Relays of other requests that are settled as this stage is. */
-        Link.Row outside;
+        Link.Chain outsideLinks;
         Observer observers;
         /** How many relays and deadlines of it the machine has. */
         int unwritten;
-        /** What the machine has of it that isn't in the words: deadlines, in the order in which they were set, and the stage that it follows, or -1. */
+        /** What isn't in the words: deadlines, in the order in which they were set, and the stage that it follows, or -1. */
         List<Limit> limits;
-        int followed = -1;
+        int followedStage = -1;
     }
 
     /** A deadline: with a value's number, or as timed out. */
     static final class Limit {
         final long moment;
-        final boolean gives;
+        final boolean hasValue;
         final int number;
 
         Limit(long moment, boolean gives, int number) {
             this.moment = moment;
-            this.gives = gives;
+            this.hasValue = gives;
             this.number = number;
         }
     }
@@ -109,19 +109,19 @@ public class Stage<T> extends Waits<T> {
         this.executor = executor;
     }
 
-    /** A stage that somebody completes, for classes of one's own. */
+    /** A promise, for subclasses. */
     protected Stage(Request request) {
         Request at = request;
         int place = at.reserve();
         while (place < 0) {
-            at = at.followed();
+            at = at.nextOrFurther();
             place = at.reserve();
         }
         this.request = at;
         number = (short) place;
         form = Form.SOURCE;
         executor = null;
-        at.entered(this);
+        at.enterReserved(this);
     }
 
     @Override
@@ -130,16 +130,16 @@ public class Stage<T> extends Waits<T> {
     }
 
     /** Whether the machine has relays or deadlines of it, which aren't in the words. */
-    final boolean isUnwritten() {
-        More it = more;
+    final boolean hasUnwritten() {
+        Extras it = extras;
         return it != null && it.unwritten > 0;
     }
 
-    /** Settles it: nobody needs its function any more. */
+    /** Settles the stage, and drops its function. */
     @Override
-    final void tells(Object outcome) {
+    final void setOutcome(Object outcome) {
         function = null;
-        super.tells(outcome);
+        super.setOutcome(outcome);
     }
 
     /** The request that it belongs to. */
@@ -152,9 +152,9 @@ public class Stage<T> extends Waits<T> {
         return number;
     }
 
-    /** What histories call it. This stage itself is given back. */
+    /** Sets its name in histories, and gives the stage itself. */
     public Stage<T> named(String name) {
-        request.name(number, name);
+        request.setName(number, name);
         return this;
     }
 
@@ -167,219 +167,219 @@ public class Stage<T> extends Waits<T> {
 
     @Override
     public <U> Stage<U> thenApply(Function<? super T, ? extends U> fn) {
-        return behind(Form.APPLY, fn, null);
+        return attachBehind(Form.APPLY, fn, null);
     }
 
     @Override
     public <U> Stage<U> thenApplyAsync(Function<? super T, ? extends U> fn) {
-        return behind(Form.APPLY, fn, defaultExecutor());
+        return attachBehind(Form.APPLY, fn, defaultExecutor());
     }
 
     @Override
     public <U> Stage<U> thenApplyAsync(Function<? super T, ? extends U> fn, Executor executor) {
-        return behind(Form.APPLY, fn, Objects.requireNonNull(executor));
+        return attachBehind(Form.APPLY, fn, Objects.requireNonNull(executor));
     }
 
     @Override
     public Stage<Void> thenAccept(Consumer<? super T> action) {
-        return behind(Form.ACCEPT, action, null);
+        return attachBehind(Form.ACCEPT, action, null);
     }
 
     @Override
     public Stage<Void> thenAcceptAsync(Consumer<? super T> action) {
-        return behind(Form.ACCEPT, action, defaultExecutor());
+        return attachBehind(Form.ACCEPT, action, defaultExecutor());
     }
 
     @Override
     public Stage<Void> thenAcceptAsync(Consumer<? super T> action, Executor executor) {
-        return behind(Form.ACCEPT, action, Objects.requireNonNull(executor));
+        return attachBehind(Form.ACCEPT, action, Objects.requireNonNull(executor));
     }
 
     @Override
     public Stage<Void> thenRun(Runnable action) {
-        return behind(Form.THEN_RUN, action, null);
+        return attachBehind(Form.THEN_RUN, action, null);
     }
 
     @Override
     public Stage<Void> thenRunAsync(Runnable action) {
-        return behind(Form.THEN_RUN, action, defaultExecutor());
+        return attachBehind(Form.THEN_RUN, action, defaultExecutor());
     }
 
     @Override
     public Stage<Void> thenRunAsync(Runnable action, Executor executor) {
-        return behind(Form.THEN_RUN, action, Objects.requireNonNull(executor));
+        return attachBehind(Form.THEN_RUN, action, Objects.requireNonNull(executor));
     }
 
     @Override
     public <U> Stage<U> thenCompose(Function<? super T, ? extends CompletionStage<U>> fn) {
-        return behind(Form.COMPOSE, fn, null);
+        return attachBehind(Form.COMPOSE, fn, null);
     }
 
     @Override
     public <U> Stage<U> thenComposeAsync(Function<? super T, ? extends CompletionStage<U>> fn) {
-        return behind(Form.COMPOSE, fn, defaultExecutor());
+        return attachBehind(Form.COMPOSE, fn, defaultExecutor());
     }
 
     @Override
     public <U> Stage<U> thenComposeAsync(Function<? super T, ? extends CompletionStage<U>> fn, Executor executor) {
-        return behind(Form.COMPOSE, fn, Objects.requireNonNull(executor));
+        return attachBehind(Form.COMPOSE, fn, Objects.requireNonNull(executor));
     }
 
     @Override
     public <U> Stage<U> handle(BiFunction<? super T, Throwable, ? extends U> fn) {
-        return behind(Form.HANDLE, fn, null);
+        return attachBehind(Form.HANDLE, fn, null);
     }
 
     @Override
     public <U> Stage<U> handleAsync(BiFunction<? super T, Throwable, ? extends U> fn) {
-        return behind(Form.HANDLE, fn, defaultExecutor());
+        return attachBehind(Form.HANDLE, fn, defaultExecutor());
     }
 
     @Override
     public <U> Stage<U> handleAsync(BiFunction<? super T, Throwable, ? extends U> fn, Executor executor) {
-        return behind(Form.HANDLE, fn, Objects.requireNonNull(executor));
+        return attachBehind(Form.HANDLE, fn, Objects.requireNonNull(executor));
     }
 
     @Override
     public Stage<T> whenComplete(BiConsumer<? super T, ? super Throwable> action) {
-        return behind(Form.WHEN_COMPLETE, action, null);
+        return attachBehind(Form.WHEN_COMPLETE, action, null);
     }
 
     @Override
     public Stage<T> whenCompleteAsync(BiConsumer<? super T, ? super Throwable> action) {
-        return behind(Form.WHEN_COMPLETE, action, defaultExecutor());
+        return attachBehind(Form.WHEN_COMPLETE, action, defaultExecutor());
     }
 
     @Override
     public Stage<T> whenCompleteAsync(BiConsumer<? super T, ? super Throwable> action, Executor executor) {
-        return behind(Form.WHEN_COMPLETE, action, Objects.requireNonNull(executor));
+        return attachBehind(Form.WHEN_COMPLETE, action, Objects.requireNonNull(executor));
     }
 
     @Override
     public Stage<T> exceptionally(Function<Throwable, ? extends T> fn) {
-        return behind(Form.EXCEPTIONALLY, fn, null);
+        return attachBehind(Form.EXCEPTIONALLY, fn, null);
     }
 
     @Override
     public Stage<T> exceptionallyAsync(Function<Throwable, ? extends T> fn) {
-        return behind(Form.EXCEPTIONALLY, fn, defaultExecutor());
+        return attachBehind(Form.EXCEPTIONALLY, fn, defaultExecutor());
     }
 
     @Override
     public Stage<T> exceptionallyAsync(Function<Throwable, ? extends T> fn, Executor executor) {
-        return behind(Form.EXCEPTIONALLY, fn, Objects.requireNonNull(executor));
+        return attachBehind(Form.EXCEPTIONALLY, fn, Objects.requireNonNull(executor));
     }
 
     @Override
     public Stage<T> exceptionallyCompose(Function<Throwable, ? extends CompletionStage<T>> fn) {
-        return behind(Form.EXCEPTIONALLY_COMPOSE, fn, null);
+        return attachBehind(Form.EXCEPTIONALLY_COMPOSE, fn, null);
     }
 
     @Override
     public Stage<T> exceptionallyComposeAsync(Function<Throwable, ? extends CompletionStage<T>> fn) {
-        return behind(Form.EXCEPTIONALLY_COMPOSE, fn, defaultExecutor());
+        return attachBehind(Form.EXCEPTIONALLY_COMPOSE, fn, defaultExecutor());
     }
 
     @Override
     public Stage<T> exceptionallyComposeAsync(Function<Throwable, ? extends CompletionStage<T>> fn, Executor executor) {
-        return behind(Form.EXCEPTIONALLY_COMPOSE, fn, Objects.requireNonNull(executor));
+        return attachBehind(Form.EXCEPTIONALLY_COMPOSE, fn, Objects.requireNonNull(executor));
     }
 
     @Override
     public <U, V> Stage<V> thenCombine(CompletionStage<? extends U> other, BiFunction<? super T, ? super U, ? extends V> fn) {
-        return behind(Form.COMBINE, other, fn, null);
+        return attachBehind(Form.COMBINE, other, fn, null);
     }
 
     @Override
     public <U, V> Stage<V> thenCombineAsync(CompletionStage<? extends U> other, BiFunction<? super T, ? super U, ? extends V> fn) {
-        return behind(Form.COMBINE, other, fn, defaultExecutor());
+        return attachBehind(Form.COMBINE, other, fn, defaultExecutor());
     }
 
     @Override
     public <U, V> Stage<V> thenCombineAsync(CompletionStage<? extends U> other, BiFunction<? super T, ? super U, ? extends V> fn, Executor executor) {
-        return behind(Form.COMBINE, other, fn, Objects.requireNonNull(executor));
+        return attachBehind(Form.COMBINE, other, fn, Objects.requireNonNull(executor));
     }
 
     @Override
     public <U> Stage<Void> thenAcceptBoth(CompletionStage<? extends U> other, BiConsumer<? super T, ? super U> action) {
-        return behind(Form.ACCEPT_BOTH, other, action, null);
+        return attachBehind(Form.ACCEPT_BOTH, other, action, null);
     }
 
     @Override
     public <U> Stage<Void> thenAcceptBothAsync(CompletionStage<? extends U> other, BiConsumer<? super T, ? super U> action) {
-        return behind(Form.ACCEPT_BOTH, other, action, defaultExecutor());
+        return attachBehind(Form.ACCEPT_BOTH, other, action, defaultExecutor());
     }
 
     @Override
     public <U> Stage<Void> thenAcceptBothAsync(CompletionStage<? extends U> other, BiConsumer<? super T, ? super U> action, Executor executor) {
-        return behind(Form.ACCEPT_BOTH, other, action, Objects.requireNonNull(executor));
+        return attachBehind(Form.ACCEPT_BOTH, other, action, Objects.requireNonNull(executor));
     }
 
     @Override
     public Stage<Void> runAfterBoth(CompletionStage<?> other, Runnable action) {
-        return behind(Form.RUN_BOTH, other, action, null);
+        return attachBehind(Form.RUN_BOTH, other, action, null);
     }
 
     @Override
     public Stage<Void> runAfterBothAsync(CompletionStage<?> other, Runnable action) {
-        return behind(Form.RUN_BOTH, other, action, defaultExecutor());
+        return attachBehind(Form.RUN_BOTH, other, action, defaultExecutor());
     }
 
     @Override
     public Stage<Void> runAfterBothAsync(CompletionStage<?> other, Runnable action, Executor executor) {
-        return behind(Form.RUN_BOTH, other, action, Objects.requireNonNull(executor));
+        return attachBehind(Form.RUN_BOTH, other, action, Objects.requireNonNull(executor));
     }
 
     @Override
     public <U> Stage<U> applyToEither(CompletionStage<? extends T> other, Function<? super T, U> fn) {
-        return behind(Form.APPLY_EITHER, other, fn, null);
+        return attachBehind(Form.APPLY_EITHER, other, fn, null);
     }
 
     @Override
     public <U> Stage<U> applyToEitherAsync(CompletionStage<? extends T> other, Function<? super T, U> fn) {
-        return behind(Form.APPLY_EITHER, other, fn, defaultExecutor());
+        return attachBehind(Form.APPLY_EITHER, other, fn, defaultExecutor());
     }
 
     @Override
     public <U> Stage<U> applyToEitherAsync(CompletionStage<? extends T> other, Function<? super T, U> fn, Executor executor) {
-        return behind(Form.APPLY_EITHER, other, fn, Objects.requireNonNull(executor));
+        return attachBehind(Form.APPLY_EITHER, other, fn, Objects.requireNonNull(executor));
     }
 
     @Override
     public Stage<Void> acceptEither(CompletionStage<? extends T> other, Consumer<? super T> action) {
-        return behind(Form.ACCEPT_EITHER, other, action, null);
+        return attachBehind(Form.ACCEPT_EITHER, other, action, null);
     }
 
     @Override
     public Stage<Void> acceptEitherAsync(CompletionStage<? extends T> other, Consumer<? super T> action) {
-        return behind(Form.ACCEPT_EITHER, other, action, defaultExecutor());
+        return attachBehind(Form.ACCEPT_EITHER, other, action, defaultExecutor());
     }
 
     @Override
     public Stage<Void> acceptEitherAsync(CompletionStage<? extends T> other, Consumer<? super T> action, Executor executor) {
-        return behind(Form.ACCEPT_EITHER, other, action, Objects.requireNonNull(executor));
+        return attachBehind(Form.ACCEPT_EITHER, other, action, Objects.requireNonNull(executor));
     }
 
     @Override
     public Stage<Void> runAfterEither(CompletionStage<?> other, Runnable action) {
-        return behind(Form.RUN_EITHER, other, action, null);
+        return attachBehind(Form.RUN_EITHER, other, action, null);
     }
 
     @Override
     public Stage<Void> runAfterEitherAsync(CompletionStage<?> other, Runnable action) {
-        return behind(Form.RUN_EITHER, other, action, defaultExecutor());
+        return attachBehind(Form.RUN_EITHER, other, action, defaultExecutor());
     }
 
     @Override
     public Stage<Void> runAfterEitherAsync(CompletionStage<?> other, Runnable action, Executor executor) {
-        return behind(Form.RUN_EITHER, other, action, Objects.requireNonNull(executor));
+        return attachBehind(Form.RUN_EITHER, other, action, Objects.requireNonNull(executor));
     }
 
-    private <U> Stage<U> behind(Form form, Object function, Executor executor) {
+    private <U> Stage<U> attachBehind(Form form, Object function, Executor executor) {
         return request.attach(form, this, null, Objects.requireNonNull(function), executor, isMinimal());
     }
 
-    private <U> Stage<U> behind(Form form, CompletionStage<?> other, Object function, Executor executor) {
+    private <U> Stage<U> attachBehind(Form form, CompletionStage<?> other, Object function, Executor executor) {
         Objects.requireNonNull(function);
         return request.attach(form, this, Objects.requireNonNull(other), function, executor, isMinimal());
     }
@@ -446,12 +446,12 @@ public class Stage<T> extends Waits<T> {
     @Override
     @SuppressWarnings("unchecked")
     public Stage<T> completeAsync(Supplier<? extends T> supplier, Executor executor) {
-        Object function = request.service.carried(Objects.requireNonNull(supplier));
+        Object function = request.service.withContext(Objects.requireNonNull(supplier));
         executor.execute((Runnable & AsynchronousCompletionTask) () -> {
-            if (told == null) {
+            if (outcome == null) {
                 T value;
                 try {
-                    value = (T) Carried.call(Form.SUPPLY, function, null, null);
+                    value = (T) ContextFunction.call(Form.SUPPLY, function, null, null);
                 } catch (Throwable error) {
                     completeExceptionally(error instanceof CompletionException ? error : new CompletionException(error));
                     return;
@@ -464,13 +464,13 @@ public class Stage<T> extends Waits<T> {
 
     @Override
     public Stage<T> orTimeout(long timeout, TimeUnit unit) {
-        request.limit(this, timeout, Objects.requireNonNull(unit), false, null);
+        request.setLimit(this, timeout, Objects.requireNonNull(unit), false, null);
         return this;
     }
 
     @Override
     public Stage<T> completeOnTimeout(T value, long timeout, TimeUnit unit) {
-        request.limit(this, timeout, Objects.requireNonNull(unit), true, value);
+        request.setLimit(this, timeout, Objects.requireNonNull(unit), true, value);
         return this;
     }
 
@@ -491,94 +491,95 @@ public class Stage<T> extends Waits<T> {
 
     @Override
     public boolean isDone() {
-        return seen() != null;
+        return readOutcome() != null;
     }
 
     @Override
     public boolean isCancelled() {
-        Object told = seen();
+        Object told = readOutcome();
         return told instanceof Fault && ((Fault) told).isCancellation();
     }
 
     @Override
     public boolean isCompletedExceptionally() {
-        return seen() instanceof Fault;
+        return readOutcome() instanceof Fault;
     }
 
     @Override
     public T join() {
-        Object told = seen(true);
-        return told != null || request.watch != null ? joined(awaited(told, -1)) : super.join();
+        Object told = readOutcome(true);
+        return told != null || request.watch != null ? valueForJoin(awaitOutcome(told, -1)) : super.join();
     }
 
     @Override
     public T getNow(T valueIfAbsent) {
-        Object told = seen();
-        return told != null ? joined(told) : valueIfAbsent;
+        Object told = readOutcome();
+        return told != null ? valueForJoin(told) : valueIfAbsent;
     }
 
     @Override
     public T get() throws InterruptedException, ExecutionException {
-        Object told = seen(true);
-        return told != null || request.watch != null ? gotten(awaited(told, -1)) : super.get();
+        Object told = readOutcome(true);
+        return told != null || request.watch != null ? valueForGet(awaitOutcome(told, -1)) : super.get();
     }
 
     @Override
     public T get(long timeout, TimeUnit unit) throws InterruptedException, ExecutionException, TimeoutException {
         Objects.requireNonNull(unit);
-        Object told = seen(timeout > 0);
+        Object told = readOutcome(timeout > 0);
         if (told == null && request.watch != null) {
-            told = timeout > 0 ? awaited(null, unit.toNanos(timeout)) : null;
+            told = timeout > 0 ? awaitOutcome(null, unit.toNanos(timeout)) : null;
             if (told == null) {
                 throw new TimeoutException();
             }
         }
-        return told != null ? gotten(told) : super.get(timeout, unit);
+        return told != null ? valueForGet(told) : super.get(timeout, unit);
     }
 
-    /** What it is settled with, for which a watch waits, if it wasn't known before. */
-    private Object awaited(Object told, long nanos) {
+    /** The outcome, for which a watch waits, unless it is given. */
+    private Object awaitOutcome(Object told, long nanos) {
         if (told == null) {
-            request.watch.await(this, nanos);
+            request.watch.awaitStage(this, nanos);
         }
-        return told != null ? told : seen(true);
+        return told != null ? told : readOutcome(true);
     }
 
     /** The value of a stage that has one, as of Java 19. */
     public T resultNow() {
-        Object told = seen();
+        Object told = readOutcome();
         if (told == null || told instanceof Fault) {
             throw new IllegalStateException(told == null ? "the stage isn't settled" : "the stage has no value");
         }
-        return joined(told);
+        return valueForJoin(told);
     }
 
     /** The exception of a stage that failed, as of Java 19: that which was thrown. */
     public Throwable exceptionNow() {
         if (!isCompletedExceptionally() || isCancelled()) {
-            throw new IllegalStateException(told == null ? "the stage isn't settled" : "the stage hasn't failed");
+            throw new IllegalStateException(outcome == null ? "the stage isn't settled" : "the stage hasn't failed");
         }
-        return cause(((Fault) told).error());
+        return cause(((Fault) outcome).error());
     }
 
     @Override
     public int getNumberOfDependents() {
-        return told != null ? 0 : dependents;
+        return outcome != null ? 0 : dependents;
     }
 
     /** Its request, number and name, and what it ended as, or what it waits for. */
     @Override
     public String toString() {
-        Object told = this.told;
+        Object told = this.outcome;
         String state = told == null ? dependents == 0 ? "Not completed" : "Not completed, " + dependents + " dependents"
-                : told instanceof Fault ? "Completed exceptionally: " + Text.of(request.describe, ((Fault) told).error()) : "Completed normally";
+                : told instanceof Fault ? "Completed exceptionally: " + Text.describe(request.describe, ((Fault) told).error())
+                : "Completed normally";
         String waits = told == null ? request.waitsFor(this) : "";
-        return Text.escaped(getClass().getName() + "@" + Integer.toHexString(hashCode()) + "[" + request.name() + ": " + request.called(this)
+        return Text.escape(getClass().getName() + "@" + Integer.toHexString(hashCode()) + "[" + request.name() + ": " + request.numberedName(this)
                 + ": " + state + waits + "]");
     }
 
     @SuppressWarnings("unchecked")
-    private T joined(Object told) {
+    private T valueForJoin(Object told) {
         if (told == NIL) {
             return null;
         }
@@ -593,7 +594,7 @@ public class Stage<T> extends Waits<T> {
     }
 
     @SuppressWarnings("unchecked")
-    private T gotten(Object told) throws ExecutionException {
+    private T valueForGet(Object told) throws ExecutionException {
         if (told == NIL) {
             return null;
         }
@@ -612,32 +613,32 @@ public class Stage<T> extends Waits<T> {
         return cause != null ? cause : error;
     }
 
-    // Telling.
+    // Reading and recording.
 
     @Override
-    final Object seen() {
-        return seen(false);
+    final Object readOutcome() {
+        return readOutcome(false);
     }
 
-    /** The same, of who goes on at once or, where it isn't settled, waits. */
-    final Object seen(boolean orWaits) {
-        Object seen = super.seen();
+    /** The same, for a reader that goes on at once, or waits if the stage isn't settled. */
+    final Object readOutcome(boolean orWaits) {
+        Object seen = super.readOutcome();
         if (request.watch != null) {
-            request.watch.read(request, number, orWaits);
+            request.watch.stageRead(request, number, orWaits);
         }
         return seen;
     }
 
-    /** Tells all who hang on it, and the recording. */
+    /** Wakes the waiters, and records the stage. */
     @Override
-    final void show() {
+    final void wakeWaiters() {
         try {
-            super.show();
+            super.wakeWaiters();
         } finally {
-            Recorder recorder = Recorder.now();
+            Recorder recorder = Recorder.current();
             if (recorder != null && recorder.takesStages()) {
-                recorder.stage(request.name(), number, form.text, request.called(this),
-                        Text.of(request.describe, told == NIL ? null : told instanceof Fault ? ((Fault) told).error() : told));
+                recorder.recordStage(request.name(), number, form.text, request.numberedName(this),
+                        Text.describe(request.describe, outcome == NIL ? null : outcome instanceof Fault ? ((Fault) outcome).error() : outcome));
             }
         }
     }

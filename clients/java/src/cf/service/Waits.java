@@ -10,24 +10,25 @@ import java.util.concurrent.atomic.AtomicReferenceFieldUpdater;
 import java.util.function.BooleanSupplier;
 
 /**
- * How a stage is waited for and who is woken when it ends, and when a request's time passes. All that waits or wakes stands in this file. So a
- * test can lead threads through all orders in which they take a request's lock, or look at a stage without it: a {@link Leader} is asked first.
+ * The waiting for a stage, the waking when it ends, and the passing of a request's time. All that waits or wakes stands in this file. So a test
+ * can lead threads through all orders in which they take a request's lock, or look at a stage without it: a {@link Leader} is asked first.
  *
- * <p>What a stage ends with is written under the lock ({@link #tells}), and told once that is free ({@link #show}): the part that a stage inherits
- * of CompletableFuture wakes who waits, and those who observe the stage act. Whoever comes in between sees the end and needn't wait.
+ * <p>A stage's outcome is written under the lock ({@link #setOutcome}). Once the lock is free, {@link #wakeWaiters} completes the part that is
+ * inherited of CompletableFuture, which wakes the waiters, and runs the observers. A thread that comes in between sees the outcome and needn't wait.
  */
 abstract class Waits<T> extends CompletableFuture<T> {
-    /** What null is told as. */
+    /** The outcome that stands for null. */
     static final Object NIL = new Object();
 
     @SuppressWarnings("rawtypes")
-    private static final AtomicReferenceFieldUpdater<Waits, Object> TOLD = AtomicReferenceFieldUpdater.newUpdater(Waits.class, Object.class, "told");
+    private static final AtomicReferenceFieldUpdater<Waits, Object> OUTCOME =
+            AtomicReferenceFieldUpdater.newUpdater(Waits.class, Object.class, "outcome");
 
-    /** What it is settled with: a Fault, NIL or a value; null before. It is written under the request's lock, by {@link #tells}. */
-    volatile Object told;
-    volatile Stage.More more;
+    /** A Fault, NIL or a value once it is settled; null before. {@link #setOutcome} writes it under the request's lock. */
+    volatile Object outcome;
+    volatile Stage.Extras extras;
 
-    /** Somebody who acts at its end. */
+    /** An action at its end. */
     static final class Observer {
         final Runnable act;
         final Observer next;
@@ -41,34 +42,34 @@ abstract class Waits<T> extends CompletableFuture<T> {
     /** The lock of its request. */
     abstract Object lock();
 
-    final Stage.More more() {
-        Stage.More it = more;
-        return it != null ? it : (more = new Stage.More());
+    final Stage.Extras extras() {
+        Stage.Extras it = extras;
+        return it != null ? it : (extras = new Stage.Extras());
     }
 
     /** Settles it. The write needs no fence of its own, since the lock that is held is one. */
-    void tells(Object outcome) {
-        TOLD.lazySet(this, outcome);
+    void setOutcome(Object outcome) {
+        OUTCOME.lazySet(this, outcome);
     }
 
     /**
-     * What it is settled with, or null. Whoever has seen that it is settled finds the inherited part told, too, which {@code allOf} and Java
-     * 19's {@code state} read. Where something hangs on that, the thread that settled the stage is about to tell it: this one may be
-     * anybody's that only asks, and mustn't call functions.
+     * The outcome, or null. A caller that sees an outcome finds the inherited part complete, too, which {@code allOf} and Java 19's {@code state}
+     * read. Where that part has dependents, the thread that settled the stage is about to complete it: this one only asks, and mustn't call
+     * functions.
      */
-    Object seen() {
-        turn();
-        Object told = this.told;
+    Object readOutcome() {
+        awaitTurn();
+        Object told = this.outcome;
         if (told != null && !super.isDone() && super.getNumberOfDependents() == 0) {
-            inherit();
+            settleInherited();
         }
         return told;
     }
 
-    /** Tells the inherited part what the machine has decided, by which it wakes who waits. */
+    /** Completes the inherited part with the outcome, which wakes its waiters. */
     @SuppressWarnings("unchecked")
-    final void inherit() {
-        Object told = this.told;
+    final void settleInherited() {
+        Object told = this.outcome;
         if (told instanceof Fault) {
             super.completeExceptionally(((Fault) told).error());
         } else {
@@ -76,16 +77,16 @@ abstract class Waits<T> extends CompletableFuture<T> {
         }
     }
 
-    /** Whether Java's own classes have attached something, which nobody has told yet. */
-    final boolean hasJavas() {
+    /** Whether Java's own classes have attached something that still waits. */
+    final boolean hasJavaDependents() {
         return !super.isDone() && super.getNumberOfDependents() > 0;
     }
 
-    /** Acts once the stage is settled: in the thread that settles it, or in this one if it is settled. */
+    /** Runs an action once the stage is settled: in the thread that settles it, or in this one if it is settled already. */
     final void observe(Runnable act) {
         synchronized (lock()) {
-            if (told == null) {
-                Stage.More more = more();
+            if (outcome == null) {
+                Stage.Extras more = extras();
                 more.observers = new Observer(act, more.observers);
                 return;
             }
@@ -93,17 +94,17 @@ abstract class Waits<T> extends CompletableFuture<T> {
         act.run();
     }
 
-    /** Tells all who wait for its end. What one of them throws keeps nothing from the others, and is thrown in the end. */
-    void show() {
+    /** Wakes the waiters and runs the observers. If one throws, the others come all the same, and the first exception is thrown at the end. */
+    void wakeWaiters() {
         Throwable first = null;
-        turn();
+        awaitTurn();
         try {
-            inherit();
+            settleInherited();
         } catch (Throwable thrown) {
             first = thrown;
         }
-        Stage.More more = this.more;
-        // Nobody adds to them since told is there.
+        Stage.Extras more = this.extras;
+        // None is added once there is an outcome.
         for (Observer each; more != null && (each = more.observers) != null;) {
             more.observers = each.next;
             try {
@@ -117,35 +118,34 @@ abstract class Waits<T> extends CompletableFuture<T> {
         }
     }
 
-    // Of a stage that wasn't settled when it was looked at: the inherited part waits.
+    // The inherited part waits for a stage that wasn't settled when it was read.
 
     @Override
     public T join() {
-        rest(false);
+        waitAsLed(false);
         return super.join();
     }
 
     @Override
     public T get() throws InterruptedException, ExecutionException {
-        rest(true);
+        waitAsLed(true);
         return super.get();
     }
 
     @Override
     public T get(long timeout, TimeUnit unit) throws InterruptedException, ExecutionException, TimeoutException {
-        turn();
+        awaitTurn();
         return super.get(timeout, unit);
     }
 
     /**
-     * When time passes for a request: it has one alarm, at its first deadline. The request's lock guards it, but isn't held while an alarm is
-     * set or stopped.
+     * A request's one alarm, at its first deadline. The request's lock guards it, but isn't held while an alarm is set or stopped.
      */
     static final class Alarm {
         static final long NEVER = Long.MAX_VALUE;
 
         private final Request request;
-        /** By when time is to pass; and by when the task has it pass, where there is one. How far it has passed. */
+        /** The moment that is wanted; that of the task, where there is one; and up to which moment time has passed. */
         private long wanted = NEVER, comes = NEVER, passed;
         private Future<?> task;
 
@@ -153,21 +153,21 @@ abstract class Waits<T> extends CompletableFuture<T> {
             this.request = request;
         }
 
-        /** Whether nothing comes before this moment, so that the caller has to {@link #set} it once the lock is free. The lock is held. */
-        boolean isFirst(long moment) {
+        /** Whether this moment is now the first one, so that the caller has to {@link #set} it once the lock is free. The lock is held. */
+        boolean becomesFirst(long moment) {
             boolean is = moment < wanted;
             wanted = is ? moment : wanted;
             return is;
         }
 
         /**
-         * Has time pass at a moment, unless somebody else wants it earlier by now, or nothing is due any more. Where no thread can be started,
-         * it passes by the alarm that there was, or where the next one who asks has set his.
+         * Sets the alarm to a moment, unless another thread wants it earlier by now, or nothing is due any more. Where no thread can be started, the
+         * alarm that there was stays.
          */
         void set(long moment) {
             Future<?> made = null, over;
             try {
-                made = Clock.at(moment, request::passes);
+                made = Clock.runAt(moment, request::passTime);
             } finally {
                 synchronized (request.lock()) {
                     over = made;
@@ -184,20 +184,20 @@ abstract class Waits<T> extends CompletableFuture<T> {
         }
 
         /**
-         * The moment that has come, or NEVER; then nothing is wanted any more. Who was slow to set a limit may want one by which time has passed
-         * already: that comes at once. The lock is held.
+         * The moment that has come, which isn't wanted any more then, or NEVER. A limit that was set slowly may be past already: it comes at once.
+         * The lock is held.
          */
-        long passes() {
+        long takeDue() {
             if (wanted > Clock.now()) {
                 return NEVER;
             }
             passed = Math.max(passed, wanted);
-            forget();
+            clear();
             return passed;
         }
 
-        /** Nothing is due any more. Whoever calls stops the task that is given back, once the lock is free. The lock is held. */
-        Future<?> forget() {
+        /** Clears the alarm, and gives the task, which the caller stops once the lock is free. The lock is held. */
+        Future<?> clear() {
             Future<?> over = task;
             task = null;
             wanted = comes = NEVER;
@@ -213,43 +213,43 @@ abstract class Waits<T> extends CompletableFuture<T> {
 
     // A search of the above, in a test.
 
-    /** Leads threads, and stands for the clock: in a process that was started with {@code -Dcf.search=true}. */
+    /** Leads threads, and stands for the clock, in a process that was started with {@code -Dcf.search=true}. */
     interface Leader {
-        /** Comes back once this thread may go on. */
-        void turn();
+        /** Waits until this thread may go on. */
+        void awaitTurn();
 
-        /** Comes back once this holds, or this thread is interrupted, if it heeds that. */
-        void rest(BooleanSupplier until, boolean orInterrupted);
+        /** Waits until this holds, or this thread is interrupted, if it heeds that. */
+        void waitUntil(BooleanSupplier until, boolean orInterrupted);
 
         long now();
 
-        Future<?> at(long moment, Runnable act);
+        Future<?> runAt(long moment, Runnable act);
     }
 
     private static final boolean SEARCHED = Boolean.getBoolean("cf.search");
     private static volatile Leader leader;
 
-    static void ledBy(Leader one) {
+    static void setLeader(Leader one) {
         leader = one;
     }
 
-    /** Who leads; null outside such tests. */
+    /** The leader; null outside such tests. */
     static Leader leader() {
         return SEARCHED ? leader : null;
     }
 
     /** Lets others go on first. */
-    static void turn() {
+    static void awaitTurn() {
         Leader by = leader();
         if (by != null) {
-            by.turn();
+            by.awaitTurn();
         }
     }
 
-    private void rest(boolean orInterrupted) {
+    private void waitAsLed(boolean orInterrupted) {
         Leader by = leader();
         if (by != null) {
-            by.rest(super::isDone, orInterrupted);
+            by.waitUntil(super::isDone, orInterrupted);
         }
     }
 }

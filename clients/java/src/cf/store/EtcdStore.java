@@ -37,18 +37,18 @@ public final class EtcdStore implements Store {
     private static final int DIGITS = 6;
 
     private final String[] members;
-    private final ConcurrentLinkedDeque<Link> idle = new ConcurrentLinkedDeque<>();
+    private final ConcurrentLinkedDeque<MemberConnection> idle = new ConcurrentLinkedDeque<>();
     /** The member that is asked is that of this number, counted round. It is raised where one doesn't answer. */
     private volatile int turn;
     private volatile boolean isClosed;
     private Http watch;
 
     /** A connection, and the turn in which it was made. */
-    private static final class Link {
+    private static final class MemberConnection {
         final Http http;
         final int turn;
 
-        Link(Http http, int turn) {
+        MemberConnection(Http http, int turn) {
             this.http = http;
             this.turn = turn;
         }
@@ -72,8 +72,7 @@ public final class EtcdStore implements Store {
             }
         }
         EtcdStore store = new EtcdStore(members);
-        for (int left = members.length; left > 0;) {
-            left--;
+        for (int left = members.length - 1;; left--) {
             try {
                 store.post("/v3/kv/range", range(bytes("cf/r/"), null)); // (a member answers if it has a majority)
                 return store;
@@ -83,12 +82,11 @@ public final class EtcdStore implements Store {
                 }
             }
         }
-        return store;
     }
 
     // Calls.
 
-    private Http connected(int to) throws IOException {
+    private Http connect(int to) throws IOException {
         String member = members[Math.floorMod(to, members.length)];
         int colon = member.lastIndexOf(':');
         return new Http(member.substring(0, colon), Integer.parseInt(member.substring(colon + 1)), SILENCE);
@@ -97,7 +95,7 @@ public final class EtcdStore implements Store {
     /** What a member answers. Where it doesn't, the next call asks the next one. */
     private Map<?, ?> post(String path, Map<String, ?> body) {
         int now = turn;
-        Link link = idle.pollFirst();
+        MemberConnection link = idle.pollFirst();
         while (link != null && link.turn != now) { // (that of a member that didn't answer)
             link.http.close();
             link = idle.pollFirst();
@@ -105,7 +103,7 @@ public final class EtcdStore implements Store {
         Http http = link == null ? null : link.http;
         String why;
         try {
-            http = http == null ? connected(now) : http;
+            http = http == null ? connect(now) : http;
             int status = http.post(path, Json.write(body));
             byte[] told = http.body();
             String text = new String(told, 0, Math.min(told.length, 200), StandardCharsets.UTF_8);
@@ -125,16 +123,16 @@ public final class EtcdStore implements Store {
         if (http != null) {
             http.close();
         }
-        next(now);
+        turnFrom(now);
         throw new StoreException.Unknown("etcd: " + why, null);
     }
 
-    private synchronized void next(int from) {
+    private synchronized void turnFrom(int from) {
         turn += turn == from ? 1 : 0;
     }
 
     private void giveBack(Http http, int made) {
-        idle.addFirst(new Link(http, made));
+        idle.addFirst(new MemberConnection(http, made));
         if (isClosed) {
             close();
         }
@@ -144,7 +142,7 @@ public final class EtcdStore implements Store {
         return post("/v3/kv/txn", map("compare", compares, "success", success, "failure", failure));
     }
 
-    private static boolean succeeded(Map<?, ?> told) {
+    private static boolean hasSucceeded(Map<?, ?> told) {
         return Boolean.TRUE.equals(told.get("succeeded"));
     }
 
@@ -155,10 +153,10 @@ public final class EtcdStore implements Store {
         final long created, version;
 
         Kv(Map<?, ?> told) {
-            key = new String(unb64(told.get("key")), StandardCharsets.UTF_8);
-            value = told.get("value") == null ? new byte[0] : unb64(told.get("value"));
-            created = number(told.get("create_revision"));
-            version = number(told.get("version"));
+            key = new String(decode(told.get("key")), StandardCharsets.UTF_8);
+            value = told.get("value") == null ? new byte[0] : decode(told.get("value"));
+            created = asLong(told.get("create_revision"));
+            version = asLong(told.get("version"));
         }
 
         String text() {
@@ -167,7 +165,7 @@ public final class EtcdStore implements Store {
 
         /** The name of the request behind {@code cf/} and a letter. */
         String name() {
-            return unquoted(key.substring(5));
+            return unquote(key.substring(5));
         }
     }
 
@@ -180,7 +178,7 @@ public final class EtcdStore implements Store {
         return found;
     }
 
-    private static List<Kv> answered(Map<?, ?> told, int at) {
+    private static List<Kv> rangeAnswer(Map<?, ?> told, int at) {
         return kvs(((Map<?, ?>) ((List<?>) told.get("responses")).get(at)).get("response_range"));
     }
 
@@ -191,20 +189,20 @@ public final class EtcdStore implements Store {
     }
 
     /** Reads a range some keys at a time. */
-    private Found keys(Map<String, Object> range) {
+    private Found queryKeys(Map<String, Object> range) {
         Found found = new Found();
         Map<String, Object> asked = new LinkedHashMap<>(range);
         asked.put("limit", MOST_KEYS);
         while (true) {
             Map<?, ?> told = post("/v3/kv/range", asked);
             found.kvs.addAll(kvs(told));
-            found.revision = found.revision > 0 ? found.revision : number(((Map<?, ?>) told.get("header")).get("revision"));
+            found.revision = found.revision > 0 ? found.revision : asLong(((Map<?, ?>) told.get("header")).get("revision"));
             if (!Boolean.TRUE.equals(told.get("more"))) {
                 return found;
             }
             asked.put("revision", found.revision); // (of a revision any member that knows it has the same answer)
             asked.put("serializable", true);
-            asked.put("key", b64(bytes(found.kvs.get(found.kvs.size() - 1).key + "\0")));
+            asked.put("key", encode(bytes(found.kvs.get(found.kvs.size() - 1).key + "\0")));
         }
     }
 
@@ -215,7 +213,7 @@ public final class EtcdStore implements Store {
         byte[] key = key('r', name), said = Json.write(map("plan", plan, "opened", now()));
         Opened found = null;
         while (found == null) { // (it may be dropped meanwhile)
-            txn(list(absent(key)), list(put(key, said), put(key('o', name), bytes("0"))), list());
+            txn(list(ifAbsent(key)), list(put(key, said), put(key('o', name), bytes("0"))), list());
             found = find(name);
         }
         return found;
@@ -223,7 +221,7 @@ public final class EtcdStore implements Store {
 
     @Override
     public Opened find(String name) {
-        for (Kv it : keys(range(key('r', name), null)).kvs) {
+        for (Kv it : queryKeys(range(key('r', name), null)).kvs) {
             try {
                 return new Opened(name, (String) ((Map<?, ?>) Json.read(it.value)).get("plan"), it.created);
             } catch (IllegalArgumentException | ClassCastException fault) {
@@ -234,8 +232,8 @@ public final class EtcdStore implements Store {
     }
 
     /** Compares whether a request is the one that was opened. */
-    private static Map<String, Object> isThere(String name, long number) {
-        return map("key", b64(key('r', name)), "target", "CREATE", "create_revision", String.valueOf(number));
+    private static Map<String, Object> ifPresent(String name, long number) {
+        return map("key", encode(key('r', name)), "target", "CREATE", "create_revision", String.valueOf(number));
     }
 
     /** Whether a request is there no more, by a majority: a member that lags behind may not know it yet. */
@@ -253,7 +251,7 @@ public final class EtcdStore implements Store {
             open.put("min_mod_revision", String.valueOf(since + 1));
             open.put("serializable", true);
         }
-        Found found = keys(open);
+        Found found = queryKeys(open);
         Map<String, Integer> ends = new HashMap<>();
         found.kvs.forEach(it -> ends.put(it.name(), Integer.valueOf(it.text())));
         return new News(ends, Math.max(since, found.revision)); // (a member that lags behind has a lower one)
@@ -262,10 +260,10 @@ public final class EtcdStore implements Store {
     @Override
     public boolean end(String name, long number, int at) {
         byte[] key = key('o', name), timers = join(key('t', name), "/");
-        Map<?, ?> told = txn(list(isThere(name, number), map("key", b64(key), "target", "VALUE", "value", b64(bytes(String.valueOf(at))))),
-                list(delete(key, null), delete(timers, after(timers)), delete(key('g', name), null),
+        Map<?, ?> told = txn(list(ifPresent(name, number), map("key", encode(key), "target", "VALUE", "value", encode(bytes(String.valueOf(at))))),
+                list(delete(key, null), delete(timers, endOfRange(timers)), delete(key('g', name), null),
                         put(key('c', name), Json.write(Arrays.asList(now(), at)))), list());
-        boolean closes = succeeded(told);
+        boolean closes = hasSucceeded(told);
         if (!closes && isDropped(name, number)) {
             throw new StoreException.Gone(name);
         }
@@ -279,19 +277,19 @@ public final class EtcdStore implements Store {
         if (put.entries.size() > MOST_ENTRIES) {
             throw new StoreException("etcd takes " + MOST_ENTRIES + " words in a put, not " + put.entries.size());
         }
-        byte[] row = row('w', put.request, put.number), payloads = row('p', put.request, put.number), key = place(row, put.at);
+        byte[] row = rowKey('w', put.request, put.number), payloads = rowKey('p', put.request, put.number), key = placeKey(row, put.at);
         List<Object> puts = new ArrayList<>();
         for (int k = 0; k < put.entries.size(); k++) {
             Entry entry = put.entries.get(k);
-            puts.add(put(place(row, put.at + k), bytes(Long.toHexString(entry.word) + " " + Long.toHexString(entry.token))));
+            puts.add(put(placeKey(row, put.at + k), bytes(Long.toHexString(entry.word) + " " + Long.toHexString(entry.token))));
         }
-        put.payloads.forEach((place, payload) -> puts.add(put(place(payloads, place), payload)));
+        put.payloads.forEach((place, payload) -> puts.add(put(placeKey(payloads, place), payload)));
         puts.add(put(key('o', put.request), bytes(String.valueOf(put.at + put.entries.size()))));
-        Map<?, ?> told = txn(list(absent(key), isThere(put.request, put.number)), puts, list(map("request_range", range(key, after(row)))));
-        if (succeeded(told)) {
+        Map<?, ?> told = txn(list(ifAbsent(key), ifPresent(put.request, put.number)), puts, list(map("request_range", range(key, endOfRange(row)))));
+        if (hasSucceeded(told)) {
             return null;
         }
-        List<Kv> stands = answered(told, 0);
+        List<Kv> stands = rangeAnswer(told, 0);
         if (stands.isEmpty()) {
             throw new StoreException.Gone(put.request);
         }
@@ -301,16 +299,16 @@ public final class EtcdStore implements Store {
     @Override
     public List<Entry> read(String name, long number, int at) {
         // Any member's answer will do: a stale one is a shorter beginning of the row.
-        byte[] row = row('w', name, number);
-        Map<?, ?> told = txn(list(isThere(name, number)),
-                list(map("request_range", range(place(row, at), after(row), "serializable", true))), list());
-        if (!succeeded(told)) {
+        byte[] row = rowKey('w', name, number);
+        Map<?, ?> told = txn(list(ifPresent(name, number)),
+                list(map("request_range", range(placeKey(row, at), endOfRange(row), "serializable", true))), list());
+        if (!hasSucceeded(told)) {
             if (isDropped(name, number)) {
                 throw new StoreException.Gone(name);
             }
             return new ArrayList<>();
         }
-        return entries(name, at, answered(told, 0));
+        return entries(name, at, rangeAnswer(told, 0));
     }
 
     private static List<Entry> entries(String name, int at, List<Kv> kvs) {
@@ -331,7 +329,7 @@ public final class EtcdStore implements Store {
 
     @Override
     public byte[] payload(String name, long number, int place) {
-        List<Kv> found = keys(range(place(row('p', name, number), place), null)).kvs;
+        List<Kv> found = queryKeys(range(placeKey(rowKey('p', name, number), place), null)).kvs;
         if (found.isEmpty() && isDropped(name, number)) {
             throw new StoreException.Gone(name);
         }
@@ -340,11 +338,11 @@ public final class EtcdStore implements Store {
 
     /** By a watch, an answer that goes on. What it says isn't read, but that it says something. */
     @Override
-    public void changed(long millis) throws InterruptedException {
+    public void awaitChange(long millis) throws InterruptedException {
         int now = turn;
         try {
             if (watch == null) {
-                Http made = connected(now);
+                Http made = connect(now);
                 watch = made;
                 int status = made.post("/v3/watch", Json.write(map("create_request", range(bytes("cf/w/"), bytes("cf/w0")))));
                 if (status != 200) {
@@ -353,11 +351,11 @@ public final class EtcdStore implements Store {
                 made.chunk(new ByteArrayOutputStream());
                 return;
             }
-            watch.comes(millis);
+            watch.awaitInput(millis);
         } catch (IOException lost) {
             watch.close();
             watch = null;
-            next(now);
+            turnFrom(now);
             Thread.sleep(Math.min(millis, 50));
         }
     }
@@ -366,32 +364,32 @@ public final class EtcdStore implements Store {
 
     @Override
     public void beat(long session) {
-        post("/v3/kv/put", map("key", b64(of('b', session)), "value", ""));
+        post("/v3/kv/put", map("key", encode(numberedKey('b', session)), "value", ""));
     }
 
     @Override
     public Map<Long, Long> beats() {
         Map<Long, Long> beats = new HashMap<>();
-        Found found = keys(range(bytes("cf/b/"), bytes("cf/b0"), "keys_only", true));
+        Found found = queryKeys(range(bytes("cf/b/"), bytes("cf/b0"), "keys_only", true));
         found.kvs.forEach(it -> beats.put(Long.valueOf(it.key.substring(5), 16), it.version));
         return beats;
     }
 
     @Override
     public void dropBeat(long session) {
-        txn(list(), list(delete(of('b', session), null), delete(of('s', session), null)), list());
+        txn(list(), list(delete(numberedKey('b', session), null), delete(numberedKey('s', session), null)), list());
     }
 
     @Override
     public void nameSession(long session, String name) {
-        post("/v3/kv/put", map("key", b64(of('s', session)), "value", b64(bytes(name))));
+        post("/v3/kv/put", map("key", encode(numberedKey('s', session)), "value", encode(bytes(name))));
     }
 
     @Override
     public Map<Long, String> sessionNames(String request, long number) {
-        byte[] row = row('n', request, number);
+        byte[] row = rowKey('n', request, number);
         Map<Long, String> names = new HashMap<>();
-        keys(range(row, after(row))).kvs.forEach(it -> names.put(Long.valueOf(it.key.substring(row.length), 16), it.text()));
+        queryKeys(range(row, endOfRange(row))).kvs.forEach(it -> names.put(Long.valueOf(it.key.substring(row.length), 16), it.text()));
         return names;
     }
 
@@ -402,23 +400,23 @@ public final class EtcdStore implements Store {
 
     @Override
     public void setTimer(Timer timer) {
-        byte[] value = Json.write(Arrays.asList(timer.due, b64(timer.payload)));
-        byte[] key = place(row('t', timer.request, timer.number), timer.stage);
-        if (!succeeded(txn(list(isThere(timer.request, timer.number)), list(put(key, value)), list()))) {
+        byte[] value = Json.write(Arrays.asList(timer.due, encode(timer.payload)));
+        byte[] key = placeKey(rowKey('t', timer.request, timer.number), timer.stage);
+        if (!hasSucceeded(txn(list(ifPresent(timer.request, timer.number)), list(put(key, value)), list()))) {
             throw new StoreException.Gone(timer.request);
         }
     }
 
     @Override
-    public List<Timer> due(double now) {
+    public List<Timer> dueTimers(double now) {
         List<Timer> due = new ArrayList<>();
-        for (Kv it : keys(range(bytes("cf/t/"), bytes("cf/t0"), "serializable", true)).kvs) {
+        for (Kv it : queryKeys(range(bytes("cf/t/"), bytes("cf/t0"), "serializable", true)).kvs) {
             List<?> said = (List<?>) Json.read(it.value);
             double moment = ((Number) said.get(0)).doubleValue();
             if (moment <= now) {
                 String[] parts = it.key.substring(5).split("/"); // (without a number where an earlier version has set it)
                 long number = parts.length > 2 ? Long.parseLong(parts[1]) : 0;
-                due.add(new Timer(unquoted(parts[0]), number, Integer.parseInt(parts[parts.length - 1]), moment, unb64(said.get(1))));
+                due.add(new Timer(unquote(parts[0]), number, Integer.parseInt(parts[parts.length - 1]), moment, decode(said.get(1))));
             }
         }
         due.sort(Comparator.comparingDouble(it -> it.due));
@@ -427,14 +425,14 @@ public final class EtcdStore implements Store {
 
     @Override
     public void dropTimer(Timer timer) {
-        txn(list(), list(delete(place(row('t', timer.request, timer.number), timer.stage), null),
-                delete(place(join(key('t', timer.request), "/"), timer.stage), null)), list());
+        txn(list(), list(delete(placeKey(rowKey('t', timer.request, timer.number), timer.stage), null),
+                delete(placeKey(join(key('t', timer.request), "/"), timer.stage), null)), list());
     }
 
     @Override
     public void close() {
         isClosed = true;
-        for (Link link = idle.pollFirst(); link != null; link = idle.pollFirst()) {
+        for (MemberConnection link = idle.pollFirst(); link != null; link = idle.pollFirst()) {
             link.http.close();
         }
         Http watching = watch;
@@ -461,7 +459,7 @@ public final class EtcdStore implements Store {
         return bytes(key.toString());
     }
 
-    private static String unquoted(String text) {
+    private static String unquote(String text) {
         try {
             return URLDecoder.decode(text, "UTF-8");
         } catch (java.io.UnsupportedEncodingException never) {
@@ -470,44 +468,44 @@ public final class EtcdStore implements Store {
     }
 
     /** What the keys of a request's words or payloads begin with: another request of the same name has others. */
-    private static byte[] row(char kind, String name, long number) {
+    private static byte[] rowKey(char kind, String name, long number) {
         return join(key(kind, name), "/" + number + "/");
     }
 
-    private static byte[] of(char kind, long session) {
+    private static byte[] numberedKey(char kind, long session) {
         return bytes("cf/" + kind + "/" + String.format("%010x", session));
     }
 
-    private static byte[] place(byte[] row, int at) {
+    private static byte[] placeKey(byte[] row, int at) {
         return join(row, String.format("%0" + DIGITS + "d", at));
     }
 
     /** The end of the range of all keys that begin so. */
-    private static byte[] after(byte[] prefix) {
+    private static byte[] endOfRange(byte[] prefix) {
         byte[] end = prefix.clone();
         end[end.length - 1]++;
         return end;
     }
 
     private static Map<String, Object> range(byte[] key, byte[] end, Object... more) {
-        Map<String, Object> range = map("key", b64(key));
+        Map<String, Object> range = map("key", encode(key));
         if (end != null) {
-            range.put("range_end", b64(end));
+            range.put("range_end", encode(end));
         }
         range.putAll(map(more));
         return range;
     }
 
     private static Map<String, Object> put(byte[] key, byte[] value) {
-        return map("request_put", map("key", b64(key), "value", b64(value)));
+        return map("request_put", map("key", encode(key), "value", encode(value)));
     }
 
     private static Map<String, Object> delete(byte[] key, byte[] end) {
         return map("request_delete_range", range(key, end));
     }
 
-    private static Map<String, Object> absent(byte[] key) {
-        return map("key", b64(key), "target", "VERSION", "version", 0);
+    private static Map<String, Object> ifAbsent(byte[] key) {
+        return map("key", encode(key), "target", "VERSION", "version", 0);
     }
 
     private static Map<String, Object> map(Object... pairs) {
@@ -532,16 +530,16 @@ public final class EtcdStore implements Store {
         return both;
     }
 
-    private static String b64(byte[] data) {
+    private static String encode(byte[] data) {
         return Base64.getEncoder().encodeToString(data);
     }
 
-    private static byte[] unb64(Object text) {
+    private static byte[] decode(Object text) {
         return Base64.getDecoder().decode((String) text);
     }
 
     /** A number of 64 bits, which the gateway writes as a text, and leaves out where it is 0. */
-    private static long number(Object told) {
+    private static long asLong(Object told) {
         return told == null ? 0 : Long.parseLong(String.valueOf(told));
     }
 }

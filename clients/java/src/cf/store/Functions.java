@@ -1,6 +1,6 @@
 package cf.store;
 
-import cf.internal.Watched;
+import cf.internal.WatchedServices;
 import java.sql.Connection;
 import java.util.HashMap;
 import java.util.List;
@@ -22,10 +22,10 @@ import java.util.TreeMap;
  * requests have it. A second function of the same name and version takes the place of the first.
  */
 public final class Functions {
-    private final Map<String, TreeMap<Integer, Known>> known = new HashMap<>();
+    private final Map<String, TreeMap<Integer, Registered>> known = new HashMap<>();
 
     static {
-        Watched.storesBy(new Insight());
+        WatchedServices.setStores(new Insight());
     }
 
     /** A function without arguments. */
@@ -64,7 +64,7 @@ public final class Functions {
         Object call(Connection connection, List<Object> args) throws Exception;
     }
 
-    /** What a function may be called with. */
+    /** The arguments that a function may take. */
     static final class Given {
         final StoredRequest request;
         final Connection connection;
@@ -86,12 +86,12 @@ public final class Functions {
     /** Which of this a function takes, beside arguments. One that is elsewhere is called by other processes alone. */
     enum Takes { NOTHING, NAMED, REQUEST, CONNECTION, ELSEWHERE }
 
-    /** A function, and what it takes. */
-    static final class Known {
+    /** A function, and its arguments. */
+    static final class Registered {
         final Takes takes;
         final Any call;
 
-        Known(Takes takes, Any call) {
+        Registered(Takes takes, Any call) {
             this.takes = takes;
             this.call = call;
         }
@@ -175,12 +175,12 @@ public final class Functions {
             }
             return function.call(given);
         };
-        known.computeIfAbsent(name, it -> new TreeMap<>()).put(version, new Known(takes, checked));
+        known.computeIfAbsent(name, it -> new TreeMap<>()).put(version, new Registered(takes, checked));
         return this;
     }
 
-    Known of(String name, int version) {
-        TreeMap<Integer, Known> versions = known.get(name);
+    Registered find(String name, int version) {
+        TreeMap<Integer, Registered> versions = known.get(name);
         return versions == null ? null : versions.get(version);
     }
 
@@ -190,8 +190,8 @@ public final class Functions {
     }
 
     /** The highest version of a function, which composes or doesn't. */
-    int latest(String name, boolean composes) {
-        TreeMap<Integer, Known> versions = known.get(name);
+    int latestVersion(String name, boolean composes) {
+        TreeMap<Integer, Registered> versions = known.get(name);
         if (versions == null) {
             throw new IllegalArgumentException("no function \"" + name + "\" is registered: other processes know functions by name. One that only they"
                     + " call is named by Functions.elsewhere");

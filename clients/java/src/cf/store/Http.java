@@ -71,7 +71,7 @@ final class Http implements Closeable {
     byte[] body() throws IOException {
         ByteArrayOutputStream read = new ByteArrayOutputStream();
         if (length >= 0) {
-            take(length, read);
+            readBytes(length, read);
             return read.toByteArray();
         }
         while (chunk(read)) {
@@ -83,7 +83,7 @@ final class Http implements Closeable {
     /** Reads a chunk of the last answer's body behind what was read, and says whether there was one. */
     boolean chunk(ByteArrayOutputStream read) throws IOException {
         int many = number(line().split(";", 2)[0].trim(), 16);
-        take(many, read);
+        readBytes(many, read);
         boolean isLast = many == 0;
         while (!line().isEmpty() && isLast) {
             // A field behind the last chunk.
@@ -92,7 +92,7 @@ final class Http implements Closeable {
     }
 
     /** Waits so long at most until something more comes of an answer that goes on, and drops all that has come. Whether something has. */
-    boolean comes(long wait) throws IOException {
+    boolean awaitInput(long wait) throws IOException {
         socket.setSoTimeout((int) Math.max(1, Math.min(wait, millis)));
         try {
             byte[] dropped = new byte[4096];
@@ -107,7 +107,7 @@ final class Http implements Closeable {
         }
     }
 
-    private void take(int many, ByteArrayOutputStream read) throws IOException {
+    private void readBytes(int many, ByteArrayOutputStream read) throws IOException {
         byte[] some = new byte[Math.min(many, 8192)];
         for (int left = many; left > 0;) {
             int got = in.read(some, 0, Math.min(left, some.length));

@@ -1,7 +1,7 @@
 package cf.store;
 
 import cf.internal.Host;
-import cf.internal.Reader;
+import cf.internal.RequestReader;
 import cf.internal.Serving;
 import cf.internal.Stores;
 import cf.internal.Words;
@@ -21,21 +21,22 @@ final class Insight implements Stores {
 
     @Override
     public Serving service(Store store, Functions functions, int threads, long lease, boolean takesAll, Host host) {
-        return new OfService(new StoreService(store, functions, threads, lease, TimeUnit.NANOSECONDS, takesAll, null, null, host));
+        return new OfService(StoreService.builder(store, functions).threads(threads)
+                .lease(lease, TimeUnit.NANOSECONDS).takesAll(takesAll).host(host).build());
     }
 
     @Override
-    public Reader reader(Store store, Store.Opened opened) {
+    public RequestReader reader(Store store, Store.Opened opened) {
         return new OfRow(new RowView(store, opened, 0, new Host()));
     }
 
     @Override
-    public Connection lent(Connection db) {
-        return JdbcStore.lent(db);
+    public Connection guardConnection(Connection db) {
+        return JdbcStore.guardConnection(db);
     }
 
     @Override
-    public int claimed(long word) {
+    public int claimedStage(long word) {
         return Words.kind(word) == Words.CLAIM ? Words.stage(word) : -1;
     }
 
@@ -62,13 +63,13 @@ final class Insight implements Stores {
         }
 
         @Override
-        public boolean has(String request) {
-            return service.knownOf(request) != null;
+        public boolean hasRequest(String request) {
+            return service.findServed(request) != null;
         }
 
         @Override
-        public boolean has(StoredStage stage) {
-            return service.knownOf(stage.request.name) == stage.request;
+        public boolean hasStage(StoredStage stage) {
+            return service.findServed(stage.request.name) == stage.request;
         }
 
         @Override
@@ -82,13 +83,13 @@ final class Insight implements Stores {
         }
 
         @Override
-        public boolean knows(Reader all, int stage) {
-            return service.knows(((OfRow) all).view, stage);
+        public boolean knowsFunction(RequestReader all, int stage) {
+            return service.knowsFunction(((OfRow) all).view, stage);
         }
 
         @Override
-        public boolean hasUntold(String name, Reader all) {
-            StoredRequest request = service.knownOf(name);
+        public boolean hasUntold(String name, RequestReader all) {
+            StoredRequest request = service.findServed(name);
             return request != null && request.hasUntold(((OfRow) all).view);
         }
 
@@ -98,17 +99,17 @@ final class Insight implements Stores {
         }
 
         @Override
-        public void round() {
-            service.round();
+        public void runRound() {
+            service.runRound();
         }
     }
 
-    private static final class OfRow implements Reader {
+    private static final class OfRow implements RequestReader {
         private final RowView view;
 
         OfRow(RowView view) {
             this.view = view;
-            view.freedWith(this);
+            view.freeWith(this);
         }
 
         @Override
@@ -120,23 +121,18 @@ final class Insight implements Stores {
         }
 
         @Override
-        public Store.Opened opened() {
-            return view.opened;
+        public int wordCount() {
+            return view.wordCount();
         }
 
         @Override
-        public int seen() {
-            return view.seen();
+        public int stageCount() {
+            return view.stageCount();
         }
 
         @Override
-        public int size() {
-            return view.size();
-        }
-
-        @Override
-        public String name(int stage) {
-            return view.said(stage).name;
+        public String stageName(int stage) {
+            return view.spec(stage).name;
         }
 
         @Override
@@ -151,9 +147,9 @@ final class Insight implements Stores {
         }
 
         @Override
-        public String ended(int stage) {
+        public String endText(int stage) {
             Object outcome = outcome(stage);
-            if (outcome instanceof CancellationException && view.outcome(stage)[Row.WRAPPED] == 0) {
+            if (outcome instanceof CancellationException && view.outcome(stage)[NativeRow.WRAPPED] == 0) {
                 return "is cancelled";
             }
             if (outcome instanceof Throwable && !(outcome instanceof RemoteException)) {
@@ -164,9 +160,9 @@ final class Insight implements Stores {
         }
 
         @Override
-        public List<Integer> ready() {
+        public List<Integer> readyStages() {
             List<Integer> ready = new ArrayList<>();
-            for (int stage = view.ready(0); stage >= 0; stage = view.ready(stage + 1)) {
+            for (int stage = view.lowestReady(0); stage >= 0; stage = view.lowestReady(stage + 1)) {
                 ready.add(stage);
             }
             return ready;
@@ -178,8 +174,8 @@ final class Insight implements Stores {
         }
 
         @Override
-        public boolean relays() {
-            return view.relay() != null;
+        public boolean hasRelays() {
+            return view.relayWord() != null;
         }
 
         @Override
@@ -198,7 +194,7 @@ final class Insight implements Stores {
         }
 
         @Override
-        public String text(Store.Put put) {
+        public String putText(Store.Put put) {
             StringBuilder text = new StringBuilder("puts to ").append(put.request).append(": ");
             for (int k = 0; k < put.entries.size(); k++) {
                 text.append(k == 0 ? "" : ", ").append(text(put.entries.get(k).word, put.payloads.get(put.at + 1 + k)));
@@ -212,8 +208,8 @@ final class Insight implements Stores {
                 return (name == null ? "a stage" : name) + " is attached";
             }
             int stage = Words.stage(word);
-            String done = Words.throwing(word) ? "has thrown" : Words.linking(word) ? "is linked" : DONE[Words.kind(word)];
-            return (stage < view.size() ? name(stage) : "stage " + stage) + " " + done;
+            String done = Words.isThrowing(word) ? "has thrown" : Words.isLinking(word) ? "is linked" : DONE[Words.kind(word)];
+            return (stage < view.stageCount() ? stageName(stage) : "stage " + stage) + " " + done;
         }
     }
 }

@@ -66,7 +66,7 @@ public abstract class JdbcStore implements Store {
     abstract boolean isTaken(SQLException error);
 
     /** What stands for the engine's clock in a statement. */
-    abstract String clock();
+    abstract String clockSql();
 
     /** Begins a transaction of a function's; then commits it. */
     abstract void begin(PreparedConnection db) throws SQLException;
@@ -74,16 +74,16 @@ public abstract class JdbcStore implements Store {
     abstract void commit(PreparedConnection db) throws SQLException;
 
     /** Takes this thread's turn to write, and gives it to the next one. */
-    void take() {}
+    void takeTurn() {}
 
-    void give() {}
+    void giveTurn() {}
 
     /** Undoes what such a transaction did, and says whether the engine can't write now. */
-    abstract boolean undoes(PreparedConnection db) throws SQLException;
+    abstract boolean rollBackToFunction(PreparedConnection db) throws SQLException;
 
     /** Something that is done on a connection. */
-    interface Act<T> {
-        T on(PreparedConnection db) throws SQLException;
+    interface Action<T> {
+        T runOn(PreparedConnection db) throws SQLException;
     }
 
     final PreparedConnection connect() throws SQLException {
@@ -98,19 +98,19 @@ public abstract class JdbcStore implements Store {
     }
 
     /** Uses a connection. One that failed isn't used again, unless it was the statement's fault. */
-    final <T> T using(Act<T> act) {
+    final <T> T withConnection(Action<T> act) {
         PreparedConnection db = idle.pollFirst();
         boolean isKept = false;
         try {
             if (db == null) {
                 db = connect();
             }
-            T told = act.on(db);
+            T told = act.runOn(db);
             isKept = true;
             return told;
         } catch (SQLException error) {
             isKept = !isAway(error);
-            throw told(error);
+            throw toStoreException(error);
         } finally {
             if (db != null) {
                 giveBack(db, isKept);
@@ -130,31 +130,31 @@ public abstract class JdbcStore implements Store {
         }
     }
 
-    final StoreException told(SQLException error) {
+    final StoreException toStoreException(SQLException error) {
         return isAway(error) ? new StoreException.Unknown(error.getMessage(), error) : new StoreException(error.getMessage(), error);
     }
 
     /** Acts on a connection in this thread's turn to write. */
-    final <T> T writing(Act<T> act) {
-        take();
+    final <T> T withTurn(Action<T> act) {
+        takeTurn();
         try {
-            return using(act);
+            return withConnection(act);
         } finally {
-            give();
+            giveTurn();
         }
     }
 
     /** Acts in a transaction of its own. */
-    final <T> T within(Act<T> act) {
-        return writing(inTransaction(act));
+    final <T> T inOwnTransaction(Action<T> act) {
+        return withTurn(inTransaction(act));
     }
 
-    static <T> Act<T> inTransaction(Act<T> act) {
+    static <T> Action<T> inTransaction(Action<T> act) {
         return it -> {
             it.db.setAutoCommit(false);
             boolean stands = false;
             try {
-                T told = act.on(it);
+                T told = act.runOn(it);
                 it.db.commit();
                 stands = true;
                 return told;
@@ -167,18 +167,18 @@ public abstract class JdbcStore implements Store {
         };
     }
 
-    final <T> List<T> ask(String statement, PreparedConnection.Reader<T> reader, Object... values) {
-        return using(db -> db.rows(statement, reader, values));
+    final <T> List<T> query(String statement, PreparedConnection.RowReader<T> reader, Object... values) {
+        return withConnection(db -> db.rows(statement, reader, values));
     }
 
     /** How many rows a statement changed, which is a transaction of its own. */
     final int change(String statement, Object... values) {
-        return writing(db -> db.change(statement, values));
+        return withTurn(db -> db.change(statement, values));
     }
 
     /** {@code Gone} where a request of this number isn't there. */
-    final void isThere(String name, long number) {
-        if (ask("select 1 from cf_request where id = ?", row -> 1, number).isEmpty()) {
+    final void checkPresent(String name, long number) {
+        if (query("select 1 from cf_request where id = ?", row -> 1, number).isEmpty()) {
             throw new StoreException.Gone(name);
         }
     }
@@ -187,7 +187,7 @@ public abstract class JdbcStore implements Store {
     public final Opened open(String name, String plan) {
         Opened found = find(name);
         while (found == null) { // (it may be dropped meanwhile)
-            change("insert into cf_request (name, plan, opened) values (?, ?, " + clock() + ") on conflict do nothing", name, plan);
+            change("insert into cf_request (name, plan, opened) values (?, ?, " + clockSql() + ") on conflict do nothing", name, plan);
             found = find(name);
         }
         return found;
@@ -195,7 +195,7 @@ public abstract class JdbcStore implements Store {
 
     @Override
     public final Opened find(String name) {
-        List<Opened> found = ask("select plan, id from cf_request where name = ?", row -> new Opened(name, row.getString(1), row.getLong(2)), name);
+        List<Opened> found = query("select plan, id from cf_request where name = ?", row -> new Opened(name, row.getString(1), row.getLong(2)), name);
         return found.isEmpty() ? null : found.get(0);
     }
 
@@ -203,7 +203,7 @@ public abstract class JdbcStore implements Store {
     public final List<Entry> append(Put put) {
         boolean landed;
         try {
-            landed = puts(put);
+            landed = putOnConnection(put);
         } catch (StoreException refused) {
             if (!(refused.getCause() instanceof SQLException) || !isTaken((SQLException) refused.getCause())) {
                 throw refused;
@@ -211,7 +211,7 @@ public abstract class JdbcStore implements Store {
             landed = false;
         }
         if (landed) {
-            hasPut();
+            notePut();
             return null;
         }
         List<Entry> stands = read(put.request, put.number, put.at);
@@ -228,11 +228,11 @@ public abstract class JdbcStore implements Store {
 
     @Override
     public Transaction transaction() {
-        return new Within();
+        return new FunctionTransaction();
     }
 
     /** A connection as a transactional function has it: it refuses what ends the transaction, since the function's finish does that. */
-    static Connection lent(Connection db) {
+    static Connection guardConnection(Connection db) {
         InvocationHandler calls = (proxy, method, args) -> {
             if (ENDS_IT.contains(method.getName()) && (args == null || !method.getName().equals("rollback"))) {
                 throw new SQLException("the finish of a transactional function ends its transaction, and not " + method.getName());
@@ -247,32 +247,32 @@ public abstract class JdbcStore implements Store {
     }
 
     /** A transaction of a function's, on a connection of its own, in the turn of the thread that makes it. */
-    class Within implements Transaction {
+    class FunctionTransaction implements Transaction {
         private final PreparedConnection db;
 
-        Within() {
-            take();
+        FunctionTransaction() {
+            takeTurn();
             PreparedConnection made = null;
             try {
                 made = connect();
                 begin(made);
                 made.execute("savepoint cf_function");
             } catch (SQLException | RuntimeException fault) {
-                leave(made);
-                throw fault instanceof SQLException ? told((SQLException) fault) : (RuntimeException) fault;
+                closeAndGiveTurn(made);
+                throw fault instanceof SQLException ? toStoreException((SQLException) fault) : (RuntimeException) fault;
             }
             db = made;
         }
 
         @Override
         public Connection connection() {
-            return lent(db.db);
+            return guardConnection(db.db);
         }
 
         @Override
         public boolean isAway() {
             try {
-                return undoes(db);
+                return rollBackToFunction(db);
             } catch (SQLException lost) {
                 return true;
             }
@@ -287,7 +287,7 @@ public abstract class JdbcStore implements Store {
                 if (isTaken(error)) {
                     return false;
                 }
-                throw told(error);
+                throw toStoreException(error);
             }
         }
 
@@ -296,17 +296,17 @@ public abstract class JdbcStore implements Store {
             try {
                 JdbcStore.this.commit(db);
             } catch (SQLException error) {
-                throw told(error);
+                throw toStoreException(error);
             }
-            hasPut();
+            notePut();
         }
 
         @Override
         public void close() {
-            leave(db);
+            closeAndGiveTurn(db);
         }
 
-        private void leave(PreparedConnection made) {
+        private void closeAndGiveTurn(PreparedConnection made) {
             try {
                 if (made != null) {
                     made.close(); // What wasn't committed is undone by that.
@@ -314,7 +314,7 @@ public abstract class JdbcStore implements Store {
             } catch (SQLException lost) {
                 // It is gone anyway.
             } finally {
-                give();
+                giveTurn();
             }
         }
     }
@@ -323,15 +323,15 @@ public abstract class JdbcStore implements Store {
     abstract boolean put(PreparedConnection db, Put put) throws SQLException;
 
     /** Puts a group, and says whether it landed. What it throws may be due to a place that {@link #isTaken}. */
-    boolean puts(Put put) {
-        return using(db -> put(db, put));
+    boolean putOnConnection(Put put) {
+        return withConnection(db -> put(db, put));
     }
 
     private static final String PUT = "insert into cf_word (request, at, word, token, payload) select id, ";
     private final Map<Integer, String> putGroups = new ConcurrentHashMap<>();
 
     /** What stands for the request of a number in a statement, as a table that is empty where it isn't there. ({@code where true} ends it for SQLite.) */
-    abstract String there();
+    abstract String requestSql();
 
     /** Puts a group by one statement, but for payloads of more bytes; whether its request is there and its first place was free. */
     final boolean putAtOnce(PreparedConnection db, Put put, int most) throws SQLException {
@@ -352,20 +352,21 @@ public abstract class JdbcStore implements Store {
     /** Of a group, a place that is taken is an error: else words behind it might stand. */
     private String putGroup(int many) {
         String values = String.join(", ", java.util.Collections.nCopies(many, "(?, ?, ?, ?)"));
-        return many == 1 ? PUT + "?, ?, ?, ? from " + there() + " where true on conflict do nothing" : PUT + "v.* from (values " + values + ") as v, " + there();
+        return many == 1 ? PUT + "?, ?, ?, ? from " + requestSql() + " where true on conflict do nothing"
+                : PUT + "v.* from (values " + values + ") as v, " + requestSql();
     }
 
     /** The payload of a word, or null where it is large. */
     abstract String smallPayload();
 
     /** Something was put. */
-    abstract void hasPut();
+    abstract void notePut();
 
     @Override
     public final List<Entry> read(String name, long number, int at) {
         List<Entry> entries = new ArrayList<>();
         boolean[] isThere = {false};
-        ask("select at, word, token, " + smallPayload() + " from cf_request left join cf_word on request = id and at >= ? where id = ? order by at",
+        query("select at, word, token, " + smallPayload() + " from cf_request left join cf_word on request = id and at >= ? where id = ? order by at",
                 row -> {
                     isThere[0] = true;
                     long place = row.getLong(1);
@@ -383,11 +384,11 @@ public abstract class JdbcStore implements Store {
     static final String ENDS = "select name, (select max(at) + 1 from cf_word where request = id) from cf_request where closed is null";
 
     /** Adds requests to those that are told, each with how many words it has. */
-    static void tell(Map<String, Integer> ends, List<Map.Entry<String, Integer>> rows) {
+    static void addEnds(Map<String, Integer> ends, List<Map.Entry<String, Integer>> rows) {
         rows.forEach(row -> ends.merge(row.getKey(), row.getValue(), Math::max));
     }
 
-    static Map.Entry<String, Integer> end(ResultSet row) throws SQLException {
+    static Map.Entry<String, Integer> readEnd(ResultSet row) throws SQLException {
         return new java.util.AbstractMap.SimpleEntry<>(row.getString(1), row.getInt(2));
     }
 
@@ -399,13 +400,13 @@ public abstract class JdbcStore implements Store {
     @Override
     public final Map<Long, Long> beats() {
         Map<Long, Long> beats = new HashMap<>();
-        ask("select session, count from cf_beat", row -> beats.put(row.getLong(1), row.getLong(2)));
+        query("select session, count from cf_beat", row -> beats.put(row.getLong(1), row.getLong(2)));
         return beats;
     }
 
     @Override
     public final void dropBeat(long session) {
-        within(db -> db.change("delete from cf_beat where session = ?", session)
+        inOwnTransaction(db -> db.change("delete from cf_beat where session = ?", session)
                 + db.change("delete from cf_name where request = 0 and session = ?", session));
     }
 
@@ -418,13 +419,13 @@ public abstract class JdbcStore implements Store {
     @Override
     public final Map<Long, String> sessionNames(String request, long number) {
         Map<Long, String> names = new HashMap<>();
-        ask("select session, name from cf_name where request = ?", row -> names.put(row.getLong(1), row.getString(2)), number);
+        query("select session, name from cf_name where request = ?", row -> names.put(row.getLong(1), row.getString(2)), number);
         return names;
     }
 
     @Override
     public final void setTimer(Timer timer) {
-        int kept = change("insert into cf_timer (request, stage, due, payload) select id, ?, ?, ? from " + there()
+        int kept = change("insert into cf_timer (request, stage, due, payload) select id, ?, ?, ? from " + requestSql()
                 + " where true on conflict (request, stage) do update set due = excluded.due, payload = excluded.payload",
                 timer.stage, timer.due, timer.payload, timer.number);
         if (kept == 0) {
@@ -433,8 +434,8 @@ public abstract class JdbcStore implements Store {
     }
 
     @Override
-    public final List<Timer> due(double now) {
-        return ask("select name, id, stage, due, payload from cf_timer join cf_request on id = request where due <= ? order by due",
+    public final List<Timer> dueTimers(double now) {
+        return query("select name, id, stage, due, payload from cf_timer join cf_request on id = request where due <= ? order by due",
                 row -> new Timer(row.getString(1), row.getLong(2), row.getInt(3), row.getDouble(4), row.getBytes(5)), now);
     }
 

@@ -44,8 +44,8 @@ final class Line implements AutoCloseable {
         return made;
     }
 
-    /** Takes this thread's turn to write, once it comes, which {@link #give} ends. {@code Unknown} where others have it for so many seconds. */
-    void take(int seconds) {
+    /** Takes this thread's turn to write, once it comes, which {@link #unlockTurn} ends. {@code Unknown} where others have it for so many seconds. */
+    void lockWithin(int seconds) {
         try {
             if (!turn.tryLock() && !turn.tryLock(seconds, TimeUnit.SECONDS)) {
                 throw new StoreException.Unknown(path + ": a thread of this process has the file for " + seconds + " s", null);
@@ -55,29 +55,29 @@ final class Line implements AutoCloseable {
             throw new StoreException.Unknown(path + ": interrupted in the line", interrupted);
         }
         try {
-            int its = used();
+            int its = openIfUnused();
             if (!lock(its, false)) {
                 await(its, seconds);
             }
         } catch (RuntimeException | Error fault) {
-            unused();
+            closeIfUnused();
             turn.unlock();
             throw fault;
         }
     }
 
     /** Ends this thread's turn. */
-    void give() {
+    void unlockTurn() {
         try {
             unlock(file);
         } finally {
-            unused();
+            closeIfUnused();
             turn.unlock();
         }
     }
 
     /** The file, which is opened if it isn't open. */
-    private synchronized int used() {
+    private synchronized int openIfUnused() {
         if (file < 0) {
             int opened = open((path + "-line").getBytes(StandardCharsets.UTF_8));
             if (opened < 0) {
@@ -89,7 +89,7 @@ final class Line implements AutoCloseable {
         return file;
     }
 
-    private synchronized void unused() {
+    private synchronized void closeIfUnused() {
         isUsed = false;
         if (isClosed) {
             close();

@@ -53,7 +53,7 @@ final class PostgresStore extends JdbcStore {
 
     @Override
     void setUp() {
-        within(db -> {
+        inOwnTransaction(db -> {
             db.rows("select pg_advisory_xact_lock(" + SET_UP + ")", row -> null); // (two that make a table at once are refused)
             db.execute(SCHEMA);
             return null;
@@ -62,7 +62,7 @@ final class PostgresStore extends JdbcStore {
 
     @Override
     void prepare(PreparedConnection db) throws SQLException {
-        Map<String, String> shown = shown(db);
+        Map<String, String> shown = settings(db);
         for (String[] setting : SAFE) {
             String found = shown.get(setting[0]);
             if (!found.equals(setting[1])) {
@@ -75,7 +75,7 @@ final class PostgresStore extends JdbcStore {
     }
 
     /** What is set, by one question. */
-    private static Map<String, String> shown(PreparedConnection db) throws SQLException {
+    private static Map<String, String> settings(PreparedConnection db) throws SQLException {
         Map<String, String> shown = new HashMap<>();
         db.rows(SETTINGS, row -> shown.put(row.getString(1), row.getString(2)));
         return shown;
@@ -93,7 +93,7 @@ final class PostgresStore extends JdbcStore {
     }
 
     @Override
-    String clock() {
+    String clockSql() {
         return "extract(epoch from clock_timestamp())::double precision";
     }
 
@@ -108,9 +108,9 @@ final class PostgresStore extends JdbcStore {
     }
 
     @Override
-    boolean undoes(PreparedConnection it) throws SQLException {
+    boolean rollBackToFunction(PreparedConnection it) throws SQLException {
         it.db.rollback();
-        return shown(it).get("transaction_read_only").equals("on");
+        return settings(it).get("transaction_read_only").equals("on");
     }
 
     /**
@@ -118,7 +118,7 @@ final class PostgresStore extends JdbcStore {
      * else puts, or closes the request, isn't kept waiting by that.
      */
     @Override
-    String there() {
+    String requestSql() {
         return "(select id from cf_request where id = ? for key share) as there";
     }
 
@@ -133,8 +133,8 @@ final class PostgresStore extends JdbcStore {
     }
 
     @Override
-    boolean puts(Put put) {
-        return !put.opens ? super.puts(put) : using(inTransaction(db -> {
+    boolean putOnConnection(Put put) {
+        return !put.opens ? super.putOnConnection(put) : withConnection(inTransaction(db -> {
             lockClosing(db, put.number);
             boolean landed = put(db, put);
             if (landed) {
@@ -150,7 +150,7 @@ final class PostgresStore extends JdbcStore {
 
     @Override
     public byte[] payload(String name, long number, int place) {
-        List<byte[]> found = ask("select payload from cf_request left join cf_word on request = id and at = ? where id = ?",
+        List<byte[]> found = query("select payload from cf_request left join cf_word on request = id and at = ? where id = ?",
                 row -> row.getBytes(1), place - 1, number);
         if (found.isEmpty()) {
             throw new StoreException.Gone(name);
@@ -163,12 +163,12 @@ final class PostgresStore extends JdbcStore {
         // All transactions below the mark had ended when it was read, so what they did was told.
         Map<String, Integer> ends = new HashMap<>();
         if (mark == null) {
-            Long next = ask("select " + MARK, row -> row.getLong(1)).get(0);
-            tell(ends, ask(ENDS, JdbcStore::end));
+            Long next = query("select " + MARK, row -> row.getLong(1)).get(0);
+            addEnds(ends, query(ENDS, JdbcStore::readEnd));
             return new News(ends, next);
         }
         Long[] next = new Long[1];
-        ask(NEWS, row -> {
+        query(NEWS, row -> {
             String name = row.getString(1);
             return name == null ? next[0] = row.getLong(2) : (Object) ends.merge(name, row.getInt(2), Math::max);
         }, mark.toString(), mark.toString());
@@ -176,7 +176,7 @@ final class PostgresStore extends JdbcStore {
     }
 
     @Override
-    public void changed(long millis) throws InterruptedException {
+    public void awaitChange(long millis) throws InterruptedException {
         try {
             if (listens == null) {
                 listens = connect();
@@ -189,19 +189,19 @@ final class PostgresStore extends JdbcStore {
             get.invoke(listens.db.unwrap(kind), (int) Math.max(millis, 1));
         } catch (SQLException error) {
             listens = null;
-            throw told(error);
+            throw toStoreException(error);
         } catch (ReflectiveOperationException fault) {
             boolean isLost = fault.getCause() instanceof SQLException;
             listens = isLost ? null : listens;
             if (isLost) {
-                throw told((SQLException) fault.getCause());
+                throw toStoreException((SQLException) fault.getCause());
             }
             Thread.sleep(millis); // (another driver, which tells no notices)
         }
     }
 
     @Override
-    synchronized void hasPut() {
+    synchronized void notePut() {
         isWanted = true;
         if (notifier == null) {
             Thread made = new Thread(this::sendNotices, "cf-notify");
@@ -249,12 +249,12 @@ final class PostgresStore extends JdbcStore {
 
     @Override
     public boolean end(String name, long number, int at) {
-        String ends = "with closed as (update cf_request set closed = " + clock() + " where id = ? and closed is null and "
+        String ends = "with closed as (update cf_request set closed = " + clockSql() + " where id = ? and closed is null and "
                 + "(select coalesce(max(at) + 1, 0) from cf_word where request = id) = ? returning id), "
                 + "timers as (delete from cf_timer where request in (select id from closed)), "
                 + "glances as (delete from cf_glance where request in (select id from closed)) "
                 + "select exists (select 1 from closed) from cf_request where id = ?";
-        List<Boolean> closes = within(db -> {
+        List<Boolean> closes = inOwnTransaction(db -> {
             lockClosing(db, number);
             return db.rows(ends, row -> row.getBoolean(1), number, at, number);
         });
@@ -266,7 +266,7 @@ final class PostgresStore extends JdbcStore {
 
     @Override
     public double now() {
-        return ask("select " + clock(), row -> row.getDouble(1)).get(0);
+        return query("select " + clockSql(), row -> row.getDouble(1)).get(0);
     }
 
     @Override

@@ -21,21 +21,21 @@ final class PreparedConnection implements AutoCloseable {
     }
 
     /** Reads one row of an answer. */
-    interface Reader<T> {
+    interface RowReader<T> {
         T read(ResultSet row) throws SQLException;
     }
 
     private interface Use<T> {
-        T of(PreparedStatement statement) throws SQLException;
+        T run(PreparedStatement statement) throws SQLException;
     }
 
     /** How many rows a statement changed. */
     int change(String statement, Object... values) throws SQLException {
-        return using(statement, PreparedStatement::executeUpdate, values);
+        return withStatement(statement, PreparedStatement::executeUpdate, values);
     }
 
-    <T> List<T> rows(String statement, Reader<T> reader, Object... values) throws SQLException {
-        return using(statement, made -> {
+    <T> List<T> rows(String statement, RowReader<T> reader, Object... values) throws SQLException {
+        return withStatement(statement, made -> {
             try (ResultSet rows = made.executeQuery()) {
                 List<T> read = new ArrayList<>();
                 while (rows.next()) {
@@ -47,7 +47,7 @@ final class PreparedConnection implements AutoCloseable {
     }
 
     /** Uses a statement with these values. One that failed is prepared anew: some drivers have ended it. */
-    private <T> T using(String statement, Use<T> use, Object... values) throws SQLException {
+    private <T> T withStatement(String statement, Use<T> use, Object... values) throws SQLException {
         PreparedStatement made = prepared.get(statement);
         if (made == null) {
             made = db.prepareStatement(statement);
@@ -62,7 +62,7 @@ final class PreparedConnection implements AutoCloseable {
                     made.setObject(k + 1, values[k]);
                 }
             }
-            T told = use.of(made);
+            T told = use.run(made);
             isKept = true;
             return told;
         } finally {

@@ -6,14 +6,14 @@ import java.util.LinkedHashMap;
 import java.util.List;
 import java.util.Map;
 
-/** An exception as a row in a store has it: what a function threw, or what somebody failed a stage with, in any process and language. */
+/** An exception in a row of a store: a function threw it, or a caller failed a stage with it, in any process and language. */
 public final class RemoteException extends RuntimeException {
-    /** The kind that says that the process of a function is gone: the function may have run, and nobody runs it again. */
+    /** The kind where the process of a function is gone: the function may have run, and isn't run again. */
     public static final String ABANDONED = "Abandoned";
 
     private static final long serialVersionUID = 1;
 
-    /** Its kind, and what it says. */
+    /** With a kind and a text. */
     private final String kind, text;
     private final transient List<Object> args;
 
@@ -34,18 +34,18 @@ public final class RemoteException extends RuntimeException {
         return kind;
     }
 
-    /** What it says. */
+    /** Its text. */
     public String text() {
         return text;
     }
 
-    /** What else it has, in JSON's values. */
+    /** Further values, in JSON's types. */
     public List<Object> args() {
         return args == null ? Collections.emptyList() : args;
     }
 
-    /** What any exception comes to: its class's name, and what it says. */
-    static RemoteException of(Throwable thrown) {
+    /** Of any exception: the name of its class, and its message. */
+    static RemoteException fromThrowable(Throwable thrown) {
         if (thrown instanceof RemoteException) {
             return (RemoteException) thrown;
         }
@@ -53,7 +53,7 @@ public final class RemoteException extends RuntimeException {
         return new RemoteException(thrown.getClass().getSimpleName(), text, null);
     }
 
-    static RemoteException read(Object json) {
+    static RemoteException fromMap(Object json) {
         if (!(json instanceof Map)) {
             throw new IllegalArgumentException("it is no exception");
         }
@@ -63,7 +63,7 @@ public final class RemoteException extends RuntimeException {
         return new RemoteException(String.valueOf(said.get("error")), String.valueOf(said.get("text")), args);
     }
 
-    Map<String, Object> written() {
+    Map<String, Object> toMap() {
         Map<String, Object> said = new LinkedHashMap<>();
         said.put("error", kind);
         said.put("text", text);

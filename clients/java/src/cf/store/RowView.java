@@ -33,46 +33,46 @@ final class RowView {
     final long session;
     private final Store store;
     private final Host host;
-    private final Row row;
-    private final List<Known> stages = new ArrayList<>();
-    private final int planned;
-    private int room, seen, settledStages;
-    /** Those that were settled since somebody took them. */
-    private List<Integer> settled = new ArrayList<>();
-    /** The words that were seen, and whose each is. */
+    private final NativeRow row;
+    private final List<StageState> stages = new ArrayList<>();
+    private final int plannedStages;
+    private int room, wordCount, settledStages;
+    /** The stages that were settled since {@link #takeSettled}. */
+    private List<Integer> newlySettled = new ArrayList<>();
+    /** The words, each with the session that has put it. */
     private long[] words = new long[16], sessions = new long[16];
     private final StoredPlan plan;
-    /** A flow, and how many of its first steps are known to be the plan's. */
-    private StoredFlow alikeTo;
-    private int alike;
+    /** A flow, and how many of its first steps are the plan's. */
+    private StoredFlow alikeFlow;
+    private int alikeSteps;
     /** Promises that composing stages were linked to, with the places of those words. */
     final TreeMap<Integer, Integer> links = new TreeMap<>();
     /** Composing stages that were settled, and whose promises may be waited for by nobody. */
     final TreeSet<Integer> unlinked = new TreeSet<>();
-    /** Claims of this session's that were granted, as it found when it read them: what their functions are called with. */
-    final TreeMap<Integer, int[]> found = new TreeMap<>();
-    /** What each claim that was granted was replied: what its stage's function was to be called with. */
-    final Map<Integer, int[]> granted = new HashMap<>();
-    /** Tokens of words of which it isn't known whether they stand, and the places where they would. */
-    private final Map<Long, Integer> doubt = new HashMap<>();
-    private final Map<Integer, byte[]> own = new HashMap<>();
-    /** Told of each other session whose word came since the row was first read; and that others have failed a stage which this session runs. */
-    LongConsumer hears = session -> {};
-    Runnable learns = () -> {};
+    /** The replies to this session's claims that were granted unknown to it, as it found when it read the row. */
+    final TreeMap<Integer, int[]> foundClaims = new TreeMap<>();
+    /** The reply to each claim that was granted: the arguments of its stage's function. */
+    final Map<Integer, int[]> claimReplies = new HashMap<>();
+    /** The tokens of words that may stand, and the places where they would. */
+    private final Map<Long, Integer> doubtfulPlaces = new HashMap<>();
+    private final Map<Integer, byte[]> ownPayloads = new HashMap<>();
+    /** Called with each other session whose word came since the row was first read; and where others have failed a stage that this session runs. */
+    LongConsumer onOtherSession = session -> {};
+    Runnable onTakenForGone = () -> {};
     private boolean isRead;
 
     /** A word that is wanted, with its payload. A value or an exception is named by the word's own place, so the word says only that there is one. */
-    static final class Wanted {
+    static final class WantedWord {
         final long word;
         final byte[] payload;
 
-        Wanted(long word, byte[] payload) {
+        WantedWord(long word, byte[] payload) {
             this.word = word;
             this.payload = payload;
         }
     }
 
-    /** What a stage's function came to: a value or null, an exception, or a link. */
+    /** The result of a stage's function: a value or null, an exception, or a link. */
     static final class Finish {
         final int stage;
         final byte[] payload;
@@ -85,64 +85,64 @@ final class RowView {
             this.to = to;
         }
 
-        static Finish gives(int stage, byte[] value) {
-            return new Finish(stage, value, Row.GIVE, 0);
+        static Finish withValue(int stage, byte[] value) {
+            return new Finish(stage, value, NativeRow.GIVE, 0);
         }
 
-        static Finish throwing(int stage, byte[] thrown) {
-            return new Finish(stage, thrown, Row.THROW, 0);
+        static Finish withException(int stage, byte[] thrown) {
+            return new Finish(stage, thrown, NativeRow.THROW, 0);
         }
 
         /** A composing stage is linked to its promise, which the stage stands for that the payload names. */
-        static Finish links(int stage, byte[] given, int promise) {
-            return new Finish(stage, given, Row.LINK, promise);
+        static Finish withLink(int stage, byte[] given, int promise) {
+            return new Finish(stage, given, NativeRow.LINK, promise);
         }
 
-        boolean isThrown() {
-            return kind == Row.THROW;
+        boolean hasException() {
+            return kind == NativeRow.THROW;
         }
 
         /** The number of the answer, where the finish stands at this place. */
-        private int number(int place) {
-            return kind == Row.LINK ? to : payload == null ? -1 : place;
+        private int answerNumber(int place) {
+            return kind == NativeRow.LINK ? to : payload == null ? -1 : place;
         }
     }
 
-    /** An entry that was done: its word and its reply. */
-    static final class Done {
+    /** An entry that was taken in: its word and its reply. */
+    static final class DoneEntry {
         final long word;
         final int[] reply;
 
-        Done(long word, int[] reply) {
+        DoneEntry(long word, int[] reply) {
             this.word = word;
             this.reply = reply;
         }
     }
 
-    /** Says by the view which words are wanted, if any. It is asked again each time others' words came first. */
+    /** Decides by the view which words to put, if any. It is asked again each time others' words came first. */
     interface Decision {
-        List<Wanted> of(RowView view);
+        List<WantedWord> decide(RowView view);
     }
 
     /** What a view remembers of a stage. */
-    private static final class Known {
+    private static final class StageState {
         final Form form;
-        final int[] of;
-        /** What is said of it, where that was read; the place of the word that attached it, or 0; and that one's payload, where it came along. */
-        StoredPlan.Said said;
-        final int attached;
+        final int[] sources;
+        /** Its spec, where that was read; the place of the word that attached it, or 0; and that word's payload, where it came along. */
+        StoredPlan.StageSpec spec;
+        final int attachPlace;
         byte[] payload;
         /** Once it is settled: the outcome's numbers, and the place where it was. */
         int[] outcome;
-        int settled;
+        int settledPlace;
         /** The place of the payload by which it, or a source of it, timed out or had a bad answer, or 0. */
-        int failed;
+        int failedPlace;
 
-        Known(Form form, int[] of, StoredPlan.Said said, int attached) {
+        StageState(Form form, int[] of, StoredPlan.StageSpec spec, int attached) {
             this.form = form;
-            this.of = of;
-            this.said = said;
-            this.attached = attached;
+            this.sources = of;
+            this.spec = spec;
+            this.attachPlace = attached;
         }
     }
 
@@ -152,22 +152,22 @@ final class RowView {
         this.opened = opened;
         this.session = session;
         plan = new StoredPlan(opened.plan, opened.name);
-        planned = plan.forms.size();
-        for (int k = 0; k < planned; k++) {
-            stages.add(new Known(plan.forms.get(k), plan.sources.get(k), plan.said.get(k), 0));
+        plannedStages = plan.forms.size();
+        for (int k = 0; k < plannedStages; k++) {
+            stages.add(new StageState(plan.forms.get(k), plan.sources.get(k), plan.specs.get(k), 0));
         }
-        room = Math.min(ROOM, MOST_STAGES - planned);
-        row = made();
+        room = Math.min(ROOM, MOST_STAGES - plannedStages);
+        row = openRow();
     }
 
-    private Row made() {
+    private NativeRow openRow() {
         // By chance: where two have one session, their tokens differ all the same; and half of all are left at least.
-        int first = (int) host.chance(Row.COUNT_BITS - 1);
+        int first = (int) host.randomBits(NativeRow.COUNT_BITS - 1);
         while (true) {
             try {
-                return new Row(plan.rows, room, first, session);
-            } catch (Row.Refused refused) {
-                if (refused.code != Row.ROOM || room == 0) {
+                return new NativeRow(plan.rows, room, first, session);
+            } catch (NativeRow.Refusal refused) {
+                if (refused.code != NativeRow.ROOM || room == 0) {
                     throw new StoreException.Broken(opened.name, 0, "its plan can't be read: " + refused.getMessage());
                 }
                 room /= 2;
@@ -175,27 +175,27 @@ final class RowView {
         }
     }
 
-    /** What frees the memory outside the heap once this owner can't be reached any more. It doesn't reach who runs the view. */
-    void freedWith(Object owner) {
+    /** Frees the memory outside the heap once this owner can't be reached any more. */
+    void freeWith(Object owner) {
         new Freed(owner, row::close);
-        Freed.some();
+        Freed.freeSome();
     }
 
-    int seen() {
-        return seen;
+    int wordCount() {
+        return wordCount;
     }
 
-    int size() {
+    int stageCount() {
         return stages.size();
     }
 
     /** Whether the request is a flow's. */
     boolean isPlanned() {
-        return planned > 0;
+        return plannedStages > 0;
     }
 
     boolean isSettled(int stage) {
-        return stages.get(stage).settled > 0;
+        return stages.get(stage).settledPlace > 0;
     }
 
     Form form(int stage) {
@@ -203,29 +203,29 @@ final class RowView {
     }
 
     int[] sources(int stage) {
-        return stages.get(stage).of;
+        return stages.get(stage).sources;
     }
 
     /** The lowest ready stage from this one on, or -1. */
-    int ready(int from) {
-        return row.ready(from);
+    int lowestReady(int from) {
+        return row.lowestReady(from);
     }
 
     /** The word of a finish, with its payload, or null where this session hasn't the stage. If the stage was settled meanwhile, it is late. */
-    Wanted finished(Finish finish) {
-        long word = row.finish(finish.stage, finish.kind, finish.number(seen + 1));
-        return word < 0 ? null : new Wanted(word, finish.payload);
+    WantedWord finishWord(Finish finish) {
+        long word = row.finishWord(finish.stage, finish.kind, finish.answerNumber(wordCount + 1));
+        return word < 0 ? null : new WantedWord(word, finish.payload);
     }
 
     /** The lowest stage from a number on that this session could claim next, behind a finish if that isn't null; or -1. */
     int nextClaim(Finish finish, int from) {
-        return finish == null ? row.nextClaim(-1, 0, 0, from) : row.nextClaim(finish.stage, finish.kind, finish.number(seen + 1), from);
+        return finish == null ? row.nextClaim(-1, 0, 0, from) : row.nextClaim(finish.stage, finish.kind, finish.answerNumber(wordCount + 1), from);
     }
 
     /** The stages whose claim is open, each with the session to which it was granted: also those that were settled since. */
     private Map<Integer, Long> claims() {
         Map<Integer, Long> claims = new TreeMap<>();
-        for (long[] claim = row.openClaim(0); claim != null; claim = row.openClaim((int) claim[0] + 1)) {
+        for (long[] claim = row.nextOpenClaim(0); claim != null; claim = row.nextOpenClaim((int) claim[0] + 1)) {
             claims.put((int) claim[0], claim[1]);
         }
         return claims;
@@ -239,26 +239,26 @@ final class RowView {
     }
 
     /** Whether this session has a claim of a stage that isn't finished. */
-    boolean isHeld(int stage) {
-        long[] claim = row.openClaim(stage);
+    boolean hasClaim(int stage) {
+        long[] claim = row.nextOpenClaim(stage);
         return claim != null && claim[0] == stage && claim[1] == session;
     }
 
-    /** Whether anybody has. */
+    /** Whether any session has one. */
     boolean isClaimed(int stage) {
-        long[] claim = row.openClaim(stage);
+        long[] claim = row.nextOpenClaim(stage);
         return claim != null && claim[0] == stage;
     }
 
     /** The word that fails this stage for a session that is gone, or null where that doesn't have it. */
-    Wanted abandoned(long gone, int stage, byte[] payload) {
-        long word = row.abandon(gone, stage);
-        return word >= 0 && Words.stage(word) == stage ? new Wanted(word, payload) : null;
+    WantedWord abandonWord(long gone, int stage, byte[] payload) {
+        long word = row.abandonWord(gone, stage);
+        return word >= 0 && Words.stage(word) == stage ? new WantedWord(word, payload) : null;
     }
 
-    /** Whether something is to do in it without a new word, also by who runs no functions. */
-    boolean hasLeft(boolean runs) {
-        return !links.isEmpty() || !unlinked.isEmpty() || !found.isEmpty() || runs && row.ready(0) >= 0;
+    /** Whether there is work in it without a new word, also for a service that runs no functions. */
+    boolean hasWork(boolean runs) {
+        return !links.isEmpty() || !unlinked.isEmpty() || !foundClaims.isEmpty() || runs && row.lowestReady(0) >= 0;
     }
 
     /** Whether all stages are settled, and no claim is open but for those of sessions that are gone. */
@@ -266,67 +266,67 @@ final class RowView {
         return settledStages == stages.size() && claims().values().stream().allMatch(isGone::test);
     }
 
-    /** The stages that were settled since this was asked before. */
+    /** The stages that were settled since the last call. */
     List<Integer> takeSettled() {
-        List<Integer> taken = settled;
-        settled = taken.isEmpty() ? taken : new ArrayList<>();
+        List<Integer> taken = newlySettled;
+        newlySettled = taken.isEmpty() ? taken : new ArrayList<>();
         return taken;
     }
 
     // Reading and putting.
 
-    /** Does what others have put. */
+    /** Takes in the words that others have put. */
     void catchUp() {
-        sure(host, () -> store.read(opened.name, opened.number, seen)).forEach(this::take);
+        retryingForAMinute(host, () -> store.read(opened.name, opened.number, wordCount)).forEach(this::takeIn);
         isRead = true;
     }
 
-    /** Puts words behind all that is seen, and does them; what they did, which is nothing where none was wanted. */
-    List<Done> act(Decision decision) {
+    /** Puts the words that are decided on behind all others, and takes them in; their entries, if there are any. */
+    List<DoneEntry> act(Decision decision) {
         return act(decision, false);
     }
 
     /** The same; whether these words open the request again, where it is closed. */
-    List<Done> act(Decision decision, boolean opens) {
+    List<DoneEntry> act(Decision decision, boolean opens) {
         while (true) {
-            List<Wanted> wanted = decision.of(this);
+            List<WantedWord> wanted = decision.decide(this);
             if (wanted.isEmpty()) {
                 return new ArrayList<>();
             }
             int attached = 0;
-            for (Wanted it : wanted) {
+            for (WantedWord it : wanted) {
                 attached += Words.kind(it.word) == Words.ATTACH ? 1 : 0;
             }
             makeRoom(attached);
-            Store.Put put = planned(wanted, opens);
+            Store.Put put = planPut(wanted, opens);
             List<Store.Entry> stands;
             try {
                 stands = append(put);
             } catch (RuntimeException | Error fault) {
-                doubts(put);
+                leaveInDoubt(put);
                 throw fault;
             }
             stands = stands == null ? put.entries : stands;
-            boolean landed = row.met(stands.get(0).word, stands.get(0).token);
+            boolean landed = row.landed(stands.get(0).word, stands.get(0).token);
             if (landed) {
-                own.putAll(put.payloads);
+                ownPayloads.putAll(put.payloads);
             }
-            List<Done> done = new ArrayList<>();
-            stands.forEach(entry -> done.add(take(entry)));
+            List<DoneEntry> done = new ArrayList<>();
+            stands.forEach(entry -> done.add(takeIn(entry)));
             if (landed) {
-                List<Done> own = done.subList(0, put.entries.size());
+                List<DoneEntry> own = done.subList(0, put.entries.size());
                 for (int k = 0; k < own.size(); k++) {
-                    host.did(opened.name, put.at + 1 + k, own.get(k).word, own.get(k).reply[Row.ANSWER]);
+                    host.noteAnswer(opened.name, put.at + 1 + k, own.get(k).word, own.get(k).reply[NativeRow.ANSWER]);
                 }
                 return own;
             }
         }
     }
 
-    /** Puts until an answer comes. Where one is missing, and the same is refused then, what stands is read: it may be just that. */
+    /** Puts until an answer comes. Where one is missing, and the same put is refused then, the row is read: the put may stand there. */
     private List<Store.Entry> append(Store.Put put) {
         boolean[] isMissing = {false};
-        return sure(host, () -> {
+        return retryingForAMinute(host, () -> {
             try {
                 return store.append(put);
             } catch (StoreException.Unknown silent) {
@@ -346,57 +346,57 @@ final class RowView {
     }
 
     /** Puts a word within a transaction, and lets that stand. Whether it does: where the place was taken, it doesn't. {@code Unknown} if it may. */
-    boolean actWithin(Store.Transaction transaction, Wanted wanted) {
-        Store.Put put = planned(Collections.singletonList(wanted), false);
+    boolean actWithin(Store.Transaction transaction, WantedWord wanted) {
+        Store.Put put = planPut(Collections.singletonList(wanted), false);
         try {
             if (!transaction.append(put)) {
-                row.giveUp();
+                row.giveUpPut();
                 return false;
             }
             transaction.commit();
         } catch (RuntimeException | Error fault) {
-            doubts(put);
+            leaveInDoubt(put);
             throw fault;
         }
-        row.met(put.entries.get(0).word, put.entries.get(0).token);
-        own.putAll(put.payloads);
-        Done done = take(put.entries.get(0));
-        host.did(opened.name, put.at + 1, done.word, done.reply[Row.ANSWER]);
+        row.landed(put.entries.get(0).word, put.entries.get(0).token);
+        ownPayloads.putAll(put.payloads);
+        DoneEntry done = takeIn(put.entries.get(0));
+        host.noteAnswer(opened.name, put.at + 1, done.word, done.reply[NativeRow.ANSWER]);
         return true;
     }
 
-    /** Gives a put up that may stand, and remembers it until the words at its places are read. */
-    private void doubts(Store.Put put) {
-        row.giveUp();
+    /** Gives up a put that may stand, and remembers it until the words at its places are read. */
+    private void leaveInDoubt(Store.Put put) {
+        row.giveUpPut();
         for (int k = 0; k < put.entries.size(); k++) {
-            doubt.put(put.entries.get(k).token, put.at + 1 + k);
+            doubtfulPlaces.put(put.entries.get(k).token, put.at + 1 + k);
         }
     }
 
-    private Store.Put planned(List<Wanted> wanted, boolean opens) {
-        int who = row.number();
+    private Store.Put planPut(List<WantedWord> wanted, boolean opens) {
+        int who = row.callerNumber();
         long[] words = new long[wanted.size()];
         Map<Integer, byte[]> payloads = new HashMap<>();
         for (int k = 0; k < words.length; k++) {
-            int place = seen + 1 + k;
+            int place = wordCount + 1 + k;
             byte[] payload = wanted.get(k).payload;
-            words[k] = Words.by(who, payload == null ? wanted.get(k).word : named(wanted.get(k).word, place));
+            words[k] = Words.withCaller(who, payload == null ? wanted.get(k).word : withPlace(wanted.get(k).word, place));
             if (payload != null) {
                 payloads.put(place, payload);
             }
         }
-        long first = row.plan(words);
+        long first = row.planPut(words);
         List<Store.Entry> entries = new ArrayList<>();
         for (int k = 0; k < words.length; k++) {
             entries.add(new Store.Entry(words[k], first + k));
         }
-        return new Store.Put(opened.name, opened.number, seen, entries, payloads, opens);
+        return new Store.Put(opened.name, opened.number, wordCount, entries, payloads, opens);
     }
 
     /** A word whose value or exception is named by this place. */
-    private static long named(long word, int place) {
+    private static long withPlace(long word, int place) {
         int stage = Words.stage(word);
-        if (Words.linking(word)) {
+        if (Words.isLinking(word)) {
             return word;
         }
         switch (Words.kind(word)) {
@@ -405,98 +405,98 @@ final class RowView {
             case Words.FAIL:
                 return Words.fail(0, stage, place);
             case Words.FINISH:
-                return Words.throwing(word) ? Words.finishThrowing(0, stage, place) : Words.finish(0, stage, place);
+                return Words.isThrowing(word) ? Words.finishThrowing(0, stage, place) : Words.finish(0, stage, place);
             default:
                 return word;
         }
     }
 
-    /** Does an entry that stands behind all that was seen. */
-    private Done take(Store.Entry entry) {
-        int place = seen + 1;
+    /** Takes in the entry that stands behind all others. */
+    private DoneEntry takeIn(Store.Entry entry) {
+        int place = wordCount + 1;
         int[] changed;
-        long by = entry.token >>> Row.COUNT_BITS;
-        boolean failsOwn = by != session && Words.kind(entry.word) == Words.FAIL && isHeld(Words.stage(entry.word));
+        long by = entry.token >>> NativeRow.COUNT_BITS;
+        boolean failsOwn = by != session && Words.kind(entry.word) == Words.FAIL && hasClaim(Words.stage(entry.word));
         try {
             if (Words.kind(entry.word) == Words.ATTACH) {
                 makeRoom(1);
             }
-            changed = row.saw(entry.word, entry.token);
-        } catch (Row.Refused refused) {
+            changed = row.takeIn(entry.word, entry.token);
+        } catch (NativeRow.Refusal refused) {
             if (refused.code == Native.NO_MEMORY) {
                 throw new OutOfMemoryError("a view of a row");
             }
             throw new StoreException.Broken(opened.name, place, "the word " + entry.word + " can't be done: " + refused.getMessage());
         }
-        remember(entry);
-        int[] reply = row.told.clone();
+        keepWord(entry);
+        int[] reply = row.reply.clone();
         if (by != session && isRead) {
-            hears.accept(by);
+            onOtherSession.accept(by);
         }
-        if (failsOwn && reply[Row.ANSWER] != 0) {
-            learns.run();
+        if (failsOwn && reply[NativeRow.ANSWER] != 0) {
+            onTakenForGone.run();
         }
-        boolean isOwn = doubt.remove(entry.token) != null;
+        boolean isOwn = doubtfulPlaces.remove(entry.token) != null;
         if (isOwn) {
-            host.did(opened.name, place, entry.word, reply[Row.ANSWER]);
+            host.noteAnswer(opened.name, place, entry.word, reply[NativeRow.ANSWER]);
         }
         switch (Words.kind(entry.word)) {
             case Words.ATTACH:
-                if (reply[Row.ANSWER] == 0) {
-                    stages.add(attached(entry, place));
+                if (reply[NativeRow.ANSWER] == 0) {
+                    stages.add(stageOf(entry, place));
                 }
                 break;
             case Words.CLAIM:
-                if (reply[Row.ANSWER] == 0) {
-                    granted.put(Words.stage(entry.word), reply);
+                if (reply[NativeRow.ANSWER] == 0) {
+                    claimReplies.put(Words.stage(entry.word), reply);
                     if (isOwn) {
-                        found.put(Words.stage(entry.word), reply);
+                        foundClaims.put(Words.stage(entry.word), reply);
                     }
                 }
                 break;
             case Words.FINISH:
-                if (reply[Row.ANSWER] == 0 && Words.linking(entry.word)) {
-                    links.put(Words.low(entry.word), place);
+                if (reply[NativeRow.ANSWER] == 0 && Words.isLinking(entry.word)) {
+                    links.put(Words.lowBits(entry.word), place);
                 }
                 break;
             default:
         }
-        doubt.values().removeIf(its -> its <= place); // What was to stand here and doesn't never will.
-        takeNews(changed, entry.word, place);
-        return new Done(entry.word, reply);
+        doubtfulPlaces.values().removeIf(its -> its <= place); // (a word that was to stand here, and doesn't, never will)
+        takeInChanges(changed, entry.word, place);
+        return new DoneEntry(entry.word, reply);
     }
 
-    private void remember(Store.Entry entry) {
-        if (seen == words.length) {
-            words = Arrays.copyOf(words, 2 * seen);
-            sessions = Arrays.copyOf(sessions, 2 * seen);
+    private void keepWord(Store.Entry entry) {
+        if (wordCount == words.length) {
+            words = Arrays.copyOf(words, 2 * wordCount);
+            sessions = Arrays.copyOf(sessions, 2 * wordCount);
         }
-        words[seen] = entry.word;
-        sessions[seen++] = entry.token >>> Row.COUNT_BITS;
+        words[wordCount] = entry.word;
+        sessions[wordCount++] = entry.token >>> NativeRow.COUNT_BITS;
     }
 
-    private static Known attached(Store.Entry entry, int place) {
-        int low = Words.low(entry.word), first = Words.stage(entry.word), second = low >>> 12 & 0xfff;
+    private static StageState stageOf(Store.Entry entry, int place) {
+        int low = Words.lowBits(entry.word), first = Words.stage(entry.word), second = low >>> 12 & 0xfff;
         int[] of = Arrays.copyOf(new int[] {first, second}, Words.tag(entry.word));
-        Known made = new Known(Form.of(low >>> 24), of, null, place);
+        StageState made = new StageState(Form.byNumber(low >>> 24), of, null, place);
         made.payload = entry.payload;
         return made;
     }
 
-    private void takeNews(int[] changed, long word, int place) {
-        int given = Words.kind(word) == Words.FAIL_AS ? place : Words.linking(word) ? stages.get(Words.low(word)).failed : 0;
-        for (int at = 0; at < changed.length; at += Row.STAGE) {
-            Known stage = stages.get(changed[at]);
-            if (changed[at + Row.KIND] != Row.SETTLED || stage.settled > 0) {
+    private void takeInChanges(int[] changed, long word, int place) {
+        int given = Words.kind(word) == Words.FAIL_AS ? place : Words.isLinking(word) ? stages.get(Words.lowBits(word)).failedPlace : 0;
+        for (int at = 0; at < changed.length; at += NativeRow.STAGE) {
+            StageState stage = stages.get(changed[at]);
+            if (changed[at + NativeRow.KIND] != NativeRow.SETTLED || stage.settledPlace > 0) {
                 continue;
             }
-            stage.outcome = Arrays.copyOfRange(changed, at + Row.ENDED, at + Row.STAGE);
-            if (stage.outcome[0] == Row.TIMED_OUT || stage.outcome[0] == Row.BAD_ANSWER) {
-                stage.failed = given > 0 ? given : failedOf(stage.of, stage.outcome[0]);
+            stage.outcome = Arrays.copyOfRange(changed, at + NativeRow.ENDED, at + NativeRow.STAGE);
+            if (stage.outcome[0] == NativeRow.TIMED_OUT || stage.outcome[0] == NativeRow.BAD_ANSWER) {
+                stage.failedPlace = given > 0 ? given : failedPlace(stage.sources, stage.outcome[0]);
             }
-            stage.settled = place;
+            stage.settledPlace = place;
             settledStages++;
-            settled.add(changed[at]);
+            newlySettled.add(changed[at]);
             if (stage.form.composes) {
                 unlinked.add(changed[at]);
             }
@@ -504,11 +504,11 @@ final class RowView {
     }
 
     /** The place of the payload of the first of these stages that ended so, or 0. */
-    private int failedOf(int[] of, int kind) {
+    private int failedPlace(int[] of, int kind) {
         for (int source : of) {
-            Known stage = stages.get(source);
-            if (stage.settled > 0 && stage.outcome[0] == kind) {
-                return stage.failed;
+            StageState stage = stages.get(source);
+            if (stage.settledPlace > 0 && stage.outcome[0] == kind) {
+                return stage.failedPlace;
             }
         }
         return 0;
@@ -516,10 +516,10 @@ final class RowView {
 
     private void makeRoom(int least) {
         int many = stages.size();
-        if (many + least <= planned + room) {
+        if (many + least <= plannedStages + room) {
             return;
         }
-        for (int more = Math.min(3 * many + least, MOST_STAGES - planned - room); more >= least; more /= 2) {
+        for (int more = Math.min(3 * many + least, MOST_STAGES - plannedStages - room); more >= least; more /= 2) {
             if (row.grow(more)) {
                 room += more;
                 return;
@@ -531,28 +531,29 @@ final class RowView {
     // What the row's numbers stand for.
 
     /** What is said of a stage: its name, and its function's name and version. */
-    StoredPlan.Said said(int number) {
-        Known stage = stages.get(number);
-        if (stage.said == null) {
-            stage.said = reading(stage.attached, stage.payload, payload -> new StoredPlan.Said((Map<?, ?>) Json.read(payload), number));
+    StoredPlan.StageSpec spec(int number) {
+        StageState stage = stages.get(number);
+        if (stage.spec == null) {
+            stage.spec = readPayload(stage.attachPlace, stage.payload, payload -> new StoredPlan.StageSpec((Map<?, ?>) Json.read(payload), number));
             stage.payload = null;
         }
-        return stage.said;
+        return stage.spec;
     }
 
     /** The stage whose function a further try calls, or -1 where a stage isn't one. */
-    int triedAgain(int stage) {
+    int retriedStage(int stage) {
         int first = -1;
-        for (int again = said(stage).again; again >= 0; again = said(again).again) {
+        for (int again = spec(stage).retriedStage; again >= 0; again = spec(again).retriedStage) {
             first = again;
         }
         return first;
     }
 
     /** The first attached stage of this form and these sources of which as much is said and which isn't left out, or -1. */
-    int attached(Form form, int[] of, StoredPlan.Said said, Set<Integer> leftOut) {
-        for (int stage = planned; stage < stages.size(); stage++) {
-            if (stages.get(stage).form == form && Arrays.equals(stages.get(stage).of, of) && !leftOut.contains(stage) && said(stage).isAlike(said)) {
+    int findAttached(Form form, int[] of, StoredPlan.StageSpec spec, Set<Integer> leftOut) {
+        for (int stage = plannedStages; stage < stages.size(); stage++) {
+            if (stages.get(stage).form == form && Arrays.equals(stages.get(stage).sources, of) && !leftOut.contains(stage)
+                    && spec(stage).isAlike(spec)) {
                 return stage;
             }
         }
@@ -561,23 +562,23 @@ final class RowView {
 
     /** Whether the steps of a flow up to this one are those of the plan that the request was begun with. */
     boolean hasSteps(StoredFlow flow, int last) {
-        alike = flow == alikeTo ? alike : 0;
-        alikeTo = flow;
-        while (alike <= last && flow.hasStep(alike, plan)) {
-            alike++;
+        alikeSteps = flow == alikeFlow ? alikeSteps : 0;
+        alikeFlow = flow;
+        while (alikeSteps <= last && flow.hasStep(alikeSteps, plan)) {
+            alikeSteps++;
         }
-        return alike > last;
+        return alikeSteps > last;
     }
 
     /** What of the context of the place where a stage was attached goes along with its function. */
-    Map<String, Object> carried(int stage) {
-        return stage < planned ? plan.carried : said(stage).carried;
+    Map<String, Object> context(int stage) {
+        return stage < plannedStages ? plan.context : spec(stage).context;
     }
 
     /** All that is seen, to be told. What payloads say is read later. */
     Facts facts() {
-        int[] attached = stages.subList(planned, stages.size()).stream().mapToInt(it -> it.attached).toArray();
-        return new Facts(this, Arrays.copyOf(words, seen), Arrays.copyOf(sessions, seen), attached);
+        int[] attached = stages.subList(plannedStages, stages.size()).stream().mapToInt(it -> it.attachPlace).toArray();
+        return new Facts(this, Arrays.copyOf(words, wordCount), Arrays.copyOf(sessions, wordCount), attached);
     }
 
     /** What was seen of a row until some moment, which any thread may read. */
@@ -587,7 +588,7 @@ final class RowView {
         private final Store.Opened opened;
         private final StoredPlan plan;
         private final long[] words, sessions;
-        private final int[] attached;
+        private final int[] attachPlaces;
 
         Facts(RowView view, long[] words, long[] sessions, int[] attached) {
             store = view.store;
@@ -596,12 +597,12 @@ final class RowView {
             plan = view.plan;
             this.words = words;
             this.sessions = sessions;
-            this.attached = attached;
+            this.attachPlaces = attached;
         }
 
         /** What went along from the context of the place where the request was begun. */
-        Map<String, Object> carried() {
-            return plan.carried;
+        Map<String, Object> context() {
+            return plan.context;
         }
 
         /** It reads all payloads. */
@@ -611,24 +612,24 @@ final class RowView {
             Arrays.fill(errors, "");
             for (int k = 0; k < words.length; k++) {
                 int kind = Words.kind(words[k]), tag = Words.tag(words[k]);
-                if (kind == Words.FAIL || Words.throwing(words[k])) {
-                    RemoteException thrown = RemoteException.read(read(k + 1));
-                    errors[k + 1] = Text.of(describe, describe == Describe.ALL ? thrown.getMessage() : thrown); // (without the name of its class)
+                if (kind == Words.FAIL || Words.isThrowing(words[k])) {
+                    RemoteException thrown = RemoteException.fromMap(read(k + 1));
+                    errors[k + 1] = Text.describe(describe, describe == Describe.ALL ? thrown.getMessage() : thrown); // (without its class)
                 } else if ((kind == Words.COMPLETE || kind == Words.FINISH) && tag == 1) {
-                    values[k + 1] = Text.of(describe, read(k + 1));
+                    values[k + 1] = Text.describe(describe, read(k + 1));
                 }
             }
-            String[] names = new String[plan.said.size() + attached.length];
+            String[] names = new String[plan.specs.size() + attachPlaces.length];
             for (int k = 0; k < names.length; k++) {
-                int stage = k, place = k < plan.said.size() ? 0 : attached[k - plan.said.size()];
-                names[k] = place == 0 ? plan.said.get(k).name : new StoredPlan.Said((Map<?, ?>) read(place), stage).name;
+                int stage = k, place = k < plan.specs.size() ? 0 : attachPlaces[k - plan.specs.size()];
+                names[k] = place == 0 ? plan.specs.get(k).name : new StoredPlan.StageSpec((Map<?, ?>) read(place), stage).name;
             }
-            Map<Long, String> named = sure(host, () -> store.sessionNames(opened.name, opened.number));
-            return new StoredHistory(opened.name, plan.rows, attached.length, words, sessions, names, values, errors, named);
+            Map<Long, String> named = retryingForAMinute(host, () -> store.sessionNames(opened.name, opened.number));
+            return new StoredHistory(opened.name, plan.rows, attachPlaces.length, words, sessions, names, values, errors, named);
         }
 
         private Object read(int place) {
-            byte[] payload = sure(host, () -> store.payload(opened.name, opened.number, place));
+            byte[] payload = retryingForAMinute(host, () -> store.payload(opened.name, opened.number, place));
             try {
                 return Json.read(payload);
             } catch (IllegalArgumentException | NullPointerException fault) {
@@ -637,28 +638,28 @@ final class RowView {
         }
     }
 
-    private interface Reading<T> {
-        T of(byte[] payload);
+    private interface PayloadReader<T> {
+        T read(byte[] payload);
     }
 
-    private <T> T reading(int place, Reading<T> reading) {
-        return reading(place, null, reading);
+    private <T> T readPayload(int place, PayloadReader<T> reading) {
+        return readPayload(place, null, reading);
     }
 
-    /** What the payload of a place says, which is asked for where it isn't known. */
-    private <T> T reading(int place, byte[] known, Reading<T> reading) {
-        return read(opened, place, known == null ? payloadIfAny(place) : known, reading);
+    /** Reads the payload of a place, which the store is asked for where it isn't known. */
+    private <T> T readPayload(int place, byte[] known, PayloadReader<T> reading) {
+        return readPayload(opened, place, known == null ? payloadIfAny(place) : known, reading);
     }
 
-    private static <T> T read(Store.Opened opened, int place, byte[] payload, Reading<T> reading) {
+    private static <T> T readPayload(Store.Opened opened, int place, byte[] payload, PayloadReader<T> reading) {
         try {
-            return reading.of(there(opened, place, payload));
+            return reading.read(requirePayload(opened, place, payload));
         } catch (IllegalArgumentException | ClassCastException | NullPointerException fault) {
             throw new StoreException.Broken(opened.name, place, "its payload can't be read: " + fault.getMessage());
         }
     }
 
-    private static byte[] there(Store.Opened opened, int place, byte[] payload) {
+    private static byte[] requirePayload(Store.Opened opened, int place, byte[] payload) {
         if (payload == null) {
             throw new StoreException.Broken(opened.name, place, "no payload is there, and a word names it");
         }
@@ -666,38 +667,38 @@ final class RowView {
     }
 
     private byte[] payloadIfAny(int place) {
-        byte[] mine = own.get(place);
-        return mine != null || place == 0 ? mine : sure(host, () -> store.payload(opened.name, opened.number, place));
+        byte[] mine = ownPayloads.get(place);
+        return mine != null || place == 0 ? mine : retryingForAMinute(host, () -> store.payload(opened.name, opened.number, place));
     }
 
     private byte[] payload(int place) {
-        return there(opened, place, payloadIfAny(place));
+        return requirePayload(opened, place, payloadIfAny(place));
     }
 
     /** The value of a kind and a number. */
     Object value(int some, int place) {
-        return some == 0 ? null : reading(place, Json::read);
+        return some == 0 ? null : readPayload(place, Json::read);
     }
 
     /** The exception of an outcome that one of these stages has, or null where it is a value. */
     Throwable fault(int[] outcome, int... of) {
-        int place = outcome[0] == Row.VALUE ? 0 : placeOf(outcome, of);
-        return place == 0 ? fault(outcome[0], null) : reading(place, payload -> fault(outcome[0], payload));
+        int place = outcome[0] == NativeRow.VALUE ? 0 : payloadPlace(outcome, of);
+        return place == 0 ? fault(outcome[0], null) : readPayload(place, payload -> fault(outcome[0], payload));
     }
 
     Object value(int[] outcome) {
-        return value(outcome[Row.SOME], outcome[Row.GIVEN]);
+        return value(outcome[NativeRow.SOME], outcome[NativeRow.GIVEN]);
     }
 
     /** The place of the payload that says more of an outcome which one of these stages has, or 0. */
-    private int placeOf(int[] outcome, int... of) {
+    private int payloadPlace(int[] outcome, int... of) {
         switch (outcome[0]) {
-            case Row.VALUE:
-                return outcome[Row.SOME] == 0 ? 0 : outcome[Row.GIVEN];
-            case Row.THROWN:
-                return outcome[Row.CODE];
-            case Row.TIMED_OUT:
-                return failedOf(of, Row.TIMED_OUT);
+            case NativeRow.VALUE:
+                return outcome[NativeRow.SOME] == 0 ? 0 : outcome[NativeRow.GIVEN];
+            case NativeRow.THROWN:
+                return outcome[NativeRow.CODE];
+            case NativeRow.TIMED_OUT:
+                return failedPlace(of, NativeRow.TIMED_OUT);
             default:
                 return 0;
         }
@@ -706,34 +707,34 @@ final class RowView {
     /** The exception of an outcome of a kind, by its payload if it has one; or null where it is a value. */
     private static Throwable fault(int kind, byte[] payload) {
         switch (kind) {
-            case Row.VALUE:
+            case NativeRow.VALUE:
                 return null;
-            case Row.THROWN:
-                return RemoteException.read(Json.read(payload));
-            case Row.CANCELLED:
+            case NativeRow.THROWN:
+                return RemoteException.fromMap(Json.read(payload));
+            case NativeRow.CANCELLED:
                 return new CancellationException();
-            case Row.TIMED_OUT:
-                return new TimeoutException(payload == null ? null : RemoteException.read(Json.read(payload)).text());
+            case NativeRow.TIMED_OUT:
+                return new TimeoutException(payload == null ? null : RemoteException.fromMap(Json.read(payload)).text());
             default:
                 return new IllegalStateException("a stage waits for one for which it can't");
         }
     }
 
     /** How a settled stage ended. */
-    Ended ended(int stage) {
+    Ending ending(int stage) {
         int[] outcome = outcome(stage);
-        int place = placeOf(outcome, stage);
-        return new Ended(this, outcome[0], place, own.get(place));
+        int place = payloadPlace(outcome, stage);
+        return new Ending(this, outcome[0], place, ownPayloads.get(place));
     }
 
     /** How a stage ended. Any thread may read it, which asks the store at most once for each of both. */
-    static final class Ended {
+    static final class Ending {
         private final Store store;
         private final Store.Opened opened;
         private final int kind, place;
         private final byte[] payload;
 
-        Ended(RowView view, int kind, int place, byte[] payload) {
+        Ending(RowView view, int kind, int place, byte[] payload) {
             store = view.store;
             opened = view.opened;
             this.kind = kind;
@@ -743,7 +744,7 @@ final class RowView {
 
         /** Its exception, or null where it is a value. */
         Throwable fault() {
-            return kind == Row.VALUE || place == 0 ? RowView.fault(kind, null) : read(given -> RowView.fault(kind, given));
+            return kind == NativeRow.VALUE || place == 0 ? RowView.fault(kind, null) : read(given -> RowView.fault(kind, given));
         }
 
         /** Its value. */
@@ -751,8 +752,8 @@ final class RowView {
             return place == 0 ? null : read(Json::read);
         }
 
-        private <T> T read(Reading<T> reading) {
-            return RowView.read(opened, place, payload == null ? store.payload(opened.name, opened.number, place) : payload, reading);
+        private <T> T read(PayloadReader<T> reading) {
+            return RowView.readPayload(opened, place, payload == null ? store.payload(opened.name, opened.number, place) : payload, reading);
         }
     }
 
@@ -767,11 +768,11 @@ final class RowView {
      * The next word that has a promise of a composing stage end as the stage does that its function gave, or cancels it where nobody waits for it;
      * or null.
      */
-    Wanted relay() {
+    WantedWord relayWord() {
         for (int stage : new ArrayList<>(unlinked)) {
-            int promise = Math.max(said(stage).to, -1);
+            int promise = Math.max(spec(stage).promise, -1);
             if (promise >= 0 && !links.containsKey(promise) && !isSettled(promise)) {
-                return new Wanted(Words.cancel(0, promise), null);
+                return new WantedWord(Words.cancel(0, promise), null);
             }
             unlinked.remove(stage);
         }
@@ -781,7 +782,7 @@ final class RowView {
                 links.remove(promise);
                 continue;
             }
-            int given = reading(link.getValue(), payload -> {
+            int given = readPayload(link.getValue(), payload -> {
                 int stage = Math.toIntExact((Long) ((Map<?, ?>) Json.read(payload)).get("stage"));
                 if (stage < 0 || stage >= stages.size()) {
                     throw new IllegalArgumentException("there is no stage " + stage);
@@ -789,33 +790,33 @@ final class RowView {
                 return stage;
             });
             if (isSettled(given)) {
-                return alike(promise, given);
+                return copyingWord(promise, given);
             }
         }
         return null;
     }
 
     /** The word that settles a promise as a stage is. */
-    private Wanted alike(int promise, int given) {
+    private WantedWord copyingWord(int promise, int given) {
         int[] outcome = outcome(given);
-        int failed = stages.get(given).failed;
+        int failed = stages.get(given).failedPlace;
         switch (outcome[0]) {
-            case Row.VALUE:
-                return new Wanted(Words.complete(0, promise, Words.NIL), outcome[Row.SOME] == 0 ? null : payload(outcome[Row.GIVEN]));
-            case Row.THROWN:
-                return new Wanted(Words.fail(0, promise, 0), payload(outcome[Row.CODE]));
-            case Row.CANCELLED:
-                return outcome[Row.WRAPPED] == 0 ? new Wanted(Words.cancel(0, promise), null)
-                        : new Wanted(Words.fail(0, promise, 0), Json.write(new RemoteException("CancelledError", "").written()));
-            case Row.TIMED_OUT:
-                return new Wanted(Words.failAs(0, promise, Words.TIMED_OUT), payloadIfAny(failed));
+            case NativeRow.VALUE:
+                return new WantedWord(Words.complete(0, promise, Words.NIL), outcome[NativeRow.SOME] == 0 ? null : payload(outcome[NativeRow.GIVEN]));
+            case NativeRow.THROWN:
+                return new WantedWord(Words.fail(0, promise, 0), payload(outcome[NativeRow.CODE]));
+            case NativeRow.CANCELLED:
+                return outcome[NativeRow.WRAPPED] == 0 ? new WantedWord(Words.cancel(0, promise), null)
+                        : new WantedWord(Words.fail(0, promise, 0), Json.write(new RemoteException("CancelledError", "").toMap()));
+            case NativeRow.TIMED_OUT:
+                return new WantedWord(Words.failAs(0, promise, Words.TIMED_OUT), payloadIfAny(failed));
             default:
-                return new Wanted(Words.failAs(0, promise, Words.BAD_ANSWER), payloadIfAny(failed));
+                return new WantedWord(Words.failAs(0, promise, Words.BAD_ANSWER), payloadIfAny(failed));
         }
     }
 
-    /** What the store answers to a call that may be made again, whatever became of it before. */
-    static <T> T sure(Host host, Callable<T> call) {
+    /** Makes a call again for up to a minute while the store is silent, and gives its answer. The call may be made again whatever became of it. */
+    static <T> T retryingForAMinute(Host host, Callable<T> call) {
         long until = host.nanoTime() + PATIENCE;
         for (long pause = 10;; pause = Math.min(pause * 2, 500)) {
             try {

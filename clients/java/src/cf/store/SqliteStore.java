@@ -48,10 +48,10 @@ final class SqliteStore extends JdbcStore {
     /** The file, or none where it is in memory; and whether this thread has a transaction of a function's open there. */
     private final String path;
     private final Line line;
-    private final ThreadLocal<Boolean> within = new ThreadLocal<>();
+    private final ThreadLocal<Boolean> inFunction = new ThreadLocal<>();
     /** What threads want to put, and that of the one that puts for all, which the queue's lock guards. */
-    private final ConcurrentLinkedQueue<Waiting> waiting = new ConcurrentLinkedQueue<>();
-    private Waiting leader;
+    private final ConcurrentLinkedQueue<WaitingPut> waiting = new ConcurrentLinkedQueue<>();
+    private WaitingPut leader;
     /** How many commits have put words; the turn guards it. */
     int commits;
 
@@ -63,41 +63,41 @@ final class SqliteStore extends JdbcStore {
     }
 
     private void refuseWithin() {
-        if (within.get() != null) {
+        if (inFunction.get() != null) {
             throw new StoreException(path + ": a transactional function can't put: its own transaction has the file");
         }
     }
 
     @Override
-    void take() {
+    void takeTurn() {
         refuseWithin();
         if (line != null) {
-            line.take(LONGEST_WAIT);
+            line.lockWithin(LONGEST_WAIT);
         }
     }
 
     @Override
-    void give() {
+    void giveTurn() {
         if (line != null) {
-            line.give();
+            line.unlockTurn();
         }
     }
 
     @Override
-    public boolean locksOut() {
+    public boolean locksOutOthers() {
         return true;
     }
 
     @Override
     public Transaction transaction() {
-        Transaction made = new Within() {
+        Transaction made = new FunctionTransaction() {
             @Override
             public void close() {
-                within.remove();
+                inFunction.remove();
                 super.close();
             }
         };
-        within.set(true);
+        inFunction.set(true);
         return made;
     }
 
@@ -112,13 +112,13 @@ final class SqliteStore extends JdbcStore {
     }
 
     @Override
-    boolean undoes(PreparedConnection db) {
+    boolean rollBackToFunction(PreparedConnection db) {
         return false;
     }
 
     @Override
     void setUp() {
-        within(db -> {
+        inOwnTransaction(db -> {
             for (String statement : SCHEMA) {
                 db.execute(statement);
             }
@@ -147,41 +147,41 @@ final class SqliteStore extends JdbcStore {
     }
 
     @Override
-    String clock() {
+    String clockSql() {
         return "(julianday('now') - 2440587.5) * 86400.0";
     }
 
     /** A put that waits for the file, and what became of it, which the lock of {@link #waiting} guards. */
-    private static final class Waiting {
+    private static final class WaitingPut {
         final Put put;
         boolean isDone, landed;
         RuntimeException refused;
 
-        Waiting(Put put) {
+        WaitingPut(Put put) {
             this.put = put;
         }
     }
 
     /** One thread puts for all: it takes its turn, and commits at once what they want to put by then. */
     @Override
-    boolean puts(Put put) {
+    boolean putOnConnection(Put put) {
         refuseWithin();
-        Waiting its = new Waiting(put);
+        WaitingPut its = new WaitingPut(put);
         waiting.add(its);
         try {
-            if (leads(its)) {
-                take();
+            if (becomesLeader(its)) {
+                takeTurn();
                 try {
                     while (!its.isDone) {
-                        putAll(next());
+                        putAll(nextGroup());
                     }
                 } finally {
-                    give();
+                    giveTurn();
                 }
             }
         } finally {
             waiting.remove(its); // (where it isn't there although its thread gives up, it may stand: so {@code Unknown} is right)
-            follow(its);
+            awaitLeader(its);
         }
         if (its.refused != null) {
             throw its.refused;
@@ -190,7 +190,7 @@ final class SqliteStore extends JdbcStore {
     }
 
     /** Waits until another thread has put it, or this one is to put for all. {@code Unknown} where that takes too long. */
-    private boolean leads(Waiting its) {
+    private boolean becomesLeader(WaitingPut its) {
         long until = System.nanoTime() + TimeUnit.SECONDS.toNanos(LONGEST_WAIT);
         synchronized (waiting) {
             while (!its.isDone && leader != null) {
@@ -211,7 +211,7 @@ final class SqliteStore extends JdbcStore {
     }
 
     /** Lets the next one lead, if this one has. */
-    private void follow(Waiting its) {
+    private void awaitLeader(WaitingPut its) {
         synchronized (waiting) {
             if (leader == its) {
                 leader = null;
@@ -221,10 +221,10 @@ final class SqliteStore extends JdbcStore {
     }
 
     /** The puts that are committed next: some of one statement each, or one that isn't. */
-    private List<Waiting> next() {
-        List<Waiting> next = new ArrayList<>();
-        for (Waiting it = waiting.peek(); it != null && next.size() < MOST_AT_ONCE; it = waiting.peek()) {
-            boolean isLarge = !large(it.put).isEmpty();
+    private List<WaitingPut> nextGroup() {
+        List<WaitingPut> next = new ArrayList<>();
+        for (WaitingPut it = waiting.peek(); it != null && next.size() < MOST_AT_ONCE; it = waiting.peek()) {
+            boolean isLarge = !largePayloads(it.put).isEmpty();
             if (isLarge && !next.isEmpty()) {
                 break;
             }
@@ -239,20 +239,20 @@ final class SqliteStore extends JdbcStore {
     }
 
     /** How many puts wait for the file. */
-    int waits() {
+    int waitingPuts() {
         return waiting.size();
     }
 
-    private void putAll(List<Waiting> all) {
-        Act<Void> act = db -> {
-            for (Waiting it : all) {
-                it.landed = landed(db, it);
+    private void putAll(List<WaitingPut> all) {
+        Action<Void> act = db -> {
+            for (WaitingPut it : all) {
+                it.landed = putWaiting(db, it);
             }
             return null;
         };
         try {
-            boolean isOneStatement = all.size() == 1 && large(all.get(0).put).isEmpty() && !all.get(0).put.opens;
-            using(isOneStatement ? act : inTransaction(act));
+            boolean isOneStatement = all.size() == 1 && largePayloads(all.get(0).put).isEmpty() && !all.get(0).put.opens;
+            withConnection(isOneStatement ? act : inTransaction(act));
             commits++;
         } catch (RuntimeException | Error fault) {
             RuntimeException told = fault instanceof RuntimeException ? (RuntimeException) fault
@@ -267,14 +267,14 @@ final class SqliteStore extends JdbcStore {
     }
 
     /** What is refused of one of several leaves the others alone, unless the engine is away. */
-    private boolean landed(PreparedConnection db, Waiting it) throws SQLException {
+    private boolean putWaiting(PreparedConnection db, WaitingPut it) throws SQLException {
         try {
             return put(db, it.put);
         } catch (SQLException error) {
-            if (isAway(error) || !large(it.put).isEmpty()) {
+            if (isAway(error) || !largePayloads(it.put).isEmpty()) {
                 throw error;
             }
-            it.refused = isTaken(error) ? null : told(error);
+            it.refused = isTaken(error) ? null : toStoreException(error);
             return false;
         }
     }
@@ -282,12 +282,12 @@ final class SqliteStore extends JdbcStore {
     @Override
     boolean put(PreparedConnection db, Put put) throws SQLException {
         if (!put.opens) {
-            return words(db, put);
+            return putWords(db, put);
         }
         db.execute("savepoint cf_opens"); // (where the request can't be opened again, the words don't stand)
         boolean landed = false;
         try {
-            landed = words(db, put) && db.change("update cf_request set closed = null where id = ? and closed is not null", put.number) >= 0;
+            landed = putWords(db, put) && db.change("update cf_request set closed = null where id = ? and closed is not null", put.number) >= 0;
         } finally {
             if (!landed) {
                 db.execute("rollback to cf_opens");
@@ -297,16 +297,16 @@ final class SqliteStore extends JdbcStore {
         return landed;
     }
 
-    private boolean words(PreparedConnection db, Put put) throws SQLException {
+    private boolean putWords(PreparedConnection db, Put put) throws SQLException {
         boolean landed = putAtOnce(db, put, SMALL);
-        for (int place : landed ? large(put) : Collections.<Integer>emptyList()) {
+        for (int place : landed ? largePayloads(put) : Collections.<Integer>emptyList()) {
             db.change("insert into cf_large (request, place, payload) values (?, ?, ?)", put.number, place, put.payloads.get(place));
         }
         return landed;
     }
 
     /** The places of payloads that don't stand beside their words. */
-    private static List<Integer> large(Put put) {
+    private static List<Integer> largePayloads(Put put) {
         List<Integer> large = Collections.emptyList();
         for (Map.Entry<Integer, byte[]> it : put.payloads.entrySet()) {
             if (it.getValue().length > SMALL) {
@@ -318,7 +318,7 @@ final class SqliteStore extends JdbcStore {
     }
 
     @Override
-    String there() {
+    String requestSql() {
         return "(select id from cf_request where id = ?) as there";
     }
 
@@ -328,17 +328,17 @@ final class SqliteStore extends JdbcStore {
     }
 
     @Override
-    void hasPut() {}
+    void notePut() {}
 
     @Override
     public byte[] payload(String name, long number, int place) {
-        List<byte[]> found = ask("select payload from cf_word where request = ? and at = ?", row -> row.getBytes(1), number, place - 1);
+        List<byte[]> found = query("select payload from cf_word where request = ? and at = ?", row -> row.getBytes(1), number, place - 1);
         if (found.isEmpty()) {
-            isThere(name, number);
+            checkPresent(name, number);
             return null;
         }
         if (found.get(0) == null) {
-            found = ask("select payload from cf_large where request = ? and place = ?", row -> row.getBytes(1), number, place);
+            found = query("select payload from cf_large where request = ? and place = ?", row -> row.getBytes(1), number, place);
         }
         return found.isEmpty() ? null : found.get(0);
     }
@@ -349,7 +349,7 @@ final class SqliteStore extends JdbcStore {
         // what was put by then is told without a mark.
         long[] since = mark == null ? new long[] {Long.MAX_VALUE, Long.MAX_VALUE} : (long[]) mark, at = new long[2];
         Map<String, Integer> ends = new HashMap<>();
-        ask(NEWS, row -> {
+        query(NEWS, row -> {
             String name = row.getString(1);
             if (name == null) {
                 at[0] = row.getLong(2);
@@ -359,13 +359,13 @@ final class SqliteStore extends JdbcStore {
             return ends.merge(name, row.getInt(2), Math::max);
         }, since[1], since[0]);
         if (mark == null || at[0] < since[0]) {
-            tell(ends, ask(ENDS, JdbcStore::end));
+            addEnds(ends, query(ENDS, JdbcStore::readEnd));
         }
         return new News(ends, at);
     }
 
     @Override
-    public void changed(long millis) throws InterruptedException {
+    public void awaitChange(long millis) throws InterruptedException {
         long until = System.nanoTime() + millis * 1_000_000;
         while (true) {
             Thread.sleep(1); // (first: where words come all the time, who waits for them looks no more often)
@@ -381,15 +381,15 @@ final class SqliteStore extends JdbcStore {
                 }
             } catch (SQLException error) {
                 watch = null;
-                throw told(error);
+                throw toStoreException(error);
             }
         }
     }
 
     @Override
     public boolean end(String name, long number, int at) {
-        boolean closes = within(db -> {
-            boolean closed = db.change("update cf_request set closed = " + clock() + " where id = ? and closed is null and "
+        boolean closes = inOwnTransaction(db -> {
+            boolean closed = db.change("update cf_request set closed = " + clockSql() + " where id = ? and closed is null and "
                     + "(select coalesce(max(at) + 1, 0) from cf_word where request = id) = ?", number, at) == 1;
             for (String table : closed ? new String[] {"cf_timer", "cf_glance"} : new String[0]) {
                 db.change("delete from " + table + " where request = ?", number);
@@ -397,7 +397,7 @@ final class SqliteStore extends JdbcStore {
             return closed;
         });
         if (!closes) {
-            isThere(name, number);
+            checkPresent(name, number);
         }
         return closes;
     }

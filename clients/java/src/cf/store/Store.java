@@ -19,7 +19,7 @@ public interface Store extends AutoCloseable {
     /** A request as it was opened, or null. */
     Opened find(String name);
 
-    /** Puts entries: null where they stand now, else what stands from their first place on. */
+    /** Puts entries: null where they stand now, else the entries that stand from their first place on. */
     List<Entry> append(Put put);
 
     /** The entries behind {@code at} of them. A stale answer is a shorter one. */
@@ -35,7 +35,7 @@ public interface Store extends AutoCloseable {
     News news(Object mark);
 
     /** Waits until something may have been put, for so many milliseconds at most. One thread at a time waits so. */
-    void changed(long millis) throws InterruptedException;
+    void awaitChange(long millis) throws InterruptedException;
 
     /**
      * Marks a request as closed, where it has just so many words, and forgets its timers. Whether this call has closed it. A put that
@@ -52,7 +52,7 @@ public interface Store extends AutoCloseable {
     /** Forgets a session that has ended. */
     void dropBeat(long session);
 
-    /** Says what a session is called, as long as its beats are kept. */
+    /** Names a session, as long as its beats are kept. */
     void nameSession(long session, String name);
 
     /** The store's clock, in seconds since 1970. */
@@ -68,8 +68,8 @@ public interface Store extends AutoCloseable {
         return false;
     }
 
-    /** Whether nobody else can put while a transaction is open. */
-    default boolean locksOut() {
+    /** Whether an open transaction keeps all others from putting. */
+    default boolean locksOutOthers() {
         return false;
     }
 
@@ -82,7 +82,7 @@ public interface Store extends AutoCloseable {
     void setTimer(Timer timer);
 
     /** The timers of moments up to this one. */
-    List<Timer> due(double now);
+    List<Timer> dueTimers(double now);
 
     /** Forgets a stage's timer. */
     void dropTimer(Timer timer);
@@ -92,7 +92,7 @@ public interface Store extends AutoCloseable {
 
     /** A transaction of an engine. Closing it undoes what isn't committed. */
     interface Transaction extends AutoCloseable {
-        /** What a function is called with. */
+        /** The connection that a function is called with. */
         Connection connection();
 
         /** Whether the connection is gone, or the engine can't write now, once what a function threw may be due to that. All is undone. */
@@ -238,7 +238,7 @@ public interface Store extends AutoCloseable {
     }
 
     /**
-     * What is to become of a stage at a moment, unless it is settled by then. The payload is a letter and bytes: {@code E} and an error for a
+     * The outcome that a stage gets at a moment, unless it is settled by then. The payload is a letter and bytes: {@code E} and an error for a
      * stage that times out, {@code V} and a value, or {@code N} for null.
      */
     final class Timer {
@@ -277,7 +277,7 @@ public interface Store extends AutoCloseable {
             return due;
         }
 
-        /** What is to become of the stage. */
+        /** The outcome that the stage gets. */
         public byte[] payload() {
             return payload.clone();
         }

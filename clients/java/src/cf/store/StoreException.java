@@ -1,6 +1,6 @@
 package cf.store;
 
-/** What a store, or a row in it, refuses. */
+/** A refusal of a store, or of a row in it. */
 public class StoreException extends RuntimeException {
     private static final long serialVersionUID = 1;
 

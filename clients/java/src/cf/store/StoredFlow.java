@@ -98,7 +98,7 @@ public final class StoredFlow {
         return step;
     }
 
-    /** A step that somebody completes: the arguments of {@link StoreService#start} are for the promises, in their order. */
+    /** A step without a function. The arguments of {@link StoreService#start} are for the promises, in their order. */
     public Step promise(String name) {
         Step step = add(Form.SOURCE, name);
         promises.add(step);
@@ -144,7 +144,7 @@ public final class StoredFlow {
     boolean hasStep(int number, StoredPlan plan) {
         Map<String, Object> step = stages.get(number);
         return name.equals(plan.flow) && number < plan.forms.size() && plan.forms.get(number).text.equals(step.get("form"))
-                && plan.said.get(number).name.equals(step.get("name"))
+                && plan.specs.get(number).name.equals(step.get("name"))
                 && Arrays.stream(plan.sources.get(number)).boxed().collect(Collectors.toList()).equals(step.get("of"));
     }
 
@@ -158,7 +158,7 @@ public final class StoredFlow {
         for (Map<String, Object> stage : stages) {
             Map<String, Object> said = new LinkedHashMap<>(stage);
             if (said.containsKey("fn")) {
-                said.put("version", functions.latest((String) said.get("fn"), false));
+                said.put("version", functions.latestVersion((String) said.get("fn"), false));
             }
             all.add(said);
         }
@@ -167,10 +167,10 @@ public final class StoredFlow {
 
     /** Whether two texts are of one plan, wherever each was begun. */
     static boolean areAlike(String text, String other) {
-        return text.equals(other) || bare(text).equals(bare(other));
+        return text.equals(other) || withoutContext(text).equals(withoutContext(other));
     }
 
-    private static Object bare(String text) {
+    private static Object withoutContext(String text) {
         try {
             Map<?, ?> read = (Map<?, ?>) Json.read(text.getBytes(StandardCharsets.UTF_8));
             read.remove("context");

@@ -1,7 +1,7 @@
 package cf.store;
 
 import cf.internal.Tale;
-import cf.internal.Telling;
+import cf.internal.Teller;
 import cf.internal.Words;
 import cf.service.RequestHistory;
 import java.util.ArrayList;
@@ -13,7 +13,7 @@ import java.util.TreeMap;
 import java.util.stream.Collectors;
 import java.util.stream.IntStream;
 
-/** What happened to a request in a store, as the row tells it. A row has no times. */
+/** The history of a request in a store, by its row. A row has no times. */
 public final class StoredHistory extends RequestHistory {
     private final String name;
     private final long[] words;
@@ -44,17 +44,17 @@ public final class StoredHistory extends RequestHistory {
         Map<Integer, Long> first = new TreeMap<>();
         boolean isShared = false;
         for (int k = 0; k < words.length; k++) {
-            isShared |= first.computeIfAbsent(Words.who(words[k]), one(sessions[k])) != sessions[k];
+            isShared |= first.computeIfAbsent(Words.caller(words[k]), toSession(sessions[k])) != sessions[k];
         }
-        return isShared ? bySessions(account) : account;
+        return isShared ? splitBySession(account) : account;
     }
 
-    private static java.util.function.Function<Integer, Long> one(long session) {
+    private static java.util.function.Function<Integer, Long> toSession(long session) {
         return who -> session;
     }
 
     @SuppressWarnings("unchecked")
-    private String bySessions(String account) {
+    private String splitBySession(String account) {
         Map<String, Object> read = (Map<String, Object>) Json.read(account.getBytes(java.nio.charset.StandardCharsets.UTF_8));
         List<Object> callers = new ArrayList<>();
         for (Object records : (List<?>) read.get("callers")) {
@@ -77,25 +77,25 @@ public final class StoredHistory extends RequestHistory {
 
     /** @hidden */
     @Override
-    protected Telling telling() {
-        return new Telling(name, words) {
+    protected Teller teller() {
+        return new Teller(name, words) {
             @Override
-            protected Tale tale(Tale.Kind kind) {
+            protected Tale newTale(Tale.Format kind) {
                 return new Tale(rows, attached, words);
             }
 
             @Override
-            protected void says(Tale tale) {
-                tale.say(Tale.Said.STAGES, names);
-                tale.say(Tale.Said.CALLERS, callers(words));
-                tale.say(Tale.Said.VALUES, values);
-                tale.say(Tale.Said.ERRORS, errors);
+            protected void addLabels(Tale tale) {
+                tale.setLabels(Tale.Label.STAGES, names);
+                tale.setLabels(Tale.Label.CALLERS, callerNames(words));
+                tale.setLabels(Tale.Label.VALUES, values);
+                tale.setLabels(Tale.Label.ERRORS, errors);
             }
 
             /** All the names that sessions of its number have, or the number. */
             @Override
-            protected String who(int who) {
-                String names = IntStream.range(0, words.length).filter(k -> Words.who(words[k]) == who).mapToObj(k -> named.get(sessions[k]))
+            protected String callerName(int who) {
+                String names = IntStream.range(0, words.length).filter(k -> Words.caller(words[k]) == who).mapToObj(k -> named.get(sessions[k]))
                         .filter(Objects::nonNull).distinct().collect(Collectors.joining(" or "));
                 return names.isEmpty() ? "session " + who : names;
             }

@@ -19,11 +19,11 @@ final class StoredPlan {
     /** Form and sources of each stage, and what is said of it. */
     final List<Form> forms = new ArrayList<>();
     final List<int[]> sources = new ArrayList<>();
-    final List<Said> said = new ArrayList<>();
+    final List<StageSpec> specs = new ArrayList<>();
     /** The same for the library, as {@link Native#plan} has it. */
     final int[] rows;
     /** What of the context goes along with the functions of these stages. */
-    final Map<String, Object> carried;
+    final Map<String, Object> context;
 
     /** The text of a flow's plan, or of one without stages, with what is to go along with its functions. */
     static String text(String flow, List<?> stages, Map<String, ?> carried) {
@@ -50,7 +50,7 @@ final class StoredPlan {
                 add((Map<?, ?>) it, numbers);
             }
             rows = numbers.stream().mapToInt(Integer::intValue).toArray();
-            carried = named(read.get("context"));
+            context = toArguments(read.get("context"));
         } catch (IllegalArgumentException | ClassCastException | NullPointerException fault) {
             throw new StoreException.Broken(request, 0, "its plan can't be read: " + fault.getMessage());
         }
@@ -66,7 +66,7 @@ final class StoredPlan {
         for (int source : found) {
             numbers.add(source);
         }
-        said.add(new Said(stage, forms.size()));
+        specs.add(new StageSpec(stage, forms.size()));
         forms.add(form);
         sources.add(found);
     }
@@ -81,41 +81,42 @@ final class StoredPlan {
     }
 
     /** What is said of a stage: its name, and its function's name, version and arguments. */
-    static final class Said {
+    static final class StageSpec {
         final String name, function;
         final int version;
         final List<?> args;
         /** Arguments by name, and what of the context goes along. */
-        final Map<String, Object> named, carried;
+        final Map<String, Object> namedArgs, context;
         /**
          * The stage whose function a further try calls, the promise for what a composing stage's function gives, and the composing stage whose function
          * has attached it; or -1.
          */
-        final int again, to, by;
+        final int retriedStage, promise, composingStage;
 
-        Said(Map<?, ?> read, int number) {
+        StageSpec(Map<?, ?> read, int number) {
             name = (String) Objects.requireNonNull(read.get("name"), "a stage has no name");
             function = (String) read.get("fn");
             version = read.get("version") == null ? 0 : Math.toIntExact((Long) read.get("version"));
             args = (List<?>) read.get("args");
-            named = named(read.get("kwargs"));
-            carried = named(read.get("context"));
-            again = lower(read.get("again"), number);
-            to = lower(read.get("to"), number);
-            by = lower(read.get("by"), number);
+            namedArgs = toArguments(read.get("kwargs"));
+            context = toArguments(read.get("context"));
+            retriedStage = lowerStage(read.get("again"), number);
+            promise = lowerStage(read.get("to"), number);
+            composingStage = lowerStage(read.get("by"), number);
         }
 
         /** Whether as much is said of another stage, but for what goes along, and for its promise. */
-        boolean isAlike(Said other) {
-            return name.equals(other.name) && Objects.equals(function, other.function) && version == other.version && again == other.again
-                    && by == other.by && named.equals(other.named) && given(args).equals(given(other.args));
+        boolean isAlike(StageSpec other) {
+            return name.equals(other.name) && Objects.equals(function, other.function) && version == other.version
+                    && retriedStage == other.retriedStage
+                    && composingStage == other.composingStage && namedArgs.equals(other.namedArgs) && orEmpty(args).equals(orEmpty(other.args));
         }
 
-        private static List<?> given(List<?> args) {
+        private static List<?> orEmpty(List<?> args) {
             return args == null ? Collections.emptyList() : args;
         }
 
-        private static int lower(Object stage, int number) {
+        private static int lowerStage(Object stage, int number) {
             if (stage == null) {
                 return -1;
             }
@@ -128,7 +129,7 @@ final class StoredPlan {
     }
 
     @SuppressWarnings("unchecked")
-    private static Map<String, Object> named(Object read) {
+    private static Map<String, Object> toArguments(Object read) {
         return read == null ? Collections.emptyMap() : (Map<String, Object>) (Map<?, ?>) read;
     }
 }

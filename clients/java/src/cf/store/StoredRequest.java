@@ -42,35 +42,35 @@ public final class StoredRequest {
     final AtomicBoolean isQueued = new AtomicBoolean();
     /** Whether a thread is to forget it, since it was closed in the store. */
     final AtomicBoolean isLeaving = new AtomicBoolean();
-    /** When it was asked for last, by the service's count, which the lock of its requests guards. */
-    long kept;
-    /** Whether others may have put what isn't read. */
+    /** When it was asked for last, by the service's count; the lock of the service's requests guards it. */
+    long keptAt;
+    /** Whether others may have put words that aren't read. */
     volatile boolean isStale;
-    volatile int seen;
+    volatile int wordCount;
     private final StoreService service;
     private final RowView view;
-    /** Who puts has the first one, and then the second one, which guards the view. */
+    /** A thread that puts takes the first one, and then the second one, which guards the view. */
     private final Lock writes, lock;
     /** The threads that run a transactional function of it. */
-    private final Set<Thread> transacts = ConcurrentHashMap.newKeySet();
+    private final Set<Thread> transactingThreads = ConcurrentHashMap.newKeySet();
     /** By the threads that run them, the stages whose functions attach stages to it. */
-    private final Map<Thread, Composing> composes = new ConcurrentHashMap<>();
-    /** The stages that were asked for, those of them that aren't shown to be settled, and those of these that are settled. */
+    private final Map<Thread, Composing> composingByThread = new ConcurrentHashMap<>();
+    /** The stages that were asked for; of these, the open ones; and of those, the settled ones that aren't shown yet. */
     private final Map<Integer, StoredStage> stages = new HashMap<>();
     private final Set<StoredStage> open = new LinkedHashSet<>(), unshown = new LinkedHashSet<>();
-    /** Why nobody goes on with it here, or null where somebody does. */
-    private Throwable over;
+    /** Why this service doesn't work on it any more, or null. */
+    private Throwable failure;
 
     StoredRequest(StoreService service, RowView view) {
         this.service = service;
         this.view = view;
-        writes = service.host.lock();
-        lock = service.host.lock();
+        writes = service.host.newLock();
+        lock = service.host.newLock();
         name = view.opened.name;
         number = view.opened.number;
-        view.freedWith(this);
-        view.hears = service::hears;
-        view.learns = service::learns;
+        view.freeWith(this);
+        view.onOtherSession = service::noteSession;
+        view.onTakenForGone = service::noteTakenForGone;
     }
 
     /** The request's name, by which other processes find it. */
@@ -89,19 +89,19 @@ public final class StoredRequest {
 
     /** The same, with further arguments by name, which the function has to take: see {@link Functions#byName}, and any function of Python's. */
     public StoredStage supplyNamed(String function, Map<String, ?> named, Object... args) {
-        Map<String, Object> said = service.said(function, false);
+        Map<String, Object> spec = service.callSpec(function, false);
         if (args.length > 0) {
-            said.put("args", Arrays.asList(args));
+            spec.put("args", Arrays.asList(args));
         }
         if (!named.isEmpty()) {
-            said.put("kwargs", named);
+            spec.put("kwargs", named);
         }
-        return attach(Form.SUPPLY, said);
+        return attach(Form.SUPPLY, spec);
     }
 
     /** A stage without a function, which somebody settles, in any process. */
     public StoredStage promise(String name) {
-        return attach(Form.SOURCE, said(name));
+        return attach(Form.SOURCE, namedSpec(name));
     }
 
     /**
@@ -109,12 +109,12 @@ public final class StoredRequest {
      * it takes n - 1, at least one.
      */
     public StoredStage allOf(StoredStage... of) {
-        return tree(Form.ALL_OF, "all of", StoredStage.numbers(this, of));
+        return attachTree(Form.ALL_OF, "all of", StoredStage.numbers(this, of));
     }
 
     /** A stage that ends as the first of these that is settled, be it with an exception. For n stages it takes n - 1, at least one. */
     public StoredStage anyOf(StoredStage... of) {
-        return tree(Form.ANY_OF, "first of", StoredStage.numbers(this, of));
+        return attachTree(Form.ANY_OF, "first of", StoredStage.numbers(this, of));
     }
 
     /**
@@ -127,22 +127,22 @@ public final class StoredRequest {
             throw new IllegalArgumentException("a list of nothing needs no stage");
         }
         for (int k = 0; k < row.length; k++) {
-            row[k] = attach(Form.APPLY, gathering("cf.gather"), row[k]).number;
+            row[k] = attach(Form.APPLY, gatherSpec("cf.gather"), row[k]).number;
         }
         while (row.length > 1) {
             int[] above = new int[(row.length + 1) / 2];
             for (int k = 0; k < above.length; k++) {
-                above[k] = 2 * k + 1 < row.length ? attach(Form.COMBINE, gathering("cf.add"), row[2 * k], row[2 * k + 1]).number : row[2 * k];
+                above[k] = 2 * k + 1 < row.length ? attach(Form.COMBINE, gatherSpec("cf.add"), row[2 * k], row[2 * k + 1]).number : row[2 * k];
             }
             row = above;
         }
         return stage(row[0]);
     }
 
-    private Map<String, Object> gathering(String function) {
-        Map<String, Object> said = service.said(function, false);
-        said.put("name", "gather");
-        return said;
+    private Map<String, Object> gatherSpec(String function) {
+        Map<String, Object> spec = service.callSpec(function, false);
+        spec.put("name", "gather");
+        return spec;
     }
 
     /**
@@ -152,41 +152,41 @@ public final class StoredRequest {
      * @throws IllegalArgumentException it was begun with another one
      */
     public StoredStage stage(StoredFlow.Step step) {
-        if (!with(view -> view.hasSteps(step.flow(), step.number))) {
+        if (!withView(view -> view.hasSteps(step.flow(), step.number))) {
             throw new IllegalArgumentException(this + " wasn't begun with this flow " + step.flow().name + ": it has no such step "
                     + step.flow().nameOf(step));
         }
         return stage(step.number);
     }
 
-    /** All that happened until now, as the row tells it. It reads all payloads, so it takes time by the number of words. */
+    /** The history until now, by the row. It reads all payloads, so it takes time by the number of words. */
     public StoredHistory history() {
         return history(Describe.ALL);
     }
 
-    /** The same, with what this tells of values, and of exceptions, which are {@link RemoteException}s. */
+    /** The same, with the texts that this makes of values, and of exceptions, which are {@link RemoteException}s. */
     public StoredHistory history(Describe describe) {
         catchUp();
-        return with(RowView::facts).history(describe);
+        return withView(RowView::facts).history(describe);
     }
 
     /** The stage of a number, in the order in which they were attached; null if there is none by what this process has read. */
     public StoredStage stage(int number) {
         lock.lock();
         try {
-            return number < 0 || number >= view.size() ? null : asked(number);
+            return number < 0 || number >= view.stageCount() ? null : stageOf(number);
         } finally {
             lock.unlock();
-            show();
+            showSettled();
         }
     }
 
     /** The first stage of a name, or null. */
     public StoredStage stage(String name) {
         catchUp();
-        int number = with(view -> {
-            for (int k = 0; k < view.size(); k++) {
-                if (view.said(k).name.equals(name)) {
+        int number = withView(view -> {
+            for (int k = 0; k < view.stageCount(); k++) {
+                if (view.spec(k).name.equals(name)) {
                     return k;
                 }
             }
@@ -196,12 +196,12 @@ public final class StoredRequest {
     }
 
     /**
-     * Closes the request: nothing is left to do in it, and workers look at it no more. Its timers are forgotten. A flow's request is closed by itself
-     * once all its stages are settled. A stage that is attached opens a request again.
+     * Closes the request: workers look at it no more, and its timers are dropped. A flow's request is closed by itself once all its stages are
+     * settled. A stage that is attached opens a request again.
      */
     public void end() {
         catchUp();
-        if (RowView.sure(service.host, () -> service.store.end(name, number, seen))) {
+        if (RowView.retryingForAMinute(service.host, () -> service.store.end(name, number, wordCount))) {
             service.tellEnd(this);
         }
     }
@@ -215,66 +215,66 @@ public final class StoredRequest {
         return service.host;
     }
 
-    int own(StoredStage stage) {
+    int numberOf(StoredStage stage) {
         if (stage.request != this) {
             throw new IllegalArgumentException("it is a stage of another request");
         }
         return stage.number;
     }
 
-    StoredStage behind(Form form, String function, int... of) {
-        return attach(form, saidOf(function, false), of);
+    StoredStage attachBehind(Form form, String function, int... of) {
+        return attach(form, callSpec(function, false), of);
     }
 
-    /** What is said of a stage that calls a registered function. */
-    Map<String, Object> saidOf(String function, boolean composes) {
-        return service.said(function, composes);
+    /** The spec of a stage that calls a registered function. */
+    Map<String, Object> callSpec(String function, boolean composes) {
+        return service.callSpec(function, composes);
     }
 
-    /** What is said of a stage without a function. */
-    static Map<String, Object> said(String name) {
-        Map<String, Object> said = new LinkedHashMap<>();
-        said.put("name", name);
-        return said;
+    /** The spec of a stage without a function. */
+    static Map<String, Object> namedSpec(String name) {
+        Map<String, Object> spec = new LinkedHashMap<>();
+        spec.put("name", name);
+        return spec;
     }
 
-    /** What is said of a further try of a stage: who calls its function has what goes along from here. */
-    Map<String, Object> again(StoredStage stage) {
-        Map<String, Object> said = service.along(said(stage.name() + " again"));
-        said.put("again", stage.number);
-        return said;
+    /** The spec of a further try of a stage, with the context of this place. */
+    Map<String, Object> retrySpec(StoredStage stage) {
+        Map<String, Object> spec = service.addContext(namedSpec(stage.name() + " again"));
+        spec.put("again", stage.number);
+        return spec;
     }
 
-    StoredStage attach(Form form, Map<String, ?> said, int... of) {
-        Map<String, Object> all = withComposing(said);
+    StoredStage attach(Form form, Map<String, ?> spec, int... of) {
+        Map<String, Object> all = withComposing(spec);
         byte[] payload = Json.write(all);
-        return attached(form, of, all, view -> {
-            int function = form.calls ? view.size() : 0;
-            return Collections.singletonList(attaching(form, of, function, payload));
+        return attachWith(form, of, all, view -> {
+            int function = form.calls ? view.stageCount() : 0;
+            return Collections.singletonList(attachWord(form, of, function, payload));
         });
     }
 
-    private static RowView.Wanted attaching(Form form, int[] of, int function, byte[] payload) {
+    private static RowView.WantedWord attachWord(Form form, int[] of, int function, byte[] payload) {
         int first = of.length > 0 ? of[0] : 0, second = of.length > 1 ? of[1] : 0;
-        return new RowView.Wanted(Words.attach(0, form, of.length, first, second, function), payload);
+        return new RowView.WantedWord(Words.attach(0, form, of.length, first, second, function), payload);
     }
 
-    /** A stage that composes, or a further try of one, has a promise before it, which stands for what its function gives. */
-    StoredStage compose(Form form, StoredStage source, Map<String, Object> said) {
-        Map<String, Object> all = withComposing(said);
+    /** Attaches a composing stage, or a further try of one, and before it a promise, which stands for what its function gives. */
+    StoredStage compose(Form form, StoredStage source, Map<String, Object> spec) {
+        Map<String, Object> all = withComposing(spec);
         int[] of = {source.number};
-        byte[] promise = Json.write(said("what " + said.get("name") + " gives"));
-        return attached(form, of, all, view -> {
+        byte[] promise = Json.write(namedSpec("what " + spec.get("name") + " gives"));
+        return attachWith(form, of, all, view -> {
             Map<String, Object> own = new LinkedHashMap<>(all);
-            own.put("to", view.size());
-            return Arrays.asList(attaching(Form.SOURCE, new int[0], 0, promise), attaching(form, of, view.size() + 1, Json.write(own)));
+            own.put("to", view.stageCount());
+            return Arrays.asList(attachWord(Form.SOURCE, new int[0], 0, promise), attachWord(form, of, view.stageCount() + 1, Json.write(own)));
         });
     }
 
-    /** What is said of a stage, with the composing one whose function attaches it on this thread, if any does. */
-    private Map<String, Object> withComposing(Map<String, ?> said) {
-        Map<String, Object> all = new LinkedHashMap<>(said);
-        Composing composing = composes.get(Thread.currentThread());
+    /** The spec of a stage, with the composing stage whose function attaches it on this thread, if one does. */
+    private Map<String, Object> withComposing(Map<String, ?> spec) {
+        Map<String, Object> all = new LinkedHashMap<>(spec);
+        Composing composing = composingByThread.get(Thread.currentThread());
         if (composing != null) {
             all.put("by", composing.first);
         }
@@ -285,20 +285,20 @@ public final class StoredRequest {
      * Puts words that attach stages, and gives the last of these, which is of this form; or gives the one that an earlier try of the function has
      * attached which runs on this thread. A request that is closed in the store is opened again with that.
      */
-    private StoredStage attached(Form form, int[] of, Map<String, Object> said, RowView.Decision decision) {
-        Composing composing = composes.get(Thread.currentThread());
+    private StoredStage attachWith(Form form, int[] of, Map<String, Object> spec, RowView.Decision decision) {
+        Composing composing = composingByThread.get(Thread.currentThread());
         int[] found = {-1};
-        List<RowView.Done> done;
+        List<RowView.DoneEntry> done;
         try {
             done = act(view -> {
-                found[0] = composing == null ? -1 : composing.found(view, form, of, said);
+                found[0] = composing == null ? -1 : composing.findEarlier(view, form, of, spec);
                 if (found[0] >= 0) {
                     return Collections.emptyList();
                 }
-                if (view.size() + (form.composes ? 2 : 1) > 4096) {
+                if (view.stageCount() + (form.composes ? 2 : 1) > 4096) {
                     throw new RequestFullException(new Full(name));
                 }
-                return decision.of(view);
+                return decision.decide(view);
             }, true);
         } catch (StoreException.Unknown silent) {
             service.keep(this); // (it may stand)
@@ -307,70 +307,72 @@ public final class StoredRequest {
             service.serveKnown(this);
         }
         service.keep(this); // (behind that: who thought it closed before doesn't forget it)
-        int number = found[0] >= 0 ? found[0] : done.get(done.size() - 1).reply[Row.NUMBER];
+        int number = found[0] >= 0 ? found[0] : done.get(done.size() - 1).reply[NativeRow.NUMBER];
         if (composing != null) {
-            composing.taken.add(number);
+            composing.takenStages.add(number);
         }
         return stage(number);
     }
 
     /** A stage of this session's whose function runs, and attaches stages. */
     private static final class Composing {
-        /** The stage, and the one whose function it is: the same, or that of which it is a further try. */
+        /** The stage, and the one whose function is called: the same, or the one that it tries again. */
         final int stage, first;
-        /** What was attached, and what of an earlier try was found in the place of that. */
-        final Set<Integer> taken = new HashSet<>();
+        /** The stages that were attached, and those of an earlier try that were found in place of them. */
+        final Set<Integer> takenStages = new HashSet<>();
 
         Composing(int stage, int first) {
             this.stage = stage;
             this.first = first;
         }
 
-        /** What an earlier try has attached in the place of such a stage, or -1. It throws where the stage isn't this session's any more. */
-        int found(RowView view, Form form, int[] of, Map<String, Object> said) {
-            if (view.isSettled(stage) || !view.isHeld(stage)) {
-                throw new RemoteException(RemoteException.ABANDONED, view.said(first).name + " is settled, and its function attaches nothing any more");
+        /** The stage that an earlier try has attached in place of this one, or -1. It throws where the composing stage isn't this session's now. */
+        int findEarlier(RowView view, Form form, int[] of, Map<String, Object> spec) {
+            if (view.isSettled(stage) || !view.hasClaim(stage)) {
+                throw new RemoteException(RemoteException.ABANDONED, view.spec(first).name
+                        + " is settled, and its function attaches nothing any more");
             }
-            return first == stage ? -1 : view.attached(form, of, new StoredPlan.Said((Map<?, ?>) Json.read(Json.write(said)), view.size()), taken);
+            return first == stage ? -1 : view.findAttached(form, of,
+                    new StoredPlan.StageSpec((Map<?, ?>) Json.read(Json.write(spec)), view.stageCount()), takenStages);
         }
     }
 
-    /** A function that attaches stages runs on this thread from now on, for a stage that is the first try of its function, or a further one of that. */
+    /** Notes that the function of a composing stage runs on this thread: the stage, and the first try of its function. */
     void beginComposing(int stage, int first) {
-        composes.put(Thread.currentThread(), new Composing(stage, first));
+        composingByThread.put(Thread.currentThread(), new Composing(stage, first));
     }
 
     void endComposing() {
-        composes.remove(Thread.currentThread());
+        composingByThread.remove(Thread.currentThread());
     }
 
-    /** An attached stage has at most two sources; a tree of them tells what one stage of all would. */
-    private StoredStage tree(Form form, String name, int[] of) {
-        Map<String, Object> said = said(name);
+    /** Attaches a tree of stages with two sources each, which ends as one stage with all of them would. */
+    private StoredStage attachTree(Form form, String name, int[] of) {
+        Map<String, Object> spec = namedSpec(name);
         int[] row = of;
         while (row.length > 2) {
             int[] above = new int[(row.length + 1) / 2];
             for (int k = 0; k < above.length; k++) {
-                above[k] = 2 * k + 1 < row.length ? attach(form, said, row[2 * k], row[2 * k + 1]).number : row[2 * k];
+                above[k] = 2 * k + 1 < row.length ? attach(form, spec, row[2 * k], row[2 * k + 1]).number : row[2 * k];
             }
             row = above;
         }
-        return attach(form, said, row);
+        return attach(form, spec, row);
     }
 
     boolean settle(long word, byte[] payload, int stage, boolean waits) {
-        List<RowView.Done> done;
+        List<RowView.DoneEntry> done;
         try {
             done = act(view -> view.isSettled(stage) || waits && view.isClaimed(stage) ? Collections.emptyList()
-                    : Collections.singletonList(new RowView.Wanted(word, payload)));
+                    : Collections.singletonList(new RowView.WantedWord(word, payload)));
         } finally {
             service.serveKnown(this);
         }
         if (!done.isEmpty()) {
-            return done.get(0).reply[Row.ANSWER] != 0;
+            return done.get(0).reply[NativeRow.ANSWER] != 0;
         }
-        return Words.kind(word) == Words.CANCEL && with(view -> view.isSettled(stage) && view.outcome(stage)[0] == Row.CANCELLED
-                && view.outcome(stage)[Row.WRAPPED] == 0);
+        return Words.kind(word) == Words.CANCEL && withView(view -> view.isSettled(stage) && view.outcome(stage)[0] == NativeRow.CANCELLED
+                && view.outcome(stage)[NativeRow.WRAPPED] == 0);
     }
 
     /** Completes a flow's promises, but those that are settled; up to 32 in one put. */
@@ -378,10 +380,10 @@ public final class StoredRequest {
         for (int from = 0; from < payloads.size(); from += 32) {
             int first = from, end = Math.min(from + 32, payloads.size());
             act(view -> {
-                List<RowView.Wanted> wanted = new ArrayList<>();
+                List<RowView.WantedWord> wanted = new ArrayList<>();
                 for (int k = first; k < end; k++) {
                     if (!view.isSettled(promises.get(k).number)) {
-                        wanted.add(new RowView.Wanted(Words.complete(0, promises.get(k).number, Words.NIL), payloads.get(k)));
+                        wanted.add(new RowView.WantedWord(Words.complete(0, promises.get(k).number, Words.NIL), payloads.get(k)));
                     }
                 }
                 return wanted;
@@ -390,12 +392,12 @@ public final class StoredRequest {
         service.serveKnown(this);
     }
 
-    StoredStage later(StoredStage stage, double seconds, char kind, byte[] what) {
-        if (!with(view -> view.isSettled(stage.number))) {
+    StoredStage setTimer(StoredStage stage, double seconds, char kind, byte[] what) {
+        if (!withView(view -> view.isSettled(stage.number))) {
             byte[] payload = new byte[what.length + 1];
             payload[0] = (byte) kind;
             System.arraycopy(what, 0, payload, 1, what.length);
-            RowView.sure(service.host, () -> {
+            RowView.retryingForAMinute(service.host, () -> {
                 service.store.setTimer(new Store.Timer(name, number, stage.number, service.store.now() + seconds, payload));
                 return null;
             });
@@ -403,9 +405,9 @@ public final class StoredRequest {
         return stage;
     }
 
-    // The view, by whichever thread has the lock.
+    // The view, under the lock.
 
-    <T> T with(Function<RowView, T> act) {
+    <T> T withView(Function<RowView, T> act) {
         lock.lock();
         try {
             return act.apply(view);
@@ -414,8 +416,8 @@ public final class StoredRequest {
         }
     }
 
-    /** The same, or what is given where another thread has the view. */
-    <T> T withIfFree(Function<RowView, T> act, T otherwise) {
+    /** The same, or this answer where another thread has the view. */
+    <T> T withViewIfFree(Function<RowView, T> act, T otherwise) {
         if (!lock.tryLock()) {
             return otherwise;
         }
@@ -430,45 +432,45 @@ public final class StoredRequest {
         try {
             read();
         } finally {
-            show();
+            showSettled();
         }
     }
 
-    /** Does what others have put, which isn't shown yet. */
+    /** Takes in the words that others have put, without showing what they settled. */
     void read() {
         lock.lock();
         try {
             view.catchUp();
         } finally {
-            seen = view.seen();
+            wordCount = view.wordCount();
             lock.unlock();
         }
     }
 
-    List<RowView.Done> act(RowView.Decision decision) {
+    List<RowView.DoneEntry> act(RowView.Decision decision) {
         return act(decision, false);
     }
 
     /** The same; whether these words open the request again, where it is closed. */
-    private List<RowView.Done> act(RowView.Decision decision, boolean opens) {
-        if (transacts.contains(Thread.currentThread())) {
+    private List<RowView.DoneEntry> act(RowView.Decision decision, boolean opens) {
+        if (transactingThreads.contains(Thread.currentThread())) {
             throw new StoreException(this + ": its transactional function can't put to it: that takes the place of its finish");
         }
         writes.lock();
         try {
-            return acted(() -> view.act(decision, opens));
+            return withViewToChange(() -> view.act(decision, opens));
         } finally {
             writes.unlock();
-            show();
+            showSettled();
         }
     }
 
-    private <T> T acted(Supplier<T> act) {
+    private <T> T withViewToChange(Supplier<T> act) {
         lock.lock();
         try {
             return act.get();
         } finally {
-            seen = view.seen();
+            wordCount = view.wordCount();
             lock.unlock();
         }
     }
@@ -477,32 +479,32 @@ public final class StoredRequest {
      * Acts while a transactional function runs. Where the store lets nobody else put meanwhile, this process's threads wait here, and not in the
      * store with the lock of the request, which the function's finish needs.
      */
-    <T> T transacting(Supplier<T> act) {
-        boolean locksOut = service.store.locksOut();
+    <T> T runTransacting(Supplier<T> act) {
+        boolean locksOut = service.store.locksOutOthers();
         if (locksOut) {
             writes.lock();
         }
-        transacts.add(Thread.currentThread());
+        transactingThreads.add(Thread.currentThread());
         try {
             return act.get();
         } finally {
-            transacts.remove(Thread.currentThread());
+            transactingThreads.remove(Thread.currentThread());
             if (locksOut) {
                 writes.unlock();
             }
-            show();
+            showSettled();
         }
     }
 
-    /** Puts a finish within a transaction, and says whether that stands. What it settled isn't shown yet. */
+    /** Puts a finish within a transaction, and says whether that stands. The stages that it settled aren't shown yet. */
     boolean actWithin(Store.Transaction transaction, RowView.Finish finish) {
-        return acted(() -> {
-            RowView.Wanted wanted = view.isSettled(finish.stage) ? null : view.finished(finish);
+        return withViewToChange(() -> {
+            RowView.WantedWord wanted = view.isSettled(finish.stage) ? null : view.finishWord(finish);
             return wanted != null && view.actWithin(transaction, wanted);
         });
     }
 
-    private StoredStage asked(int number) {
+    private StoredStage stageOf(int number) {
         StoredStage stage = stages.get(number);
         if (stage == null) {
             stage = new StoredStage(this, number);
@@ -510,21 +512,21 @@ public final class StoredRequest {
             if (view.isSettled(number)) {
                 open.add(stage);
                 unshown.add(stage);
-            } else if (over == null) {
+            } else if (failure == null) {
                 open.add(stage);
             } else {
-                stage.end.completeExceptionally(over);
+                stage.future.completeExceptionally(failure);
             }
         }
         return stage;
     }
 
     /**
-     * Settles the futures of stages that are settled by now. Their payloads are read, and those who wait are told, without the lock. What can't be
-     * read now is read soon by a thread of the service.
+     * Completes the futures of stages that are settled by now. It reads their payloads and wakes the waiters without the lock. A thread of the
+     * service soon reads the payloads that can't be read now.
      */
-    void show() {
-        Map<StoredStage, RowView.Ended> ends = settled();
+    void showSettled() {
+        Map<StoredStage, RowView.Ending> ends = endingsToShow();
         if (ends.isEmpty()) {
             return;
         }
@@ -532,8 +534,8 @@ public final class StoredRequest {
         boolean areShown = false;
         try {
             boolean are = true;
-            for (Map.Entry<StoredStage, RowView.Ended> each : ends.entrySet()) {
-                are &= shows(each.getKey(), each.getValue());
+            for (Map.Entry<StoredStage, RowView.Ending> each : ends.entrySet()) {
+                are &= showStage(each.getKey(), each.getValue());
                 if (!are && service.host.nanoTime() - until > 0) {
                     return;
                 }
@@ -546,27 +548,27 @@ public final class StoredRequest {
         }
     }
 
-    /** Whether the payload of a stage could be read, by one question, so that this is told. */
-    private boolean shows(StoredStage stage, RowView.Ended ended) {
+    /** Completes the future of a stage, and says whether its payload could be read, by one question. */
+    private boolean showStage(StoredStage stage, RowView.Ending ended) {
         try {
-            Runnable tells = telling(stage, ended);
-            if (takes(stage)) { // (else another thread tells it)
+            Runnable tells = wakeAction(stage, ended);
+            if (takeUnshown(stage)) { // (else another thread tells it)
                 tells.run();
             }
             return true;
         } catch (StoreException.Unknown silent) {
-            Throwable never = with(view -> {
-                if (over == null && unshown.remove(stage)) {
+            Throwable never = withView(view -> {
+                if (failure == null && unshown.remove(stage)) {
                     unshown.add(stage); // (others come first then)
                 }
-                return over;
+                return failure;
             });
-            return never != null && takes(stage) && stage.end.completeExceptionally(never);
+            return never != null && takeUnshown(stage) && stage.future.completeExceptionally(never);
         }
     }
 
     /** The stages that are to be shown, each with how it ended. */
-    private Map<StoredStage, RowView.Ended> settled() {
+    private Map<StoredStage, RowView.Ending> endingsToShow() {
         lock.lock();
         try {
             for (int number : view.takeSettled()) {
@@ -575,59 +577,59 @@ public final class StoredRequest {
                     unshown.add(stage);
                 }
             }
-            Map<StoredStage, RowView.Ended> ends = unshown.isEmpty() ? Collections.emptyMap() : new LinkedHashMap<>();
-            unshown.forEach(stage -> ends.put(stage, view.ended(stage.number)));
+            Map<StoredStage, RowView.Ending> ends = unshown.isEmpty() ? Collections.emptyMap() : new LinkedHashMap<>();
+            unshown.forEach(stage -> ends.put(stage, view.ending(stage.number)));
             return ends;
         } finally {
             lock.unlock();
         }
     }
 
-    /** What tells those who wait for a stage. */
-    private Runnable telling(StoredStage stage, RowView.Ended ended) {
+    /** The action that completes the future of a stage. */
+    private Runnable wakeAction(StoredStage stage, RowView.Ending ended) {
         try {
             Throwable fault = ended.fault();
             Object value = fault == null ? ended.value() : null;
-            return () -> service.host.tells(stage.end.getNumberOfDependents() > 0, () -> {
+            return () -> service.host.wake(stage.future.getNumberOfDependents() > 0, () -> {
                 if (fault == null) {
-                    stage.end.complete(value);
+                    stage.future.complete(value);
                 } else {
-                    stage.end.completeExceptionally(fault);
+                    stage.future.completeExceptionally(fault);
                 }
             });
         } catch (StoreException.Unknown silent) {
             throw silent;
         } catch (StoreException broken) {
-            return () -> stage.end.completeExceptionally(broken);
+            return () -> stage.future.completeExceptionally(broken);
         }
     }
 
-    private boolean takes(StoredStage stage) {
-        return with(view -> {
+    private boolean takeUnshown(StoredStage stage) {
+        return withView(view -> {
             open.remove(stage);
             return unshown.remove(stage);
         });
     }
 
-    // What a search over a store looks at.
+    // For a search over a store.
 
-    /** Whether somebody here has yet to be told of a stage that is settled by all words, or a claim was granted without its being told. */
+    /** Whether somebody here waits for a stage that is settled by all words, or a claim was granted that this session doesn't know of. */
     boolean hasUntold(RowView all) {
-        return !view.found.isEmpty() || open.stream().anyMatch(stage -> all.isSettled(stage.number));
+        return !view.foundClaims.isEmpty() || open.stream().anyMatch(stage -> all.isSettled(stage.number));
     }
 
-    /** Has those who wait told that it can't be gone on with. */
+    /** Fails all open stages' futures: this service doesn't work on the request any more. */
     void failAll(Throwable fault) {
         List<StoredStage> left;
         lock.lock();
         try {
-            over = fault;
+            failure = fault;
             left = new ArrayList<>(open);
             open.clear();
             unshown.clear();
         } finally {
             lock.unlock();
         }
-        left.forEach(stage -> stage.end.completeExceptionally(fault));
+        left.forEach(stage -> stage.future.completeExceptionally(fault));
     }
 }

@@ -17,7 +17,7 @@ import java.util.function.Function;
 public final class StoredStage {
     final StoredRequest request;
     final int number;
-    final CompletableFuture<Object> end = new CompletableFuture<>();
+    final CompletableFuture<Object> future = new CompletableFuture<>();
 
     StoredStage(StoredRequest request, int number) {
         this.request = request;
@@ -29,39 +29,39 @@ public final class StoredStage {
         return number;
     }
 
-    /** What histories call it: the name of its function, or of the promise. */
+    /** Its name in histories: that of its function, or of the promise. */
     public String name() {
-        return request.with(view -> view.said(number).name);
+        return request.withView(view -> view.spec(number).name);
     }
 
     /** Has a registered function called with the value of this stage. */
     public StoredStage then(String function) {
-        return request.behind(Form.APPLY, function, number);
+        return request.attachBehind(Form.APPLY, function, number);
     }
 
     /** Has a registered function called with the values of this stage and another one of the request. */
     public StoredStage combine(StoredStage other, String function) {
-        return request.behind(Form.COMBINE, function, number, request.own(other));
+        return request.attachBehind(Form.COMBINE, function, number, request.numberOf(other));
     }
 
     /** Has a registered function called with the value of this stage or of another one of the request, whichever is settled first. */
     public StoredStage either(StoredStage other, String function) {
-        return request.behind(Form.APPLY_EITHER, function, number, request.own(other));
+        return request.attachBehind(Form.APPLY_EITHER, function, number, request.numberOf(other));
     }
 
     /** Has a registered function called with the value, or null, and the {@link RemoteException}, or null. */
     public StoredStage handle(String function) {
-        return request.behind(Form.HANDLE, function, number);
+        return request.attachBehind(Form.HANDLE, function, number);
     }
 
     /** Has a registered function called with the {@link RemoteException} that this stage ends in, if it does, and takes its result. */
     public StoredStage recover(String function) {
-        return request.behind(Form.EXCEPTIONALLY, function, number);
+        return request.attachBehind(Form.EXCEPTIONALLY, function, number);
     }
 
     /** Has a registered function called as {@link #handle}. The new stage ends as this one does, unless the function throws. */
     public StoredStage whenDone(String function) {
-        return request.behind(Form.WHEN_COMPLETE, function, number);
+        return request.attachBehind(Form.WHEN_COMPLETE, function, number);
     }
 
     /**
@@ -72,7 +72,7 @@ public final class StoredStage {
      * @return the stage that calls the function
      */
     public StoredStage compose(String function) {
-        return request.compose(Form.COMPOSE, this, request.saidOf(function, true));
+        return request.compose(Form.COMPOSE, this, request.callSpec(function, true));
     }
 
     /**
@@ -86,13 +86,13 @@ public final class StoredStage {
      */
     public StoredStage again(int times) {
         StoredStage last = this;
-        Form form = request.with(view -> view.form(number));
+        Form form = request.withView(view -> view.form(number));
         if (!form.calls) {
             throw new IllegalArgumentException("it has no function of its own");
         }
         for (int k = 0; k < times; k++) {
-            last = form.composes ? request.compose(Form.EXCEPTIONALLY_COMPOSE, last, request.again(this))
-                    : request.attach(Form.EXCEPTIONALLY, request.again(this), last.number);
+            last = form.composes ? request.compose(Form.EXCEPTIONALLY_COMPOSE, last, request.retrySpec(this))
+                    : request.attach(Form.EXCEPTIONALLY, request.retrySpec(this), last.number);
         }
         return last;
     }
@@ -113,7 +113,7 @@ public final class StoredStage {
      * @return whether this call settled it
      */
     public boolean fail(Throwable thrown) {
-        return request.settle(Words.fail(0, number, 0), Json.write(RemoteException.of(thrown).written()), number, false);
+        return request.settle(Words.fail(0, number, 0), Json.write(RemoteException.fromThrowable(thrown).toMap()), number, false);
     }
 
     /**
@@ -155,12 +155,12 @@ public final class StoredStage {
     public StoredStage orTimeout(long timeout, TimeUnit unit) {
         double seconds = unit.toNanos(timeout) / 1e9;
         String took = name() + " took longer than " + (seconds == Math.rint(seconds) ? String.valueOf((long) seconds) : String.valueOf(seconds)) + " s";
-        return request.later(this, seconds, 'E', Json.write(new RemoteException("TimeoutError", took).written()));
+        return request.setTimer(this, seconds, 'E', Json.write(new RemoteException("TimeoutError", took).toMap()));
     }
 
     /** Sets a timer in the store, by which the stage gets a value unless it is settled, as {@link #orTimeout}. */
     public StoredStage completeOnTimeout(Object value, long timeout, TimeUnit unit) {
-        return request.later(this, unit.toNanos(timeout) / 1e9, value == null ? 'N' : 'V', value == null ? new byte[0] : Json.write(value));
+        return request.setTimer(this, unit.toNanos(timeout) / 1e9, value == null ? 'N' : 'V', value == null ? new byte[0] : Json.write(value));
     }
 
     /**
@@ -171,24 +171,24 @@ public final class StoredStage {
      * @throws java.util.concurrent.CancellationException it was cancelled
      */
     public Object get() throws InterruptedException, ExecutionException {
-        host().waits(this::name, end::isDone, -1);
-        return end.get();
+        host().awaitSettled(this::name, future::isDone, -1);
+        return future.get();
     }
 
     /** The same, for so long at most. */
     public Object get(long timeout, TimeUnit unit) throws InterruptedException, ExecutionException, TimeoutException {
-        return end.get(host().waits(this::name, end::isDone, Math.max(0, unit.toNanos(timeout))) ? 0 : timeout, unit);
+        return future.get(host().awaitSettled(this::name, future::isDone, Math.max(0, unit.toNanos(timeout))) ? 0 : timeout, unit);
     }
 
     /** Whether it is settled, by what this process has read. */
     public boolean isDone() {
-        host().looked();
-        return end.isDone();
+        host().noteLook();
+        return future.isDone();
     }
 
     /** A future that ends as the stage does. To settle the future does nothing to the stage. */
     public CompletableFuture<Object> toFuture() {
-        return end.thenApply(Function.identity());
+        return future.thenApply(Function.identity());
     }
 
     Host host() {
@@ -201,6 +201,6 @@ public final class StoredStage {
     }
 
     static int[] numbers(StoredRequest request, StoredStage... of) {
-        return Arrays.stream(of).mapToInt(it -> request.own(Objects.requireNonNull(it))).toArray();
+        return Arrays.stream(of).mapToInt(it -> request.numberOf(Objects.requireNonNull(it))).toArray();
     }
 }

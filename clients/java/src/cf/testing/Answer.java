@@ -19,7 +19,7 @@ enum Answer {
 
     final String text;
     /** Whether it stands at once. */
-    final boolean stands;
+    final boolean isDone;
     /** Of what it takes one. With {@code LATE} it may come to stand at any moment from now on, and with {@code SILENT} the caller gives up. */
     final Bound[] costs;
 
@@ -28,11 +28,11 @@ enum Answer {
 
     Answer(String text, boolean stands, Bound... costs) {
         this.text = text;
-        this.stands = stands;
+        this.isDone = stands;
         this.costs = costs;
     }
 
-    boolean has(Bound bound) {
+    boolean hasCost(Bound bound) {
         for (Bound cost : costs) {
             if (cost == bound) {
                 return true;

@@ -9,16 +9,16 @@ import java.util.function.Consumer;
 /** Another caller, each of whose calls comes at any moment, in the order in which they were added. {@link World#caller} makes it. */
 public final class Caller {
     final String name;
-    final List<Call> calls = new ArrayList<>();
+    final List<CallerCall> calls = new ArrayList<>();
     /** How many of them were made. */
-    int made;
+    int callsMade;
 
     /** What it calls; of a method of a stage nothing else is touched. */
-    static final class Call {
+    static final class CallerCall {
         final World.Act act;
         final boolean isOfStage;
 
-        Call(World.Act act, boolean isOfStage) {
+        CallerCall(World.Act act, boolean isOfStage) {
             this.act = act;
             this.isOfStage = isOfStage;
         }
@@ -30,7 +30,7 @@ public final class Caller {
 
     /** It calls this, of which nothing is known. Functions that become ready by it are called within the same move. */
     public Caller calls(World.Act act) {
-        calls.add(new Call(Objects.requireNonNull(act), false));
+        calls.add(new CallerCall(Objects.requireNonNull(act), false));
         return this;
     }
 
@@ -41,12 +41,12 @@ public final class Caller {
     public <T> Caller calls(Stage<T> stage, Consumer<? super Stage<T>> call) {
         Objects.requireNonNull(stage);
         Objects.requireNonNull(call);
-        calls.add(new Call(() -> call.accept(stage), true));
+        calls.add(new CallerCall(() -> call.accept(stage), true));
         return this;
     }
 
     /** The call that is next, or null. */
-    Call next() {
-        return made < calls.size() ? calls.get(made) : null;
+    CallerCall nextCall() {
+        return callsMade < calls.size() ? calls.get(callsMade) : null;
     }
 }

@@ -29,7 +29,7 @@ final class Carrier implements Runnable {
     }
 
     /** One that is idle. */
-    static Carrier take() {
+    static Carrier borrow() {
         synchronized (IDLE) {
             if (!IDLE.isEmpty()) {
                 return IDLE.pop();
@@ -41,7 +41,7 @@ final class Carrier implements Runnable {
     }
 
     /** Gives it back. One that doesn't end is left. */
-    void give() {
+    void giveBack() {
         if (isIdle()) {
             synchronized (IDLE) {
                 IDLE.push(this);
@@ -54,13 +54,13 @@ final class Carrier implements Runnable {
     }
 
     /** Lets a function go until it waits or has ended. What it blocks on that isn't the world's is given back, else null. */
-    String begin(Runnable job) {
+    String runJob(Runnable job) {
         thread.setContextClassLoader(Thread.currentThread().getContextClassLoader());
         this.job = job;
         return resume();
     }
 
-    /** Lets the function that waits go on, as {@link #begin} does. */
+    /** Lets the function that waits go on, as {@link #runJob} does. */
     String resume() {
         turn.release();
         try {
@@ -95,22 +95,22 @@ final class Carrier implements Runnable {
     }
 
     /** Called by the function: gives the turn back, and waits for the next one. */
-    void pause() {
+    void waitForTurn() {
         back.release();
         turn.acquireUninterruptibly();
         if (ends) {
-            throw new Leaving(Leaving.Why.GONE);
+            throw new Leaving(Leaving.Reason.GONE);
         }
     }
 
     /** Ends the function that waits. One that goes on all the same is left, with its thread. */
-    void end() {
+    void stop() {
         ends = true;
         for (int k = 0; k < 100 && !isIdle() && resume() == null; k++) {
             continue;
         }
         ends = false;
-        give();
+        giveBack();
     }
 
     @Override

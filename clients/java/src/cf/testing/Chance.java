@@ -32,50 +32,51 @@ final class Chance {
     }
 
     /** So many orders, until the moment comes or so many have failed. */
-    void go(int times, long until, int failures) {
+    void search(int times, long until, int failures) {
         for (int k = 0; k < times && System.nanoTime() < until && report.failed.size() < failures; k++) {
             levels = new HashMap<>();
             changes = new HashSet<>();
             for (int n = 1; n < DEPTH; n++) {
                 changes.add(random.nextInt(longest));
             }
-            Ran ran = runner.go(this::chooses, null, false);
-            longest = Math.max(longest, ran.row.size());
+            RunResult result = runner.run(this::choose, null, false);
+            longest = Math.max(longest, result.moves.size());
             report.orders++;
             report.byChance++;
-            if (ran.failed()) {
-                report.failed.add(ran.failure());
+            if (result.hasFailed()) {
+                report.failed.add(result.failure());
             }
         }
     }
 
-    private Move chooses(int place, List<Move> moves) {
+    private Move choose(int place, List<Move> moves) {
         if (moves.isEmpty()) {
             return null;
         }
         for (Move move : moves) {
-            if (!levels.containsKey(who(move))) {
-                levels.put(who(move), !move.goesWrong() ? random.nextDouble() : random.nextDouble() * longest < 1 ? 1 : NEVER); // (about once in an order)
+            if (!levels.containsKey(actorOf(move))) {
+                levels.put(actorOf(move), !move.isFault() ? random.nextDouble() : random.nextDouble() * longest < 1 ? 1
+                        : NEVER); // (about once in an order)
             }
         }
-        Move best = best(moves);
+        Move best = highest(moves);
         if (changes.contains(place)) {
-            levels.put(who(best), -place - 1.0);
-            best = best(moves);
+            levels.put(actorOf(best), -place - 1.0);
+            best = highest(moves);
         }
         return best;
     }
 
     /** Whose priority decides on a move. */
-    private static Object who(Move move) {
-        return move.goesWrong() ? move : move.actor();
+    private static Object actorOf(Move move) {
+        return move.isFault() ? move : move.actor();
     }
 
     /** The one of the highest priority. Of the ways of one and the same, any. */
-    private Move best(List<Move> moves) {
-        double highest = moves.stream().mapToDouble(move -> levels.get(who(move))).max().getAsDouble();
+    private Move highest(List<Move> moves) {
+        double highest = moves.stream().mapToDouble(move -> levels.get(actorOf(move))).max().getAsDouble();
         List<Move> best = new ArrayList<>(moves);
-        best.removeIf(move -> levels.get(who(move)) != highest);
+        best.removeIf(move -> levels.get(actorOf(move)) != highest);
         return best.size() == 1 ? best.get(0) : best.get(random.nextInt(best.size()));
     }
 }

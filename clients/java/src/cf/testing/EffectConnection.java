@@ -1,6 +1,6 @@
 package cf.testing;
 
-import cf.internal.Watched;
+import cf.internal.WatchedServices;
 import java.lang.reflect.InvocationHandler;
 import java.lang.reflect.Method;
 import java.lang.reflect.Proxy;
@@ -20,29 +20,29 @@ import java.util.function.Consumer;
 final class EffectConnection {
     private EffectConnection() {}
 
-    static Connection telling(Consumer<Effect> told) {
-        return Watched.stores().lent(made(Connection.class, (method, args) -> {
+    static Connection reportingTo(Consumer<Effect> told) {
+        return WatchedServices.stores().guardConnection(newProxy(Connection.class, (method, args) -> {
             switch (method.getName()) {
                 case "createStatement":
-                    return made(Statement.class, new Act(null, told));
+                    return newProxy(Statement.class, new StatementHandler(null, told));
                 case "prepareStatement":
-                    return made(PreparedStatement.class, new Act((String) args[0], told));
+                    return newProxy(PreparedStatement.class, new StatementHandler((String) args[0], told));
                 case "isValid":
                     return true;
                 case "isClosed":
                 case "getAutoCommit":
                     return false;
                 default:
-                    throw unknown(method);
+                    throw unsupported(method);
             }
         }));
     }
 
-    private interface Answer {
-        Object to(Method method, Object[] args) throws SQLException;
+    private interface Handler {
+        Object answer(Method method, Object[] args) throws SQLException;
     }
 
-    private static <T> T made(Class<T> kind, Answer answer) {
+    private static <T> T newProxy(Class<T> kind, Handler answer) {
         InvocationHandler calls = (proxy, method, args) -> {
             switch (method.getName()) {
                 case "toString":
@@ -52,37 +52,37 @@ final class EffectConnection {
                 case "equals":
                     return proxy == args[0];
                 default:
-                    return answer.to(method, args == null ? new Object[0] : args);
+                    return answer.answer(method, args == null ? new Object[0] : args);
             }
         };
         return kind.cast(Proxy.newProxyInstance(EffectConnection.class.getClassLoader(), new Class<?>[] {kind}, calls));
     }
 
-    private static SQLException unknown(Method method) {
+    private static SQLException unsupported(Method method) {
         return new SQLFeatureNotSupportedException("a world's store has no database, so its " + method.getDeclaringClass().getSimpleName()
                 + " only writes, and has no " + method.getName());
     }
 
     /** What a statement answers, which was prepared unless its text is null. */
-    private static final class Act implements Answer {
+    private static final class StatementHandler implements Handler {
         private final String prepared;
-        private final Consumer<Effect> told;
+        private final Consumer<Effect> effects;
         private final TreeMap<Integer, Object> values = new TreeMap<>();
         private boolean isClosed;
 
-        Act(String prepared, Consumer<Effect> told) {
+        StatementHandler(String prepared, Consumer<Effect> told) {
             this.prepared = prepared;
-            this.told = told;
+            this.effects = told;
         }
 
         @Override
-        public Object to(Method method, Object[] args) throws SQLException {
+        public Object answer(Method method, Object[] args) throws SQLException {
             String name = method.getName();
             switch (name) {
                 case "execute":
                 case "executeUpdate":
                 case "executeLargeUpdate":
-                    told.accept(args.length == 0 ? new Effect(prepared, given()) : new Effect((String) args[0], Collections.emptyList()));
+                    effects.accept(args.length == 0 ? new Effect(prepared, parameters()) : new Effect((String) args[0], Collections.emptyList()));
                     return method.getReturnType() == boolean.class ? (Object) false : method.getReturnType() == long.class ? (Object) 1L : (Object) 1;
                 case "clearParameters":
                     values.clear();
@@ -94,14 +94,14 @@ final class EffectConnection {
                     return isClosed;
                 default:
                     if (!name.startsWith("set") || args.length < 2 || !(args[0] instanceof Integer)) {
-                        throw unknown(method);
+                        throw unsupported(method);
                     }
                     values.put((Integer) args[0], name.equals("setNull") ? null : args[1]);
                     return null;
             }
         }
 
-        private List<Object> given() {
+        private List<Object> parameters() {
             Object[] given = new Object[values.isEmpty() ? 0 : values.lastKey()];
             values.forEach((place, value) -> given[place - 1] = value);
             return new ArrayList<>(Arrays.asList(given));

@@ -10,27 +10,27 @@ import java.util.List;
 public final class Failure {
     final List<Move> moves;
     List<Pair> pairs = Collections.emptyList();
-    private final String why;
+    private final String reason;
     private final Throwable cause;
-    private final List<Told> told;
+    private final List<ToldMove> toldMoves;
     private final List<RequestHistory> histories;
 
     /** A move in words, and what it settled. */
-    public static final class Told {
+    public static final class ToldMove {
         private final String text;
         private final List<String> settled;
 
-        Told(String text, List<String> settled) {
+        ToldMove(String text, List<String> settled) {
             this.text = text;
             this.settled = Collections.unmodifiableList(settled);
         }
 
-        /** What was done. */
+        /** The move. */
         public String text() {
             return text;
         }
 
-        /** Which stages that settled, and how. */
+        /** The stages that it settled, and their outcomes. */
         public List<String> settled() {
             return settled;
         }
@@ -66,32 +66,32 @@ public final class Failure {
         }
     }
 
-    Failure(String why, Throwable cause, List<Move> moves, List<Told> told, List<RequestHistory> histories) {
-        this.why = why;
+    Failure(String why, Throwable cause, List<Move> moves, List<ToldMove> told, List<RequestHistory> histories) {
+        this.reason = why;
         this.cause = cause;
         this.moves = new ArrayList<>(moves);
-        this.told = Collections.unmodifiableList(told);
+        this.toldMoves = Collections.unmodifiableList(told);
         this.histories = Collections.unmodifiableList(histories);
     }
 
-    /** What doesn't hold. */
+    /** The condition that doesn't hold, or what was thrown. */
     public String why() {
-        return why;
+        return reason;
     }
 
-    /** What a function, a check or the test itself has thrown, if that is why; else null. */
+    /** The exception of a function, a check or the test itself, if that is the reason; else null. */
     public Throwable cause() {
         return cause;
     }
 
     /** The order as a text, which {@link Orders#row} takes. */
     public String row() {
-        return Move.row(moves);
+        return Move.rowText(moves);
     }
 
     /** The moves in words. */
-    public List<Told> told() {
-        return told;
+    public List<ToldMove> told() {
+        return toldMoves;
     }
 
     /** The pairs of moves that decide. */
@@ -133,13 +133,13 @@ public final class Failure {
 
     @Override
     public String toString() {
-        StringBuilder text = new StringBuilder(why).append(": not so in this order of ").append(told.size()).append(" moves\n");
-        for (int k = 0; k < told.size(); k++) {
-            text.append(String.format("%5d. %s%n", k + 1, told.get(k)));
+        StringBuilder text = new StringBuilder(reason).append(": not so in this order of ").append(toldMoves.size()).append(" moves\n");
+        for (int k = 0; k < toldMoves.size(); k++) {
+            text.append(String.format("%5d. %s%n", k + 1, toldMoves.get(k)));
         }
         for (Pair pair : pairs) {
-            text.append("It is so if ").append(pair.second + 1).append(" (").append(told.get(pair.second).text).append(") comes before ")
-                    .append(pair.first + 1).append(" (").append(told.get(pair.first).text).append(").\n");
+            text.append("It is so if ").append(pair.second + 1).append(" (").append(toldMoves.get(pair.second).text).append(") comes before ")
+                    .append(pair.first + 1).append(" (").append(toldMoves.get(pair.first).text).append(").\n");
         }
         return text.append("This order alone: .row(\"").append(row()).append("\")").toString();
     }

@@ -19,7 +19,7 @@ final class Flight {
     /** What it is about: a stage, or {@link Move#MAIN} and the like. */
     long place;
     String name;
-    Move.Word word = Move.Word.CALL;
+    Move.Action word = Move.Action.CALL;
     /** What it does, where it has no turn. */
     Runnable act;
     Carrier carrier;
@@ -60,7 +60,7 @@ final class Flight {
         }
 
         /** That for what a store answers. */
-        static Wait asks(String name, Answer[] ways, Supplier<List<Integer>> possible) {
+        static Wait forAnswer(String name, Answer[] ways, Supplier<List<Integer>> possible) {
             return new Wait(name, null, () -> true, ways, possible);
         }
     }

@@ -12,25 +12,25 @@ import java.util.Map;
  * them settles it.
  */
 final class Footprint {
-    enum How { READS, CHANGES, LEADS }
+    enum Access { READS, CHANGES, LEADS }
 
     /** All that functions share of which nothing is known; the workers; what checks look at. */
     static final String USER = "user", WORKERS = "workers", CHECKED = "checked";
     private static final String ALL = "all";
 
-    private final Map<Object, How> touched = new HashMap<>();
+    private final Map<Object, Access> touched = new HashMap<>();
 
     /** That of a move of which nothing is known. */
-    static Footprint ofAll() {
+    static Footprint ofUnknownMove() {
         Footprint made = new Footprint();
-        made.touch(ALL, How.CHANGES);
+        made.touch(ALL, Access.CHANGES);
         return made;
     }
 
-    void touch(Object thing, How how) {
-        How old = touched.putIfAbsent(thing, how);
-        if (old != null && old != how) {
-            touched.put(thing, How.CHANGES);
+    void touch(Object thing, Access access) {
+        Access old = touched.putIfAbsent(thing, access);
+        if (old != null && old != access) {
+            touched.put(thing, Access.CHANGES);
         }
     }
 
@@ -41,7 +41,7 @@ final class Footprint {
     /** Whether it changes one of these. */
     boolean changes(Iterable<Object> things) {
         for (Object thing : things) {
-            if (touched.get(thing) == How.CHANGES) {
+            if (touched.get(thing) == Access.CHANGES) {
                 return true;
             }
         }
@@ -57,8 +57,8 @@ final class Footprint {
         return other != null && withoutChecked().equals(other.withoutChecked());
     }
 
-    private Map<Object, How> withoutChecked() {
-        Map<Object, How> rest = new HashMap<>(touched);
+    private Map<Object, Access> withoutChecked() {
+        Map<Object, Access> rest = new HashMap<>(touched);
         rest.remove(CHECKED);
         return rest;
     }
@@ -71,9 +71,9 @@ final class Footprint {
         if (other.touched.size() < touched.size()) {
             return other.isIndependent(this);
         }
-        for (Map.Entry<Object, How> each : touched.entrySet()) {
-            How how = other.touched.get(each.getKey());
-            if (how != null && (how != each.getValue() || how == How.CHANGES)) {
+        for (Map.Entry<Object, Access> each : touched.entrySet()) {
+            Access access = other.touched.get(each.getKey());
+            if (access != null && (access != each.getValue() || access == Access.CHANGES)) {
                 return false;
             }
         }

@@ -5,11 +5,11 @@ final class Leaving extends Error {
     private static final long serialVersionUID = 1;
 
     /** The order fails; a function waits, so the run is begun again with functions on threads of their own; the run has ended. */
-    enum Why { FAILED, NEEDS_THREADS, GONE }
+    enum Reason { FAILED, NEEDS_THREADS, GONE }
 
-    final Why reason;
+    final Reason reason;
 
-    Leaving(Why reason) {
+    Leaving(Reason reason) {
         super(reason.toString(), null, false, false);
         this.reason = reason;
     }

@@ -85,7 +85,7 @@ final class Memory implements Store {
     }
 
     @Override
-    public void changed(long millis) {}
+    public void awaitChange(long millis) {}
 
     @Override
     public boolean end(String name, long number, int at) {
@@ -122,13 +122,13 @@ final class Memory implements Store {
         return 0;
     }
 
-    // Timers: Rows has them.
+    // Timers: WorldRows has them.
 
     @Override
     public void setTimer(Timer timer) {}
 
     @Override
-    public List<Timer> due(double now) {
+    public List<Timer> dueTimers(double now) {
         return new ArrayList<>();
     }
 

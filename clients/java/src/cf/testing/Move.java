@@ -35,7 +35,7 @@ import java.util.Locale;
  * </pre>
  */
 final class Move {
-    enum Word {
+    enum Action {
         BEGIN(2), CALL(2), GO(2), CHOOSE(3), END(2), COME(2), BY(2), LIMIT(3), STOP(0), JOB(2, true), ASK(4, true), LOOK(1, true), DUE(4, true),
         GONE(2, true), KILL(1, true), LAND(1), SPARE(0);
 
@@ -43,11 +43,11 @@ final class Move {
         /** Whether it is of a process of a store. */
         final boolean isOfProcess;
 
-        Word(int count) {
+        Action(int count) {
             this(count, false);
         }
 
-        Word(int count, boolean isOfProcess) {
+        Action(int count, boolean isOfProcess) {
             this.count = count;
             this.isOfProcess = isOfProcess;
         }
@@ -63,23 +63,23 @@ final class Move {
 
     private static final String[] NAMES = {"", "main", "caller", "job", "outside"};
 
-    final Word word;
+    final Action action;
     final int a, b, c, d;
 
-    Move(Word word, int a, int b, int c) {
-        this(word, a, b, c, 0);
+    Move(Action action, int a, int b, int c) {
+        this(action, a, b, c, 0);
     }
 
-    Move(Word word, int a, int b, int c, int d) {
-        this.word = word;
+    Move(Action action, int a, int b, int c, int d) {
+        this.action = action;
         this.a = a;
         this.b = b;
         this.c = c;
         this.d = d;
     }
 
-    Move(Word word, long place) {
-        this(word, (int) (place >> 32), (int) place, 0);
+    Move(Action action, long place) {
+        this(action, (int) (place >> 32), (int) place, 0);
     }
 
     /** A stage, or another function, by two numbers. */
@@ -92,13 +92,13 @@ final class Move {
     }
 
     /** Whether it is a call of a store that isn't answered. */
-    boolean goesWrong() {
-        return word == Word.ASK && d > 0;
+    boolean isFault() {
+        return action == Action.ASK && d > 0;
     }
 
     /** Who makes it. */
     Object actor() {
-        switch (word) {
+        switch (action) {
             case BEGIN:
             case CALL:
             case GO:
@@ -109,9 +109,9 @@ final class Move {
                 return place();
             case STOP:
             case SPARE:
-                return word;
+                return action;
             default:
-                return word + " " + a;
+                return action + " " + a;
         }
     }
 
@@ -121,26 +121,26 @@ final class Move {
             return false;
         }
         Move move = (Move) other;
-        return word == move.word && a == move.a && b == move.b && c == move.c && d == move.d;
+        return action == move.action && a == move.a && b == move.b && c == move.c && d == move.d;
     }
 
     @Override
     public int hashCode() {
-        return (((word.ordinal() * 31 + a) * 31 + b) * 31 + c) * 31 + d;
+        return (((action.ordinal() * 31 + a) * 31 + b) * 31 + c) * 31 + d;
     }
 
     @Override
     public String toString() {
         int[] numbers = {a, b, c, d};
-        StringBuilder text = new StringBuilder(word.toString().toLowerCase(Locale.ROOT));
-        for (int k = 0; k < word.count; k++) {
+        StringBuilder text = new StringBuilder(action.toString().toLowerCase(Locale.ROOT));
+        for (int k = 0; k < action.count; k++) {
             text.append('.').append(numbers[k] <= PROCESS ? "p" + (PROCESS - numbers[k]) : numbers[k] < 0 ? NAMES[-numbers[k]] : "" + numbers[k]);
         }
         return text.toString();
     }
 
-    /** The moves as a text, which {@link #moves} reads. */
-    static String row(List<Move> moves) {
+    /** The moves as a text, which {@link #parseRow} reads. */
+    static String rowText(List<Move> moves) {
         StringBuilder text = new StringBuilder();
         for (Move move : moves) {
             text.append(text.length() == 0 ? "" : " ").append(move);
@@ -148,29 +148,29 @@ final class Move {
         return text.toString();
     }
 
-    static List<Move> moves(String row) {
+    static List<Move> parseRow(String row) {
         List<Move> moves = new ArrayList<>();
         for (String text : row.trim().isEmpty() ? new String[0] : row.trim().split("\\s+")) {
-            moves.add(move(text));
+            moves.add(parseMove(text));
         }
         return moves;
     }
 
-    private static Move move(String text) {
+    private static Move parseMove(String text) {
         String[] parts = text.split("\\.");
         try {
-            Word word = Word.valueOf(parts[0].toUpperCase(Locale.ROOT));
+            Action action = Action.valueOf(parts[0].toUpperCase(Locale.ROOT));
             int[] numbers = new int[4];
-            for (int k = 0; k < word.count; k++) {
-                numbers[k] = number(parts[k + 1]);
+            for (int k = 0; k < action.count; k++) {
+                numbers[k] = parseNumber(parts[k + 1]);
             }
-            return new Move(word, numbers[0], numbers[1], numbers[2], numbers[3]);
+            return new Move(action, numbers[0], numbers[1], numbers[2], numbers[3]);
         } catch (IllegalArgumentException | IndexOutOfBoundsException none) {
             throw new IllegalArgumentException("there is no move " + text, none);
         }
     }
 
-    private static int number(String text) {
+    private static int parseNumber(String text) {
         for (int k = 1; k < NAMES.length; k++) {
             if (NAMES[k].equals(text)) {
                 return -k;

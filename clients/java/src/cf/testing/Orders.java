@@ -36,7 +36,7 @@ public final class Orders {
         this.scenario = Objects.requireNonNull(scenario);
     }
 
-    /** What is run, which is called once for each order, and each time has to do the same. */
+    /** With a scenario, which is run once for each order, and has to do the same each time. */
     public static Orders of(Scenario scenario) {
         return new Orders(scenario);
     }
@@ -107,7 +107,7 @@ public final class Orders {
         return this;
     }
 
-    /** Says what an end is, for {@link Report#ends}. */
+    /** Sets the function that gives the end of an order, for {@link Report#ends}. */
     public Orders ends(Function<World, ?> ends) {
         this.ends = Objects.requireNonNull(ends);
         return this;
@@ -119,7 +119,7 @@ public final class Orders {
         return this;
     }
 
-    /** Runs it. The first orders that fail are an AssertionError, whose message is their story. What was thrown in the first is its cause. */
+    /** Runs it. The first orders that fail are an AssertionError, whose message is their story. Its cause is the first one's exception. */
     public void check() {
         Report report = run();
         if (!report.failed.isEmpty() || isWhole && !report.whole) {
@@ -128,35 +128,35 @@ public final class Orders {
     }
 
     /**
-     * Runs it, and says what was found. A fault in the test itself is an order that fails.
+     * Runs it, and reports. A fault in the test itself is an order that fails.
      *
      * @throws NotDeterministicError if the test did other things with the same choices
      */
     public Report run() {
         long began = System.nanoTime(), until = began + (long) (seconds * 1e9);
         settings.hasThreads = settings.isFine;
-        Report report = searchedElsewhere(until);
+        Report report = searchOnCarrier(until);
         if (report == null) {
             settings.hasThreads = true;
-            report = searchedElsewhere(until);
+            report = searchOnCarrier(until);
         }
         report.seconds = (System.nanoTime() - began) / 1e9;
         return report;
     }
 
     /** By a thread of the kit, so that a function that blocks it hangs nobody. Null where functions need threads of their own. */
-    private Report searchedElsewhere(long until) {
+    private Report searchOnCarrier(long until) {
         Report[] report = new Report[1];
         Throwable[] thrown = new Throwable[1];
-        Carrier carrier = Carrier.take();
-        String stuck = carrier.begin(() -> {
+        Carrier carrier = Carrier.borrow();
+        String stuck = carrier.runJob(() -> {
             try {
-                report[0] = searched(until);
+                report[0] = search(until);
             } catch (Throwable each) {
                 thrown[0] = each;
             }
         });
-        carrier.give();
+        carrier.giveBack();
         if (stuck != null && settings.hasThreads) {
             throw new AssertionError("the test blocks outside the world, at " + stuck);
         }
@@ -171,22 +171,22 @@ public final class Orders {
         throw (E) thrown;
     }
 
-    private Report searched(long until) {
+    private Report search(long until) {
         Runner runner = new Runner(scenario, settings);
         Report report = new Report();
         if (row != null) {
-            Ran ran = runner.again(Move.moves(row));
+            RunResult result = runner.replay(Move.parseRow(row));
             report.orders = 1;
-            report.failed = !ran.failed() ? report.failed
-                    : Collections.singletonList(ran.run.isStuck ? ran.failure() : decided(runner, ran.failure()));
+            report.failed = !result.hasFailed() ? report.failed
+                    : Collections.singletonList(result.run.isStuck ? result.failure() : withDecidingPairs(runner, result.failure()));
             return report;
         }
         if (chance > 0) {
-            new Chance(runner, report, seed).go(chance, until, failures);
+            new Chance(runner, report, seed).search(chance, until, failures);
         } else {
-            all(runner, report, until);
+            searchAll(runner, report, until);
         }
-        report.failed = told(runner, report.failed);
+        report.failed = retell(runner, report.failed);
         return report;
     }
 
@@ -194,34 +194,34 @@ public final class Orders {
      * Some orders in turn, and if these aren't all, some by chance: what needs the last of many to come first is met late by the search in turn,
      * and soon by chance.
      */
-    private void all(Runner runner, Report report, long until) {
+    private void searchAll(Runner runner, Report report, long until) {
         Search search = new Search(runner, report, ends);
         int first = Math.min(AT_FIRST, most);
-        search.go(first, until, failures);
+        search.search(first, until, failures);
         if (report.whole || report.failed.size() >= failures || most <= first) {
             return;
         }
         long now = System.nanoTime();
-        new Chance(runner, report, seed).go(most / PART, now + (until - now) / PART, failures);
-        search.go(most - report.byChance - first, until, failures);
+        new Chance(runner, report, seed).search(most / PART, now + (until - now) / PART, failures);
+        search.search(most - report.byChance - first, until, failures);
     }
 
-    private List<Failure> told(Runner runner, List<Failure> failed) {
+    private List<Failure> retell(Runner runner, List<Failure> failed) {
         List<Failure> told = new ArrayList<>();
         for (Failure failure : failed) {
-            Ran ran = runner.again(failure.moves);
-            Failure again = ran.failure();
-            if (!isSmaller || ran.run.isStuck) {
+            RunResult result = runner.replay(failure.moves);
+            Failure again = result.failure();
+            if (!isSmaller || result.run.isStuck) {
                 told.add(again);
             } else if (told.size() < MOST_TOLD) {
-                told.add(decided(runner, Smaller.of(runner, again)));
+                told.add(withDecidingPairs(runner, Reducer.reduce(runner, again)));
             }
         }
         return told;
     }
 
-    private static Failure decided(Runner runner, Failure failure) {
-        failure.pairs = Smaller.pairs(runner, failure);
+    private static Failure withDecidingPairs(Runner runner, Failure failure) {
+        failure.pairs = Reducer.decidingPairs(runner, failure);
         return failure;
     }
 }

@@ -1,9 +1,9 @@
 package cf.testing;
 
 import cf.internal.Host;
-import cf.internal.Watched;
+import cf.internal.WatchedServices;
 import cf.store.StoreException;
-import cf.testing.Footprint.How;
+import cf.testing.Footprint.Access;
 import java.util.Random;
 import java.util.concurrent.locks.Lock;
 import java.util.function.BooleanSupplier;
@@ -33,18 +33,18 @@ final class ProcessHost extends Host {
     public void sleep(long millis) {}
 
     @Override
-    public long chance(int bits) {
+    public long randomBits(int bits) {
         return random.nextLong() >>> 64 - bits;
     }
 
     @Override
-    public Lock lock() {
+    public Lock newLock() {
         return new WorldLock(world.run, process);
     }
 
     /** Looks are moves, and threads begin with those. */
     @Override
-    public void begin(int threads, Runnable looks) {}
+    public void startThreads(int threads, Runnable looks) {}
 
     @Override
     public void execute(Job job, String request, Runnable act) {
@@ -53,23 +53,23 @@ final class ProcessHost extends Host {
 
     /** Threads take nothing more: the service says so. */
     @Override
-    public void end() {}
+    public void shutDown() {}
 
     @Override
-    public Object call(String function, Call call) throws Throwable {
+    public Object call(String function, FunctionCall call) throws Throwable {
         return world.call(process, function, call);
     }
 
     @Override
-    public void passes(Throwable thrown) {
+    public void rethrowIfRunEnds(Throwable thrown) {
         if (thrown instanceof Leaving) {
             throw (Leaving) thrown;
         }
     }
 
     @Override
-    public void warns(String text, String request, Throwable thrown) {
-        passes(thrown);
+    public void warn(String text, String request, Throwable thrown) {
+        rethrowIfRunEnds(thrown);
         if (thrown != null && !(thrown instanceof StoreException)) {
             world.run.fail(process.name + ", " + text + ": " + Run.text(thrown), thrown);
         }
@@ -79,34 +79,34 @@ final class ProcessHost extends Host {
     }
 
     @Override
-    public void breaks(String text, boolean isDropped) {
+    public void warnBroken(String text, boolean isDropped) {
         if (!isDropped) {
             world.run.fail(process.name + " can't go on: " + text);
         }
     }
 
     @Override
-    public void did(String request, int place, long word, int answer) {
-        world.answered.add(new WorldStore.Answered(process.name, request, place, word));
-        int claimed = Watched.stores().claimed(word);
+    public void noteAnswer(String request, int place, long word, int answer) {
+        world.answeredWords.add(new WorldStore.AnsweredWord(process.name, request, place, word));
+        int claimed = WatchedServices.stores().claimedStage(word);
         if (claimed >= 0 && answer == 0) {
-            world.granted.add(new WorldStore.Granted(process.name, request, claimed));
+            world.grantedClaims.add(new WorldStore.GrantedClaim(process.name, request, claimed));
         }
     }
 
     @Override
-    public boolean hears() {
+    public boolean takesWordsAsBeats() {
         return false;
     }
 
     @Override
-    public void looked() {
-        world.touch(process.thing, How.READS);
+    public void noteLook() {
+        world.touch(process.thing, Access.READS);
     }
 
     @Override
-    public boolean waits(Supplier<String> name, BooleanSupplier isSettled, long nanos) {
-        looked();
+    public boolean awaitSettled(Supplier<String> name, BooleanSupplier isSettled, long nanos) {
+        noteLook();
         if (!isSettled.getAsBoolean() && nanos != 0) {
             world.run.waitFor(new Flight.Wait(name.get(), process.thing, isSettled, null), nanos);
         }
@@ -114,9 +114,9 @@ final class ProcessHost extends Host {
     }
 
     @Override
-    public void tells(boolean isHeard, Runnable act) {
+    public void wake(boolean isHeard, Runnable act) {
         if (isHeard) {
-            world.run.user(act);
+            world.run.callUserCode(act);
         } else {
             act.run();
         }

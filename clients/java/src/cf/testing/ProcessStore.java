@@ -1,7 +1,7 @@
 package cf.testing;
 
 import cf.store.Store;
-import cf.testing.Footprint.How;
+import cf.testing.Footprint.Access;
 import java.util.ArrayList;
 import java.util.Collections;
 import java.util.List;
@@ -11,7 +11,7 @@ import java.util.Map;
 final class ProcessStore implements Store {
     private final WorldStore world;
     private final StoreProcess process;
-    private final Rows rows;
+    private final WorldRows rows;
 
     ProcessStore(WorldStore world, StoreProcess process) {
         this.world = world;
@@ -21,23 +21,23 @@ final class ProcessStore implements Store {
 
     @Override
     public Opened open(String name, String plan) {
-        return world.ask(process, Answer.OF_WRITES, "opens " + name, null, () -> rows.open(name, plan));
+        return world.askStore(process, Answer.OF_WRITES, "opens " + name, null, () -> rows.open(name, plan));
     }
 
     @Override
     public Opened find(String name) {
-        world.touch(Rows.ROWS, How.READS);
+        world.touch(WorldRows.ROWS, Access.READS);
         return rows.memory.find(name);
     }
 
     @Override
     public List<Entry> append(Put put) {
-        return world.ask(process, Answer.OF_PUTS, rows.reader(put.request()).text(put), new Coming(put, null), () -> rows.append(put));
+        return world.askStore(process, Answer.OF_PUTS, rows.reader(put.request()).putText(put), new Coming(put, null), () -> rows.append(put));
     }
 
     @Override
     public List<Entry> read(String name, long number, int at) {
-        return world.ask(process, Answer.OF_READS, "reads " + name, null, () -> rows.read(name, number, at));
+        return world.askStore(process, Answer.OF_READS, "reads " + name, null, () -> rows.read(name, number, at));
     }
 
     @Override
@@ -47,38 +47,39 @@ final class ProcessStore implements Store {
 
     @Override
     public News news(Object mark) {
-        world.touch(Rows.ROWS, How.READS);
-        rows.names.stream().filter(name -> rows.memory.isOpen(name) && process.worksOn(name)).forEach(name -> world.touch(Rows.row(name), How.READS));
+        world.touch(WorldRows.ROWS, Access.READS);
+        rows.names.stream().filter(name -> rows.memory.isOpen(name)
+                && process.worksOn(name)).forEach(name -> world.touch(WorldRows.rowThing(name), Access.READS));
         return rows.memory.news(mark);
     }
 
     @Override
-    public void changed(long millis) {}
+    public void awaitChange(long millis) {}
 
     @Override
     public boolean end(String name, long number, int at) {
-        return world.ask(process, Answer.OF_WRITES, "closes " + name, null, () -> rows.end(name, number, at));
+        return world.askStore(process, Answer.OF_WRITES, "closes " + name, null, () -> rows.end(name, number, at));
     }
 
     @Override
     public void setTimer(Timer timer) {
-        change("sets the limit of " + rows.name(timer.request(), timer.stage()), () -> rows.setTimer(timer));
+        change("sets the limit of " + rows.stageName(timer.request(), timer.stage()), () -> rows.setTimer(timer));
     }
 
     @Override
     public void dropTimer(Timer timer) {
-        change("forgets the limit of " + rows.name(timer.request(), timer.stage()), () -> rows.dropTimer(timer));
+        change("forgets the limit of " + rows.stageName(timer.request(), timer.stage()), () -> rows.dropTimer(timer));
     }
 
     private void change(String text, Runnable act) {
-        world.ask(process, Answer.OF_WRITES, text, null, () -> {
+        world.askStore(process, Answer.OF_WRITES, text, null, () -> {
             act.run();
             return null;
         });
     }
 
     @Override
-    public List<Timer> due(double now) {
+    public List<Timer> dueTimers(double now) {
         return process.due == null ? new ArrayList<>() : Collections.singletonList(process.due);
     }
 

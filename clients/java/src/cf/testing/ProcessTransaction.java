@@ -25,7 +25,7 @@ final class ProcessTransaction implements Store.Transaction {
 
     @Override
     public Connection connection() {
-        return EffectConnection.telling(effects::add);
+        return EffectConnection.reportingTo(effects::add);
     }
 
     @Override
@@ -35,7 +35,7 @@ final class ProcessTransaction implements Store.Transaction {
 
     @Override
     public boolean append(Store.Put its) {
-        return world.takes(this, its);
+        return world.takePlace(this, its);
     }
 
     @Override
@@ -46,7 +46,7 @@ final class ProcessTransaction implements Store.Transaction {
     @Override
     public void close() {
         if (!isOnItsWay) {
-            world.rows.frees(this);
+            world.rows.releasePlace(this);
         }
     }
 }

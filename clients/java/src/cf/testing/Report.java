@@ -7,7 +7,7 @@ import java.util.List;
 import java.util.Locale;
 import java.util.Map;
 
-/** What a search found. */
+/** The result of a search. */
 public final class Report {
     int orders, byChance, leftOut, cut;
     boolean whole;

@@ -1,15 +1,15 @@
 package cf.testing;
 
 import cf.internal.Watch;
-import cf.internal.Watched;
+import cf.internal.WatchedServices;
 import cf.service.Describe;
 import cf.service.Request;
 import cf.service.RequestHistory;
 import cf.service.Service;
 import cf.service.Stage;
 import cf.store.StoredStage;
-import cf.testing.Footprint.How;
-import cf.testing.Move.Word;
+import cf.testing.Footprint.Access;
+import cf.testing.Move.Action;
 import java.util.ArrayList;
 import java.util.Arrays;
 import java.util.Collections;
@@ -33,9 +33,9 @@ import java.util.stream.Collectors;
 /**
  * One run of a test, of which a search chooses each move.
  *
- * <p>A run is the {@link Watch} of its service: it keeps what is ready, what goes on, what may come from outside and what is due, and says
- * which moves may be next ({@link #moves}). {@link #make} makes one, and gives what it touched. One thread at a time goes on: the search's,
- * or a carrier that it has handed the turn.
+ * <p>A run is the {@link Watch} of its service: it keeps ready functions, threads, arrivals from outside and timers, and says which moves may be
+ * next ({@link #moves}). {@link #make} makes a move, and gives its footprint. One thread at a time goes on: the search's, or a carrier that it
+ * has given the turn.
  */
 final class Run implements Watch, Executor {
     private static final String OUTSIDE = "the world outside";
@@ -46,51 +46,51 @@ final class Run implements Watch, Executor {
     final World world = new World(this);
     final List<Request> requests = new ArrayList<>();
     final List<Caller> callers = new ArrayList<>();
-    final List<Check> checks = new ArrayList<>(), ends = new ArrayList<>();
+    final List<Check> checks = new ArrayList<>(), endChecks = new ArrayList<>();
     final List<CompletableFuture<?>> settling = new ArrayList<>();
     final List<StoredStage> settlingStored = new ArrayList<>();
     /** In how many ways workers could have been chosen. */
     long weight = 1;
     /** Why it fails; null where it doesn't. */
-    volatile String why;
+    volatile String reason;
     /** What was thrown there, or null. */
     Throwable cause;
 
-    /** It fails since a thread blocks. To do so again takes a while. */
+    /** Whether it fails since a thread blocks. To do so again takes a while. */
     boolean isStuck;
 
-    /** What checks have looked at in all runs. It grows. */
+    /** The things that checks have read in all runs. It grows. */
     private final Set<Object> watched;
     private final Map<Request, Integer> indices = new IdentityHashMap<>();
     private final Map<Long, Stage<?>> stages = new HashMap<>();
     private final Map<Long, String[]> marks = new HashMap<>();
     private final Set<Long> settled = new HashSet<>();
-    private final Map<Long, Watch.Task> ready = new LinkedHashMap<>();
+    private final Map<Long, Watch.ReadyStage> readyStages = new LinkedHashMap<>();
     private final List<Flight> flights = new ArrayList<>();
     private final List<Arrival> arrivals = new ArrayList<>();
-    private List<Timer> timers = new ArrayList<>();
-    private final List<Timer> passed = new ArrayList<>();
+    private List<WorldTimer> timers = new ArrayList<>();
+    private final List<WorldTimer> passedTimers = new ArrayList<>();
     private final Map<Integer, Integer> timersMade = new HashMap<>();
-    private final Map<Integer, Long> nows = new HashMap<>();
-    private final Behind behind = new Behind();
+    private final Map<Integer, Long> clocks = new HashMap<>();
+    private final Dependents dependents = new Dependents();
     /** Relays of each stage of another request, also those that were let go. */
     private final Map<Long, List<Long>> relays = new HashMap<>();
-    private final Map<Long, String> relayed = new HashMap<>();
-    private final List<Long> news = new ArrayList<>();
-    /** What the last move settled, in words that are asked for without a request's lock. */
-    private final List<Supplier<String>> told = new ArrayList<>();
-    private final Thread home = Thread.currentThread();
+    private final Map<Long, String> relayNames = new HashMap<>();
+    private final List<Long> changedPlaces = new ArrayList<>();
+    /** Texts of what the last move settled, which are made without a request's lock. */
+    private final List<Supplier<String>> settledTexts = new ArrayList<>();
+    private final Thread homeThread = Thread.currentThread();
     private Request outside;
     private Footprint footprint;
-    /** Whose function goes on, on its own thread. */
+    /** The thread whose function goes on, or null. */
     private Flight current;
     private String caller = "main";
-    private boolean isInUser, isInBody, isOver, isStopped, isBeginning, isOutside, needsThreads, tells, isClosing;
-    /** What processes share, or null. */
+    private boolean isInUserCode, isInBody, isOver, isStopped, isBeginning, isOutside, needsThreads, isTelling, isClosing;
+    /** The store that processes share, or null. */
     private WorldStore store;
     private int jobs;
 
-    /** What has to hold, and how that is said. */
+    /** A condition that has to hold, and its text. */
     static final class Check {
         final BooleanSupplier holds;
         final String text;
@@ -104,7 +104,7 @@ final class Run implements Watch, Executor {
     Run(Settings settings, Set<Object> watched) {
         this.settings = settings;
         this.watched = watched;
-        service = Watched.service(this, this);
+        service = WatchedServices.newService(this, this);
     }
 
     // What may come next.
@@ -113,21 +113,21 @@ final class Run implements Watch, Executor {
     List<Move> moves() {
         List<Move> moves = new ArrayList<>();
         for (Flight flight : flights) {
-            add(moves, flight);
+            addMoves(moves, flight);
         }
-        ready.keySet().removeIf(settled::contains);
-        if (workersFree() > 0) {
-            ready.keySet().forEach(place -> moves.add(new Move(Word.BEGIN, place)));
+        readyStages.keySet().removeIf(settled::contains);
+        if (freeWorkers() > 0) {
+            readyStages.keySet().forEach(place -> moves.add(new Move(Action.BEGIN, place)));
         }
         for (int n = 0; n < arrivals.size(); n++) {
             Arrival arrival = arrivals.get(n);
             for (int k = 0; k < arrival.ways.size() && isOpen(arrival); k++) {
-                moves.add(new Move(Word.COME, n, k, 0));
+                moves.add(new Move(Action.COME, n, k, 0));
             }
         }
         for (int n = 0; n < callers.size(); n++) {
-            if (callers.get(n).next() != null && find(Move.place(Move.CALLER, n)) == null) {
-                moves.add(new Move(Word.BY, n, callers.get(n).made, 0));
+            if (callers.get(n).nextCall() != null && findFlight(Move.place(Move.CALLER, n)) == null) {
+                moves.add(new Move(Action.BY, n, callers.get(n).callsMade, 0));
             }
         }
         addLimits(moves);
@@ -135,23 +135,23 @@ final class Run implements Watch, Executor {
             moves.addAll(store.moves(!moves.isEmpty()));
         }
         if (settings.isClockFree && mayStop(moves)) {
-            moves.add(new Move(Word.STOP, 0, 0, 0));
+            moves.add(new Move(Action.STOP, 0, 0, 0));
         }
         return moves;
     }
 
-    private static void add(List<Move> moves, Flight flight) {
+    private static void addMoves(List<Move> moves, Flight flight) {
         Flight.Wait wait = flight.wait;
         if (wait == null) {
             moves.add(new Move(flight.word, flight.place));
         } else if (wait.possible != null) {
-            wait.possible.get().forEach(k -> moves.add(new Move(Word.ASK, (int) (flight.place >> 32), (int) flight.place, flight.asked, k)));
+            wait.possible.get().forEach(k -> moves.add(new Move(Action.ASK, (int) (flight.place >> 32), (int) flight.place, flight.asked, k)));
         } else if (wait.ways != null) {
             for (int k = 0; k < wait.ways.length; k++) {
-                moves.add(new Move(Word.CHOOSE, (int) (flight.place >> 32), (int) flight.place, k));
+                moves.add(new Move(Action.CHOOSE, (int) (flight.place >> 32), (int) flight.place, k));
             }
         } else if (flight.isLate || wait.isOver.getAsBoolean()) {
-            moves.add(new Move(Word.GO, flight.place));
+            moves.add(new Move(Action.GO, flight.place));
         }
     }
 
@@ -159,11 +159,11 @@ final class Run implements Watch, Executor {
         return !arrival.isNever && !settled.contains(place(arrival.stage));
     }
 
-    private int workersFree() {
-        return settings.workers == 0 ? 1 : settings.workers - workersBusy();
+    private int freeWorkers() {
+        return settings.workers == 0 ? 1 : settings.workers - busyWorkers();
     }
 
-    private int workersBusy() {
+    private int busyWorkers() {
         int busy = 0;
         for (Flight flight : flights) {
             busy += flight.isWorker ? 1 : 0;
@@ -177,17 +177,17 @@ final class Run implements Watch, Executor {
             return;
         }
         if (!settings.isClockFree) {
-            List<Timer> open = new ArrayList<>();
-            for (Timer timer : timers) {
-                (timer.isLost.getAsBoolean() ? passed : open).add(timer);
+            List<WorldTimer> open = new ArrayList<>();
+            for (WorldTimer timer : timers) {
+                (timer.isLost.getAsBoolean() ? passedTimers : open).add(timer);
             }
             timers = open;
         }
         if (isStopped) {
             return;
         }
-        Map<Integer, Timer> first = new TreeMap<>();
-        for (Timer timer : timers) {
+        Map<Integer, WorldTimer> first = new TreeMap<>();
+        for (WorldTimer timer : timers) {
             first.merge(timer.request(), timer, (a, b) -> a.due <= b.due ? a : b);
         }
         first.values().forEach(timer -> moves.add(timer.move()));
@@ -198,76 +198,76 @@ final class Run implements Watch, Executor {
      * move has to be there as long as the limits are.
      */
     private boolean mayStop(List<Move> moves) {
-        long limits = moves.stream().filter(move -> move.word == Word.LIMIT).count();
+        long limits = moves.stream().filter(move -> move.action == Action.LIMIT).count();
         return limits > 0 && (settings.isReduced || limits == moves.size());
     }
 
     // Moves.
 
-    /** Makes a move, and gives what it touched. */
+    /** Makes a move, and gives its footprint. */
     Footprint make(Move move) {
         footprint = new Footprint();
-        told.clear();
-        if (move.word.isOfStore()) {
+        settledTexts.clear();
+        if (move.action.isOfStore()) {
             store.make(move);
         } else {
             makeOwn(move);
         }
         Footprint made = footprint;
         footprint = null;
-        look(made);
+        runChecks(made);
         return made;
     }
 
     private void makeOwn(Move move) {
-        switch (move.word) {
+        switch (move.action) {
             case BEGIN:
-                begin(move.place());
+                beginFunction(move.place());
                 break;
             case CALL:
-                call(of(move));
+                callFunction(flightOf(move));
                 break;
             case GO:
-                goOn(of(move));
+                continueFlight(flightOf(move));
                 break;
             case CHOOSE:
-                Flight flight = of(move);
+                Flight flight = flightOf(move);
                 flight.chosen = flight.wait.ways[move.c];
-                goOn(flight);
+                continueFlight(flight);
                 break;
             case ASK:
-                Flight asking = of(move);
-                touch(asking.process.thing, How.CHANGES);
+                Flight asking = flightOf(move);
+                touch(asking.process.thing, Access.CHANGES);
                 asking.asked++;
                 asking.chosen = asking.wait.ways[move.d];
-                goOn(asking);
+                continueFlight(asking);
                 break;
             case END:
-                end(of(move));
+                endFunction(flightOf(move));
                 break;
             case COME:
-                come(move);
+                makeArrival(move);
                 break;
             case BY:
-                by(move);
+                makeCall(move);
                 break;
             case LIMIT:
-                limit(move);
+                passLimit(move);
                 break;
             default:
-                timers.forEach(timer -> touch(clock(timer.request()), How.CHANGES));
+                timers.forEach(timer -> touch(clockThing(timer.request()), Access.CHANGES));
                 isStopped = true;
         }
     }
 
-    private Flight of(Move move) {
-        Flight flight = find(move.place());
-        touch(flight.thing, How.CHANGES);
+    private Flight flightOf(Move move) {
+        Flight flight = findFlight(move.place());
+        touch(flight.thing, Access.CHANGES);
         caller = flight.caller;
         return flight;
     }
 
-    private Flight find(long place) {
+    private Flight findFlight(long place) {
         for (Flight flight : flights) {
             if (flight.place == place) {
                 return flight;
@@ -276,25 +276,25 @@ final class Run implements Watch, Executor {
         return null;
     }
 
-    private void begin(long place) {
-        Watch.Task task = ready.remove(place);
+    private void beginFunction(long place) {
+        Watch.ReadyStage task = readyStages.remove(place);
         if (settings.workers > 0) {
-            touch(Footprint.WORKERS, How.CHANGES);
-            weight *= workersFree();
+            touch(Footprint.WORKERS, Access.CHANGES);
+            weight *= freeWorkers();
         }
-        caller = worker();
+        caller = freeWorkerName();
         isBeginning = true;
         Watch.Turn turn = task.claim();
         isBeginning = false;
         Flight flight = new Flight(place, task.stage().name(), caller, turn, true, null);
-        touch(flight.thing, How.CHANGES);
-        if (turn.next()) {
+        touch(flight.thing, Access.CHANGES);
+        if (turn.tellToNext()) {
             flights.add(flight);
         }
     }
 
-    /** The first name of a worker that nobody has. */
-    private String worker() {
+    /** The first name of a worker that is free. */
+    private String freeWorkerName() {
         Set<String> taken = new HashSet<>();
         flights.forEach(flight -> taken.add(flight.caller));
         int number = 1;
@@ -304,20 +304,20 @@ final class Run implements Watch, Executor {
         return "worker " + number;
     }
 
-    private void call(Flight flight) {
+    private void callFunction(Flight flight) {
         if (flight.turn != null) {
-            touch(flight.place, How.READS);
+            touch(flight.place, Access.READS);
         }
-        flight.touches = shared(marks.get(flight.place));
+        flight.touches = sharedThings(marks.get(flight.place));
         if (flight.turn == null || !settled.contains(flight.place)) {
-            flight.touches.forEach(thing -> touch(thing, How.CHANGES));
+            flight.touches.forEach(thing -> touch(thing, Access.CHANGES));
         }
-        carry(flight);
-        endOf(flight);
+        runBody(flight);
+        removeIfEnded(flight);
     }
 
-    /** What a function shares with others that is marked with these names, in each of its moves. */
-    private List<Object> shared(String[] names) {
+    /** The things that a function with these marks shares with others, in each of its moves. */
+    private List<Object> sharedThings(String[] names) {
         if (names == UNMARKED) {
             return Collections.singletonList(Footprint.USER);
         }
@@ -329,52 +329,52 @@ final class Run implements Watch, Executor {
         return things;
     }
 
-    private void goOn(Flight flight) {
-        flight.touches.forEach(thing -> touch(thing, How.CHANGES));
+    private void continueFlight(Flight flight) {
+        flight.touches.forEach(thing -> touch(thing, Access.CHANGES));
         if (flight.wait != null && flight.wait.thing != null) {
-            touch(flight.wait.thing, How.READS);
+            touch(flight.wait.thing, Access.READS);
         }
         flight.wait = null;
-        on(flight, false);
-        endOf(flight);
+        giveTurn(flight, false);
+        removeIfEnded(flight);
     }
 
-    /** What isn't a stage's has no move of its own for its end. */
-    private void endOf(Flight flight) {
-        if (flight.word == Word.END && flight.turn == null) {
+    /** Removes a thread whose function has ended, and is no stage's: its end is no move. */
+    private void removeIfEnded(Flight flight) {
+        if (flight.word == Action.END && flight.turn == null) {
             flights.remove(flight);
         }
     }
 
-    private void end(Flight flight) {
-        failed(flight.turn, flight.name);
-        flight.turn.finish();
-        if (flight.turn.next()) {
+    private void endFunction(Flight flight) {
+        failOnAssertion(flight.turn, flight.name);
+        flight.turn.finishStage();
+        if (flight.turn.tellToNext()) {
             flight.place = place(flight.turn.stage());
             flight.name = flight.turn.stage().name();
-            flight.word = Word.CALL;
+            flight.word = Action.CALL;
         } else {
             flights.remove(flight);
         }
         if (settings.workers > 0 && flight.isWorker) {
-            touch(Footprint.WORKERS, How.CHANGES);
+            touch(Footprint.WORKERS, Access.CHANGES);
         }
     }
 
-    /** An assertion that a function has thrown fails the order. */
-    private void failed(Watch.Turn turn, String name) {
-        if (turn.thrown() instanceof AssertionError) {
-            fail(name + " threw " + text(turn.thrown()), turn.thrown());
+    /** Fails the order where a function has thrown an assertion. */
+    private void failOnAssertion(Watch.Turn turn, String name) {
+        if (turn.exception() instanceof AssertionError) {
+            fail(name + " threw " + text(turn.exception()), turn.exception());
         }
     }
 
-    private void come(Move move) {
+    private void makeArrival(Move move) {
         Arrival arrival = arrivals.get(move.a);
         Arrival.Way way = arrival.ways.get(move.b);
-        touch("come " + move.a, How.CHANGES);
+        touch("come " + move.a, Access.CHANGES);
         caller = OUTSIDE;
         if (way.isNever) {
-            touch(place(arrival.stage), How.CHANGES);
+            touch(place(arrival.stage), Access.CHANGES);
             arrival.isNever = true;
         } else if (way.error != null) {
             arrival.stage.completeExceptionally(way.error);
@@ -383,86 +383,86 @@ final class Run implements Watch, Executor {
         }
     }
 
-    private void by(Move move) {
+    private void makeCall(Move move) {
         Caller by = callers.get(move.a);
-        Caller.Call call = by.next();
-        by.made++;
-        touch("by " + move.a, How.CHANGES);
+        Caller.CallerCall call = by.nextCall();
+        by.callsMade++;
+        touch("by " + move.a, Access.CHANGES);
         caller = by.name;
         if (call.isOfStage) {
-            act(call.act, by.name);
+            runOrFail(call.act, by.name);
             return;
         }
-        touch(Footprint.USER, How.CHANGES);
-        Flight flight = new Flight(Move.place(Move.CALLER, move.a), by.name, by.name, null, false, () -> act(call.act, by.name));
+        touch(Footprint.USER, Access.CHANGES);
+        Flight flight = new Flight(Move.place(Move.CALLER, move.a), by.name, by.name, null, false, () -> runOrFail(call.act, by.name));
         begin(flight);
     }
 
-    /** Begins a thread that is no stage's. */
+    /** Starts a thread that is no stage's. */
     void begin(Flight flight) {
         flights.add(flight);
-        carry(flight);
-        endOf(flight);
+        runBody(flight);
+        removeIfEnded(flight);
     }
 
-    private void limit(Move move) {
-        Timer timer = timer(move);
+    private void passLimit(Move move) {
+        WorldTimer timer = timer(move);
         timers.remove(timer);
-        touch(clock(move.a), How.CHANGES);
-        for (List<Timer> others : Arrays.asList(passed, timers)) {
-            for (Timer other : others) {
+        touch(clockThing(move.a), Access.CHANGES);
+        for (List<WorldTimer> others : Arrays.asList(passedTimers, timers)) {
+            for (WorldTimer other : others) {
                 if (other.request() == move.a) {
-                    touch(other.place, How.READS);
+                    touch(other.place, Access.READS);
                 }
             }
         }
-        nows.merge(move.a, timer.due, Math::max);
+        clocks.merge(move.a, timer.due, Math::max);
         caller = "the clock";
         timer.act.run();
     }
 
-    private Timer timer(Move move) {
+    private WorldTimer timer(Move move) {
         return timers.stream().filter(it -> it.request() == move.a && it.number == move.c).findFirst().get();
     }
 
     // Functions, which may wait.
 
-    /** Calls a function, on a thread of its own where functions wait. */
-    private void carry(Flight flight) {
-        Runnable act = flight.turn != null ? flight.turn::act : flight.act;
+    /** Runs the body of a function, on a thread of its own where functions wait. */
+    private void runBody(Flight flight) {
+        Runnable act = flight.turn != null ? flight.turn::callFunction : flight.act;
         if (settings.hasThreads) {
-            flight.carrier = Carrier.take();
+            flight.carrier = Carrier.borrow();
             flight.act = act;
-            on(flight, true);
+            giveTurn(flight, true);
             return;
         }
-        inUser(act, true);
-        flight.word = Word.END;
-        leave();
+        runUserCode(act, true);
+        flight.word = Action.END;
+        leaveIfOver();
     }
 
-    /** Calls what a test has given, on this thread. What it reads of stages is noted. Where it is a function's body, others may come within it. */
-    private void inUser(Runnable act, boolean isBody) {
-        boolean savedUser = isInUser, savedBody = isInBody;
-        isInUser = true;
+    /** Runs a test's code on this thread, and notes the stages that it reads. Within a function's body, others may go on. */
+    private void runUserCode(Runnable act, boolean isBody) {
+        boolean savedUser = isInUserCode, savedBody = isInBody;
+        isInUserCode = true;
         isInBody = isBody;
         try {
             act.run();
         } finally {
-            isInUser = savedUser;
+            isInUserCode = savedUser;
             isInBody = savedBody;
         }
     }
 
-    /** Lets a thread go on until its function waits or has ended. */
-    private void on(Flight flight, boolean begins) {
+    /** Gives a thread the turn until its function waits or has ended. */
+    private void giveTurn(Flight flight, boolean begins) {
         Carrier carrier = flight.carrier;
-        boolean savedUser = isInUser, savedBody = isInBody;
-        isInUser = isInBody = true;
+        boolean savedUser = isInUserCode, savedBody = isInBody;
+        isInUserCode = isInBody = true;
         current = flight;
-        String stuck = begins ? carrier.begin(flight.act) : carrier.resume();
+        String stuck = begins ? carrier.runJob(flight.act) : carrier.resume();
         current = null;
-        isInUser = savedUser;
+        isInUserCode = savedUser;
         isInBody = savedBody;
         if (stuck != null) {
             flight.carrier = null;
@@ -470,39 +470,39 @@ final class Run implements Watch, Executor {
             fail(flight.name + " blocks outside the world, at " + stuck);
         }
         if (carrier.isIdle()) {
-            carrier.give();
+            carrier.giveBack();
             flight.carrier = null;
-            flight.word = Word.END;
+            flight.word = Action.END;
         }
-        leave();
+        leaveIfOver();
     }
 
-    /** Ends the run where somebody has said so, though what was called may have caught that. */
-    private void leave() {
-        if (why != null) {
-            throw new Leaving(Leaving.Why.FAILED);
+    /** Ends the run where it is over, though the test's code may have caught that. */
+    private void leaveIfOver() {
+        if (reason != null) {
+            throw new Leaving(Leaving.Reason.FAILED);
         }
         if (needsThreads) {
-            throw new Leaving(Leaving.Why.NEEDS_THREADS);
+            throw new Leaving(Leaving.Reason.NEEDS_THREADS);
         }
     }
 
     // Beginning and end.
 
-    /** Calls the test, which is one move. */
+    /** Runs the test itself, which is one move. */
     void start(Scenario scenario) {
-        Flight flight = new Flight(Move.place(Move.MAIN, 0), "the test", "main", null, false, () -> act(() -> scenario.run(world), "the test"));
+        Flight flight = new Flight(Move.place(Move.MAIN, 0), "the test", "main", null, false, () -> runOrFail(() -> scenario.run(world), "the test"));
         flights.add(flight);
         footprint = new Footprint();
-        carry(flight);
+        runBody(flight);
         footprint = null;
-        endOf(flight);
-        look(new Footprint());
+        removeIfEnded(flight);
+        runChecks(new Footprint());
     }
 
-    /** Nothing may come any more: looks whether all that must hold at the end does. */
-    void finish() {
-        isOver = isInUser = true;
+    /** Checks all that must hold at the end, once no move is possible. */
+    void checkEnd() {
+        isOver = isInUserCode = true;
         StringBuilder waiting = new StringBuilder();
         for (Flight flight : flights) {
             waiting.append(waiting.length() == 0 ? "deadlock: " : ", ").append(flight.name).append(" waits for ").append(flight.wait.name);
@@ -516,11 +516,11 @@ final class Run implements Watch, Executor {
             }
         }
         for (StoredStage stage : settlingStored) {
-            if (!store.isOfDead(stage) && !stage.isDone()) {
+            if (!store.isOfKilled(stage) && !stage.isDone()) {
                 fail(stage.name() + " is never settled");
             }
         }
-        ends.forEach(this::look);
+        endChecks.forEach(this::runCheck);
     }
 
     /** Ends functions that wait. */
@@ -528,7 +528,7 @@ final class Run implements Watch, Executor {
         isClosing = true;
         for (Flight flight : flights) {
             if (flight.carrier != null) {
-                flight.carrier.end();
+                flight.carrier.stop();
             }
         }
         if (store != null) {
@@ -571,37 +571,37 @@ final class Run implements Watch, Executor {
 
     // What has to hold.
 
-    void fail(String reason) {
-        fail(reason, null);
+    void fail(String text) {
+        fail(text, null);
     }
 
-    void fail(String reason, Throwable thrown) {
-        if (why == null) {
-            why = reason;
+    void fail(String text, Throwable thrown) {
+        if (reason == null) {
+            reason = text;
             cause = thrown;
         }
-        throw new Leaving(Leaving.Why.FAILED);
+        throw new Leaving(Leaving.Reason.FAILED);
     }
 
-    /** Looks whether all that must hold between moves does. */
-    private void look(Footprint made) {
-        leave();
+    /** Checks all that must hold between moves. */
+    private void runChecks(Footprint made) {
+        leaveIfOver();
         if (checks.isEmpty()) {
             return;
         }
         Footprint seen = footprint = new Footprint();
         try {
-            inUser(() -> checks.forEach(this::look), false);
+            runUserCode(() -> checks.forEach(this::runCheck), false);
         } finally {
             footprint = null;
         }
         seen.things().forEach(watched::add);
         if (made.touches(Footprint.USER) || made.changes(watched)) {
-            made.touch(Footprint.CHECKED, How.CHANGES);
+            made.touch(Footprint.CHECKED, Access.CHANGES);
         }
     }
 
-    private void look(Check check) {
+    private void runCheck(Check check) {
         boolean holds;
         try {
             holds = check.holds.getAsBoolean();
@@ -619,8 +619,8 @@ final class Run implements Watch, Executor {
         }
     }
 
-    /** Does what somebody does, whose exception fails the order. */
-    void act(World.Act act, String name) {
+    /** Runs an action, whose exception fails the order. */
+    void runOrFail(World.Act act, String name) {
         try {
             act.run();
         } catch (Leaving leaving) {
@@ -630,13 +630,13 @@ final class Run implements Watch, Executor {
         }
     }
 
-    void touch(Object thing, How how) {
+    void touch(Object thing, Access access) {
         if (footprint != null) {
-            footprint.touch(thing, how);
+            footprint.touch(thing, access);
         }
     }
 
-    private static String clock(int request) {
+    private static String clockThing(int request) {
         return "clock " + request;
     }
 
@@ -648,29 +648,29 @@ final class Run implements Watch, Executor {
         return Move.place(indices.get(request), stage);
     }
 
-    private String name(Stage<?> stage) {
-        String relay = relayed.get(place(stage));
+    private String stageName(Stage<?> stage) {
+        String relay = relayNames.get(place(stage));
         return relay != null ? relay : stage.name();
     }
 
     // What a test says.
 
-    /** What processes share. Their threads are carriers. */
+    /** The store that processes share. Their threads are carriers. */
     WorldStore store() {
         if (!settings.hasThreads) {
             needsThreads = true;
-            throw new Leaving(Leaving.Why.NEEDS_THREADS);
+            throw new Leaving(Leaving.Reason.NEEDS_THREADS);
         }
         if (store == null) {
             store = new WorldStore(this);
-            if (tells) {
-                store.rows.tells(text -> told.add(() -> text));
+            if (isTelling) {
+                store.rows.setTeller(text -> settledTexts.add(() -> text));
             }
         }
         return store;
     }
 
-    /** Whose function goes on, on its own thread, or null. */
+    /** The thread whose function goes on, or null. */
     Flight current() {
         return current;
     }
@@ -684,7 +684,7 @@ final class Run implements Watch, Executor {
     }
 
     @SuppressWarnings("unchecked")
-    <T> Stage<T> arrival(String name, List<Arrival.Way> ways) {
+    <T> Stage<T> addArrival(String name, List<Arrival.Way> ways) {
         if (outside == null) {
             isOutside = true;
             outside = service.request(OUTSIDE);
@@ -699,22 +699,22 @@ final class Run implements Watch, Executor {
         marks.put(place(stage), names);
     }
 
-    /** Something that isn't a stage's is to be run. */
+    /** Takes a job that is no stage's. */
     @Override
     public void execute(Runnable job) {
         int number = jobs++;
         String name = "job " + number;
-        touch("jobs", How.CHANGES);
-        flights.add(new Flight(Move.place(Move.JOB, number), name, name, null, false, () -> act(job::run, name)));
+        touch("jobs", Access.CHANGES);
+        flights.add(new Flight(Move.place(Move.JOB, number), name, name, null, false, () -> runOrFail(job::run, name)));
     }
 
-    // What is told by the service.
+    // Called by the service.
 
     @Override
-    public String caller() {
+    public String callerName() {
         Thread thread = Thread.currentThread();
-        if (thread != home && !(thread instanceof Carrier.CarrierThread)) {
-            why = why != null ? why : "the thread " + thread.getName() + " changed a request: threads of your own are outside the world";
+        if (thread != homeThread && !(thread instanceof Carrier.CarrierThread)) {
+            reason = reason != null ? reason : "the thread " + thread.getName() + " changed a request: threads of your own are outside the world";
             return thread.getName();
         }
         return caller;
@@ -722,11 +722,11 @@ final class Run implements Watch, Executor {
 
     @Override
     public long now(Request request) {
-        return nows.getOrDefault(indices.get(request), 0L);
+        return clocks.getOrDefault(indices.get(request), 0L);
     }
 
     @Override
-    public void opened(Request request) {
+    public void requestOpened(Request request) {
         if (isOutside) {
             indices.put(request, Move.OUTSIDE);
             return;
@@ -736,185 +736,185 @@ final class Run implements Watch, Executor {
     }
 
     @Override
-    public void attached(Stage<?> stage, List<? extends Stage<?>> of) {
+    public void stageAttached(Stage<?> stage, List<? extends Stage<?>> of) {
         long place = place(stage);
         stages.put(place, stage);
         for (Stage<?> source : of) {
-            behind.add(place, place(source));
-            touch(place(source), How.READS);
+            dependents.add(place, place(source));
+            touch(place(source), Access.READS);
         }
-        touch("attach " + indices.get(stage.request()), How.CHANGES);
-        touch(place, How.CHANGES);
+        touch("attach " + indices.get(stage.request()), Access.CHANGES);
+        touch(place, Access.CHANGES);
     }
 
     @Override
-    public void changed(Request request, int stage, boolean did) {
-        touch(place(request, stage), did ? How.CHANGES : How.READS);
+    public void settlingTried(Request request, int stage, boolean did) {
+        touch(place(request, stage), did ? Access.CHANGES : Access.READS);
     }
 
     @Override
-    public void finished(Request request, int stage, int to) {
+    public void functionFinished(Request request, int stage, int to) {
         long place = place(request, stage);
-        touch(place, How.CHANGES);
+        touch(place, Access.CHANGES);
         if (to >= 0) {
-            follows(request, stage, to);
-            news.add(place);
+            stageFollows(request, stage, to);
+            changedPlaces.add(place);
         }
     }
 
     @Override
-    public void follows(Request request, int stage, int of) {
-        behind.add(place(request, stage), place(request, of));
-        touch(place(request, of), How.READS);
+    public void stageFollows(Request request, int stage, int of) {
+        dependents.add(place(request, stage), place(request, of));
+        touch(place(request, of), Access.READS);
     }
 
     @Override
-    public void settled(Request request, int stage, Object value, Throwable error, boolean isWrapped) {
+    public void stageSettled(Request request, int stage, Object value, Throwable error, boolean isWrapped) {
         long place = place(request, stage);
         settled.add(place);
-        news.add(place);
+        changedPlaces.add(place);
         for (Long relay : relays.getOrDefault(place, new ArrayList<>())) {
-            touch(relay, How.READS); // Also one that was let go, which it would settle.
+            touch(relay, Access.READS); // Also one that was let go, which it would settle.
         }
-        if (request != outside && tells) {
+        if (request != outside && isTelling) {
             String name = stages.get(place).name();
             if (!name.startsWith("relay")) {
                 boolean isCancelled = error instanceof CancellationException && !isWrapped;
-                told.add(() -> name + (isCancelled ? " is cancelled" : " ends: " + text(error == null ? value : error)));
+                settledTexts.add(() -> name + (isCancelled ? " is cancelled" : " ends: " + text(error == null ? value : error)));
             }
         }
     }
 
     @Override
-    public void became(Request request, int stage) {
+    public void functionReady(Request request, int stage) {
         long place = place(request, stage);
-        touch(place, How.CHANGES);
+        touch(place, Access.CHANGES);
         if (!isBeginning) {
-            news.add(place);
+            changedPlaces.add(place);
         }
     }
 
     @Override
-    public void happened() {
+    public void eventTold() {
         if (footprint != null) {
-            news.forEach(place -> touch(place, How.CHANGES));
-            behind.reached(news, settled::contains, this::touch);
+            changedPlaces.forEach(place -> touch(place, Access.CHANGES));
+            dependents.forEachReached(changedPlaces, settled::contains, this::touch);
         }
-        news.clear();
-        if (settings.isFine && isInUser && current != null && why == null) {
-            point();
+        changedPlaces.clear();
+        if (settings.isFine && isInUserCode && current != null && reason == null) {
+            letOthersGoOn();
         }
     }
 
     @Override
-    public void linked(Stage<?> relay, CompletionStage<?> of) {
+    public void relayLinked(Stage<?> relay, CompletionStage<?> of) {
         if (of instanceof Stage<?> && indices.containsKey(((Stage<?>) of).request())) {
             relays.computeIfAbsent(place((Stage<?>) of), none -> new ArrayList<>()).add(place(relay));
-            relayed.put(place(relay), "relay of " + name((Stage<?>) of));
-            touch(place((Stage<?>) of), How.READS);
+            relayNames.put(place(relay), "relay of " + stageName((Stage<?>) of));
+            touch(place((Stage<?>) of), Access.READS);
         }
     }
 
     @Override
-    public void read(Request request, int stage, boolean orWaits) {
-        if (isInUser && footprint != null) {
+    public void stageRead(Request request, int stage, boolean orWaits) {
+        if (isInUserCode && footprint != null) {
             long place = place(request, stage);
-            touch(place, How.READS);
+            touch(place, Access.READS);
             if (!orWaits && !settled.contains(place)) {
-                mayComeBetween();
+                letOthersIn();
             }
         }
     }
 
     @Override
-    public void looked(Request request) {
+    public void historyRead(Request request) {
         if (footprint != null) {
             int index = indices.get(request);
-            touch("attach " + index, How.READS);
+            touch("attach " + index, Access.READS);
             for (Long place : stages.keySet()) {
                 if (place >> 32 == index) {
-                    touch(place, How.READS);
+                    touch(place, Access.READS);
                 }
             }
         }
     }
 
     @Override
-    public void limit(Stage<?> stage, long nanos, Runnable act) {
+    public void setLimit(Stage<?> stage, long nanos, Runnable act) {
         long place = place(stage);
-        addTimer(place, nanos, act, () -> settled.contains(place), "the limit of " + name(stage) + " passes");
+        addTimer(place, nanos, act, () -> settled.contains(place), "the limit of " + stageName(stage) + " passes");
     }
 
     @Override
-    public void later(long nanos, Runnable act) {
+    public void runLater(long nanos, Runnable act) {
         addTimer(Move.place(Move.JOB, 0), nanos, act, () -> false, "what was put off is due");
     }
 
     private void addTimer(long place, long nanos, Runnable act, BooleanSupplier isLost, String text) {
         int request = (int) (place >> 32);
-        touch(clock(request), How.CHANGES);
+        touch(clockThing(request), Access.CHANGES);
         int number = timersMade.merge(request, 1, Integer::sum);
-        long due = nows.getOrDefault(request, 0L) + Math.max(0, nanos);
-        timers.add(new Timer(due < 0 ? Long.MAX_VALUE : due, number, place, act, isLost, text));
+        long due = clocks.getOrDefault(request, 0L) + Math.max(0, nanos);
+        timers.add(new WorldTimer(due < 0 ? Long.MAX_VALUE : due, number, place, act, isLost, text));
     }
 
     @Override
-    public void ready(Watch.Task task) {
+    public void submit(Watch.ReadyStage task) {
         long place = place(task.stage());
-        ready.put(place, task);
-        touch(place, How.CHANGES);
+        readyStages.put(place, task);
+        touch(place, Access.CHANGES);
     }
 
     @Override
-    public void user(Runnable act) {
-        touch(Footprint.USER, How.CHANGES);
-        inUser(act, false);
+    public void callUserCode(Runnable act) {
+        touch(Footprint.USER, Access.CHANGES);
+        runUserCode(act, false);
     }
 
     @Override
-    public void tells(Watch.Turn turn) {
-        if (!isInUser) {
-            if (turn.next()) {
+    public void takeOver(Watch.Turn turn) {
+        if (!isInUserCode) {
+            if (turn.tellToNext()) {
                 Stage<?> stage = turn.stage();
                 flights.add(new Flight(place(stage), stage.name(), caller, turn, false, null));
             }
             return;
         }
-        while (turn.next()) {
+        while (turn.tellToNext()) {
             if (!settings.isFine) {
-                mayComeBetween(); // By which others have come before.
+                letOthersIn(); // By which others have come before.
             }
-            touch(place(turn.stage()), How.READS);
-            turn.act();
-            failed(turn, turn.stage().name());
-            mayComeBetween();
-            turn.finish();
+            touch(place(turn.stage()), Access.READS);
+            turn.callFunction();
+            failOnAssertion(turn, turn.stage().name());
+            letOthersIn();
+            turn.finishStage();
         }
     }
 
-    /** Others may come here, as real threads may anywhere, where a body calls functions behind what it settled, or has seen what may change. */
-    private void mayComeBetween() {
-        if (isInBody && !isClosing && why == null) {
-            point();
+    /** Lets others go on within a function's body, as real threads may anywhere, where it calls functions or has read what may change. */
+    private void letOthersIn() {
+        if (isInBody && !isClosing && reason == null) {
+            letOthersGoOn();
         }
     }
 
     @Override
-    public boolean leaves(Throwable thrown) {
+    public boolean endsRun(Throwable thrown) {
         return thrown instanceof Leaving;
     }
 
     // Functions that wait.
 
     @Override
-    public void await(Stage<?> stage, long nanos) {
+    public void awaitStage(Stage<?> stage, long nanos) {
         long place = place(stage);
         if (nanos != 0) {
-            waitFor(name(stage), place, () -> settled.contains(place), nanos, null);
+            waitFor(stageName(stage), place, () -> settled.contains(place), nanos, null);
         }
     }
 
-    /** Lets others go on until something is so, or one of several ways is chosen, which is given then. */
+    /** Lets others go on until a condition holds, or one of several ways is chosen, which it gives. */
     Object waitFor(String name, Long place, BooleanSupplier isOver, long nanos, Object[] ways) {
         return waitFor(new Flight.Wait(name, place, isOver, ways), nanos);
     }
@@ -922,49 +922,49 @@ final class Run implements Watch, Executor {
     Object waitFor(Flight.Wait wait, long nanos) {
         String name = wait.name;
         if (isClosing) {
-            throw new Leaving(Leaving.Why.GONE);
+            throw new Leaving(Leaving.Reason.GONE);
         }
         if (isOver) {
             fail(name + " is never settled");
         }
         if (!settings.hasThreads) {
             needsThreads = true;
-            throw new Leaving(Leaving.Why.NEEDS_THREADS);
+            throw new Leaving(Leaving.Reason.NEEDS_THREADS);
         }
         Flight flight = current;
-        if (flight == null || Thread.currentThread() == home) {
+        if (flight == null || Thread.currentThread() == homeThread) {
             fail("a callback waits for " + name + ", in the thread that settled its stage");
             return null;
         }
         flight.wait = wait;
         flight.isLate = false;
-        flight.word = Word.GO;
+        flight.word = Action.GO;
         if (nanos >= 0) {
             addTimer(wait.thing instanceof Long ? (Long) wait.thing : Move.place(Move.MAIN, 0), nanos, () -> flight.isLate = true,
                     () -> flight.wait != wait || wait.isOver.getAsBoolean(), flight.name + " has waited " + nanos / 1e9 + " s for " + name);
         }
-        flight.carrier.pause();
+        flight.carrier.waitForTurn();
         return flight.chosen;
     }
 
     /** Lets others go on. */
-    void point() {
+    void letOthersGoOn() {
         waitFor("its turn", null, () -> true, -1, null);
     }
 
     // In words.
 
-    /** Has it tell what each move settles. */
-    void tells() {
-        tells = true;
+    /** Has it keep texts of what each move settles. */
+    void tellMoves() {
+        isTelling = true;
     }
 
-    /** What the last move settled, but relays, whose stages are told. */
-    List<String> told() {
-        return told.stream().map(Supplier::get).collect(Collectors.toList());
+    /** Texts of what the last move settled, but for relays. */
+    List<String> settledTexts() {
+        return settledTexts.stream().map(Supplier::get).collect(Collectors.toList());
     }
 
-    /** What a value or an exception is called. */
+    /** The text of a value or an exception. */
     static String text(Object thing) {
         Object it = thing instanceof CompletionException && ((Throwable) thing).getCause() != null ? ((Throwable) thing).getCause() : thing;
         if (it instanceof Throwable) {
@@ -974,12 +974,12 @@ final class Run implements Watch, Executor {
         return it == null ? "null" : Describe.ALL.describe(it);
     }
 
-    /** What a move is called. It is asked before the move is made. */
+    /** The text of a move, which is asked for before it is made. */
     String text(Move move) {
-        if (move.word.isOfStore()) {
+        if (move.action.isOfStore()) {
             return store.text(move);
         }
-        switch (move.word) {
+        switch (move.action) {
             case COME:
                 Arrival.Way way = arrivals.get(move.a).ways.get(move.b);
                 String name = arrivals.get(move.a).name;
@@ -994,12 +994,12 @@ final class Run implements Watch, Executor {
             case STOP:
                 return "no limit passes any more";
             default:
-                return text(find(move.place()), move);
+                return text(findFlight(move.place()), move);
         }
     }
 
     private String text(Flight flight, Move move) {
-        switch (move.word) {
+        switch (move.action) {
             case CALL:
                 return flight.name + (settled.contains(flight.place) ? " isn't called any more" : flight.turn == null ? " is run" : " is called");
             case GO:
@@ -1010,7 +1010,7 @@ final class Run implements Watch, Executor {
                 Answer answer = (Answer) flight.wait.ways[move.d];
                 return flight.name + " " + flight.wait.name + (answer.text.isEmpty() ? "" : "; " + answer.text);
             default:
-                return flight.name + (flight.turn.thrown() == null ? " returns" : " throws");
+                return flight.name + (flight.turn.exception() == null ? " returns" : " throws");
         }
     }
 }

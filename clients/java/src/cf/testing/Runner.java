@@ -6,22 +6,22 @@ import java.util.LinkedList;
 import java.util.List;
 import java.util.Set;
 
-/** Runs of a test: with any choice of moves, again by a row, and told in words. */
+/** Runs a test: with any choice of moves, or again by a row, with texts of its moves. */
 final class Runner {
     final Settings settings;
-    /** What checks have looked at. */
+    /** The things that checks have read. */
     final Set<Object> watched = new HashSet<>();
     private final Scenario scenario;
 
     /** Chooses one of the moves that are possible at a place of the row; null ends the run. */
     @FunctionalInterface
-    interface Chooses {
+    interface Chooser {
         Move choose(int place, List<Move> moves);
     }
 
     @FunctionalInterface
-    interface Did {
-        void did(Move move, Footprint footprint);
+    interface MoveListener {
+        void moveMade(Move move, Footprint footprint);
     }
 
     Runner(Scenario scenario, Settings settings) {
@@ -30,56 +30,56 @@ final class Runner {
     }
 
     /** One run. */
-    Ran go(Chooses chooses, Did did, boolean tells) {
+    RunResult run(Chooser chooser, MoveListener listener, boolean tells) {
         Run run = new Run(settings, watched);
         List<Move> row = new ArrayList<>();
-        List<Failure.Told> told = new ArrayList<>();
-        Ran.How how = Ran.How.END;
+        List<Failure.ToldMove> told = new ArrayList<>();
+        RunResult.Outcome outcome = RunResult.Outcome.END;
         if (tells) {
-            run.tells();
+            run.tellMoves();
         }
         try {
             run.start(scenario);
             while (true) {
                 List<Move> moves = run.moves();
-                Move move = chooses.choose(row.size(), moves);
+                Move move = chooser.choose(row.size(), moves);
                 if (moves.isEmpty()) {
-                    run.finish();
+                    run.checkEnd();
                     break;
                 }
                 if (move == null) {
-                    how = Ran.How.CUT;
+                    outcome = RunResult.Outcome.CUT;
                     break;
                 }
                 row.add(move);
                 String text = tells ? run.text(move) : null;
                 try {
                     Footprint footprint = run.make(move);
-                    if (did != null) {
-                        did.did(move, footprint);
+                    if (listener != null) {
+                        listener.moveMade(move, footprint);
                     }
                 } finally {
                     if (tells) {
-                        told.add(new Failure.Told(text, run.told()));
+                        told.add(new Failure.ToldMove(text, run.settledTexts()));
                     }
                 }
             }
         } catch (Leaving leaving) {
-            if (leaving.reason == Leaving.Why.NEEDS_THREADS) {
+            if (leaving.reason == Leaving.Reason.NEEDS_THREADS) {
                 throw leaving;
             }
-            how = Ran.How.FAILED;
+            outcome = RunResult.Outcome.FAILED;
         } finally {
             run.close();
         }
-        return new Ran(how, run, row, told);
+        return new RunResult(outcome, run, row, told);
     }
 
     /** Follows a row as far as it can be followed, and goes on with whoever went on last, else with the first. */
-    Ran again(List<Move> row) {
+    RunResult replay(List<Move> row) {
         LinkedList<Move> left = new LinkedList<>(row);
         Move[] last = new Move[1];
-        return go((place, moves) -> {
+        return run((place, moves) -> {
             for (Move move; !moves.isEmpty() && (move = left.poll()) != null;) {
                 if (moves.contains(move)) {
                     return last[0] = move;
@@ -95,9 +95,9 @@ final class Runner {
     }
 
     /** Makes the moves of a row, each as soon as those that stand before it have come or can't come yet. */
-    Ran inOrder(List<Move> row, Did did) {
+    RunResult runInOrder(List<Move> row, MoveListener listener) {
         List<Move> left = new ArrayList<>(row);
-        return go((place, moves) -> {
+        return run((place, moves) -> {
             for (Move move : left) {
                 if (moves.contains(move)) {
                     left.remove(move);
@@ -105,21 +105,24 @@ final class Runner {
                 }
             }
             return moves.isEmpty() ? null : moves.get(0);
-        }, did, false);
+        }, listener, false);
     }
 
-    /** Does a run again. What the row doesn't decide shows. */
-    void same(Ran ran) {
-        Ran again = go((place, moves) -> place < ran.row.size() && moves.contains(ran.row.get(place)) ? ran.row.get(place) : null, null, false);
-        if (!again.row.equals(ran.row) || again.how != ran.how || !String.valueOf(again.run.why).equals(String.valueOf(ran.run.why))
-                || !again.run.words().equals(ran.run.words())) {
-            throw new NotDeterministicError("done again, the order\n    " + Move.row(ran.row) + "\nwas\n    " + Move.row(again.row) + "\nand came to "
-                    + end(again) + ", before to " + end(ran));
+    /** Does a run again, and throws where the row doesn't decide it. */
+    void checkRepeatable(RunResult result) {
+        RunResult again = run((place, moves) -> place < result.moves.size() && moves.contains(result.moves.get(place)) ? result.moves.get(place)
+                : null, null, false);
+        if (!again.moves.equals(result.moves) || again.outcome != result.outcome
+                || !String.valueOf(again.run.reason).equals(String.valueOf(result.run.reason))
+                || !again.run.words().equals(result.run.words())) {
+            throw new NotDeterministicError("done again, the order\n    " + Move.rowText(result.moves) + "\nwas\n    " + Move.rowText(again.moves)
+                    + "\nand came to "
+                    + endText(again) + ", before to " + endText(result));
         }
     }
 
-    private static String end(Ran ran) {
-        return ran.run.why != null ? ran.run.why : ran.how.toString();
+    private static String endText(RunResult result) {
+        return result.run.reason != null ? result.run.reason : result.outcome.toString();
     }
 
 }

@@ -63,56 +63,57 @@ final class Search {
         races = reduces && runner.settings.workers == 0;
     }
 
-    /** So many runs more, until all is seen, the moment comes, or so many orders have failed. */
-    void go(int most, long until, int failures) {
+    /** Makes so many runs more, until all orders are tried, the moment comes, or so many have failed. */
+    void search(int most, long until, int failures) {
         for (int left = most; left > 0 && !report.whole && report.failed.size() < failures && System.nanoTime() < until; left--) {
             place = 0;
             sleep = new LinkedHashMap<>();
-            Ran ran = runner.go(this::chooses, this::did, false);
-            if (runner.watched.size() > watched && reduces && !ran.run.checks.isEmpty()) {
+            RunResult result = runner.run(this::choose, this::moveMade, false);
+            if (runner.watched.size() > watched && reduces && !result.run.checks.isEmpty()) {
                 // Checks have looked at something new, so what moves touched before isn't known whole.
                 watched = runner.watched.size();
                 stack.clear();
                 continue;
             }
-            count(ran);
-            turn();
+            countRun(result);
+            backtrack();
         }
     }
 
-    private void count(Ran ran) {
-        if (ran.how == Ran.How.CUT) {
+    private void countRun(RunResult result) {
+        if (result.outcome == RunResult.Outcome.CUT) {
             report.cut++;
             return;
         }
-        if (ran.row.size() < stack.size()) {
-            throw new NotDeterministicError("after the moves\n    " + Move.row(ran.row) + "\nit fails now, and didn't before: " + ran.run.why);
+        if (result.moves.size() < stack.size()) {
+            throw new NotDeterministicError("after the moves\n    " + Move.rowText(result.moves) + "\nit fails now, and didn't before: "
+                    + result.run.reason);
         }
         report.orders++;
         runs++;
         if ((runs & runs - 1) == 0) { // the first, second, fourth, eighth ..
-            runner.same(ran);
+            runner.checkRepeatable(result);
         }
-        if (ran.failed()) {
-            failed();
-            report.failed.add(ran.failure());
+        if (result.hasFailed()) {
+            addOthersOfLastMove();
+            report.failed.add(result.failure());
         } else if (ends != null) {
-            report.ends.merge(ends.apply(ran.run.world), ran.run.weight, Long::sum);
+            report.ends.merge(ends.apply(result.run.world), result.run.weight, Long::sum);
         }
     }
 
-    /** Where the last move has failed the order, the others are tried in its place and before it. Behind the last move of all there are none. */
-    private void failed() {
+    /** Where the last move has failed the order, has the others tried in its place and before it. Behind the last move of all there are none. */
+    private void addOthersOfLastMove() {
         Node last = stack.isEmpty() ? null : stack.get(stack.size() - 1);
         if (races && last != null && last.footprint == null) {
             last.todo.addAll(last.moves);
-            race(Footprint.ofAll());
+            addRacingMoves(Footprint.ofUnknownMove());
         }
     }
 
     // One run.
 
-    private Move chooses(int depth, List<Move> moves) {
+    private Move choose(int depth, List<Move> moves) {
         if (races && depth > 0 && depth == stack.size()) {
             Node last = stack.get(depth - 1);
             for (Move move : last.moves) {
@@ -123,8 +124,9 @@ final class Search {
         }
         if (depth < stack.size()) {
             if (!stack.get(depth).moves.equals(moves)) {
-                throw new NotDeterministicError("after the moves\n    " + Move.row(path(depth)) + "\nthere were\n    " + Move.row(stack.get(depth).moves)
-                        + "\nbefore, and now\n    " + Move.row(moves));
+                throw new NotDeterministicError("after the moves\n    " + Move.rowText(path(depth)) + "\nthere were\n    "
+                        + Move.rowText(stack.get(depth).moves)
+                        + "\nbefore, and now\n    " + Move.rowText(moves));
             }
             return stack.get(depth).chosen;
         }
@@ -143,17 +145,18 @@ final class Search {
         return path;
     }
 
-    private void did(Move move, Footprint footprint) {
+    private void moveMade(Move move, Footprint footprint) {
         Node node = stack.get(place++);
         if (place < stack.size()) {
             if (!footprint.isSame(node.footprint)) {
-                throw new NotDeterministicError("at the end of\n    " + Move.row(path(place)) + "\nit touched " + node.footprint + " before, and now "
+                throw new NotDeterministicError("at the end of\n    " + Move.rowText(path(place)) + "\nit touched " + node.footprint
+                        + " before, and now "
                         + footprint);
             }
             return;
         }
         if (races) {
-            race(footprint);
+            addRacingMoves(footprint);
         }
         node.footprint = footprint;
         if (reduces) {
@@ -169,7 +172,7 @@ final class Search {
     }
 
     /** Finds with which moves before the last one races, and has the other orders tried, too. */
-    private void race(Footprint footprint) {
+    private void addRacingMoves(Footprint footprint) {
         int last = stack.size() - 1;
         BitSet before = new BitSet();
         List<Integer> racing = new ArrayList<>();
@@ -182,7 +185,7 @@ final class Search {
         }
         stack.get(last).before = before;
         for (int at : racing) {
-            List<Move> firsts = firsts(at, last);
+            List<Move> firsts = possibleFirsts(at, last);
             Node node = stack.get(at);
             if (firsts.stream().noneMatch(move -> node.todo.contains(move) || node.sleep.containsKey(move))) {
                 // Where none is possible there, the later move waits for the earlier one, and there is no other order.
@@ -191,20 +194,15 @@ final class Search {
         }
     }
 
-    /** What can come first of the moves behind a place that needn't come after it, and lead to the last one. */
-    private List<Move> firsts(int at, int last) {
+    /** Of the moves behind a place that needn't come after it, those that can come first and lead to the last one. */
+    private List<Move> possibleFirsts(int at, int last) {
         BitSet inside = new BitSet();
         List<Move> firsts = new ArrayList<>();
         for (int k = at + 1; k <= last; k++) {
             if (k < last && stack.get(k).before.get(at)) {
                 continue;
             }
-            BitSet own = (BitSet) stack.get(k).before.clone();
-            if (k == last) {
-                own.andNot(stack.get(at).before);
-                own.clear(at);
-            }
-            if (!own.intersects(inside)) {
+            if (!stack.get(k).before.intersects(inside)) {
                 firsts.add(stack.get(k).chosen);
             }
             inside.set(k);
@@ -213,10 +211,10 @@ final class Search {
     }
 
     /** Goes back to the last place at which another move is to be tried. */
-    private void turn() {
+    private void backtrack() {
         while (!stack.isEmpty()) {
             Node node = stack.get(stack.size() - 1);
-            node.done.put(node.chosen, node.footprint == null ? Footprint.ofAll() : node.footprint);
+            node.done.put(node.chosen, node.footprint == null ? Footprint.ofUnknownMove() : node.footprint);
             for (Move move : node.moves) {
                 if (!node.done.containsKey(move) && !node.sleep.containsKey(move) && (!races || node.todo.contains(move))) {
                     node.chosen = move;

@@ -2,12 +2,12 @@ package cf.testing;
 
 import cf.internal.Host;
 import cf.internal.Serving;
-import cf.internal.Watched;
+import cf.internal.WatchedServices;
 import cf.store.Functions;
 import cf.store.Store;
 import cf.store.StoreService;
 import cf.store.StoredRequest;
-import cf.testing.Footprint.How;
+import cf.testing.Footprint.Access;
 import java.util.ArrayList;
 import java.util.HashSet;
 import java.util.List;
@@ -16,7 +16,7 @@ import java.util.Set;
 
 /**
  * A process of a world: a service over the world's store, whose threads, clock and chance are the search's. It dies where the search kills it.
- * {@link WorldStore#process} and {@link WorldStore#worker} make one. What is said of it is said before it is used.
+ * {@link WorldStore#process} and {@link WorldStore#worker} make one. Its options are set before it is used.
  *
  * <p>What a test itself asks of it is a part of the first move, and always answered. What {@link #calls} is given, and what its own threads do, is
  * a move for each call of the store.
@@ -68,33 +68,33 @@ public final class StoreProcess {
 
     /** How many of its threads run functions: 1 if nothing is said. With 0 it runs none. */
     public StoreProcess workers(int workers) {
-        said();
+        checkUnused();
         this.workers = workers;
         return this;
     }
 
     /** It works on all requests that are open in the store, and not only on those that were opened here. */
     public StoreProcess takesAll() {
-        said();
+        checkUnused();
         takesAll = true;
         return this;
     }
 
     /** By how many seconds its clock is ahead of the world's. */
     public StoreProcess ahead(double seconds) {
-        said();
+        checkUnused();
         host.clock = (long) (seconds * 1e9);
         return this;
     }
 
     /** Its lease, in seconds: 10 if nothing is said. */
     public StoreProcess lease(double seconds) {
-        said();
+        checkUnused();
         lease = (long) (seconds * 1e9);
         return this;
     }
 
-    private void said() {
+    private void checkUnused() {
         if (serving != null) {
             throw new IllegalStateException("it is used already");
         }
@@ -102,7 +102,7 @@ public final class StoreProcess {
 
     Serving serving() {
         if (serving == null) {
-            serving = Watched.stores().service(new ProcessStore(world, this), functions, workers, lease, takesAll, host);
+            serving = WatchedServices.stores().service(new ProcessStore(world, this), functions, workers, lease, takesAll, host);
             world.rows.memory.beat(serving.session());
             world.rows.memory.nameSession(serving.session(), name);
         }
@@ -132,13 +132,13 @@ public final class StoreProcess {
      */
     public void calls(String name, World.Act act) {
         Objects.requireNonNull(act);
-        world.touch(thing, How.CHANGES);
-        callers.add(new Work(jobs++, Objects.requireNonNull(name), null, () -> world.run.act(act, name)));
+        world.touch(thing, Access.CHANGES);
+        callers.add(new Work(jobs++, Objects.requireNonNull(name), null, () -> world.run.runOrFail(act, name)));
     }
 
     /** The seconds of its own clock, which is the world's and what it is ahead of that. */
     public double now() {
-        world.touch(thing, How.READS);
+        world.touch(thing, Access.READS);
         return host.nanoTime() / 1e9;
     }
 
@@ -148,6 +148,6 @@ public final class StoreProcess {
     }
 
     boolean worksOn(String request) {
-        return takesAll || serving().has(request);
+        return takesAll || serving().hasRequest(request);
     }
 }

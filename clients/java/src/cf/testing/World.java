@@ -16,7 +16,7 @@ import java.util.function.Consumer;
 /**
  * One run of a test. The search decides when functions are called, what arrives, and when limits pass.
  *
- * <p>What a test may do between two moves, it says here. What it does itself is the first move.
+ * <p>The code of the test itself is the first move. Here it says what may happen between later moves.
  */
 public final class World {
     private final Run run;
@@ -44,12 +44,12 @@ public final class World {
 
     /** A stage of the world outside that gets a value at any moment. A service takes it as any other stage: {@code request.adopt(..)}. */
     public <T> Stage<T> arrives(T value, String name) {
-        return outside(name, Collections.singletonList(new Arrival.Way(value, null, false)));
+        return addArrival(name, Collections.singletonList(new Arrival.Way(value, null, false)));
     }
 
     /** One that gets a value at any moment, or fails in other orders. */
     public <T> Stage<T> arrivesOrFails(T value, Throwable error, String name) {
-        return outside(name, Arrays.asList(new Arrival.Way(value, null, false), new Arrival.Way(null, Objects.requireNonNull(error), false)));
+        return addArrival(name, Arrays.asList(new Arrival.Way(value, null, false), new Arrival.Way(null, Objects.requireNonNull(error), false)));
     }
 
     /** One that gets one of these values at any moment. Each is tried. */
@@ -59,21 +59,21 @@ public final class World {
         for (T value : values) {
             ways.add(new Arrival.Way(value, null, false));
         }
-        return outside(name, ways);
+        return addArrival(name, ways);
     }
 
     /** One that fails at any moment. */
     public <T> Stage<T> fails(Throwable error, String name) {
-        return outside(name, Collections.singletonList(new Arrival.Way(null, Objects.requireNonNull(error), false)));
+        return addArrival(name, Collections.singletonList(new Arrival.Way(null, Objects.requireNonNull(error), false)));
     }
 
     /** One that gets a value at any moment, or never. */
     public <T> Stage<T> may(T value, String name) {
-        return outside(name, Arrays.asList(new Arrival.Way(value, null, false), new Arrival.Way(null, null, true)));
+        return addArrival(name, Arrays.asList(new Arrival.Way(value, null, false), new Arrival.Way(null, null, true)));
     }
 
-    private <T> Stage<T> outside(String name, List<Arrival.Way> ways) {
-        return run.arrival(Objects.requireNonNull(name), ways);
+    private <T> Stage<T> addArrival(String name, List<Arrival.Way> ways) {
+        return run.addArrival(Objects.requireNonNull(name), ways);
     }
 
     /** Another caller, by the name by which orders tell it. */
@@ -94,18 +94,18 @@ public final class World {
     }
 
     /**
-     * What must hold between any two moves.
+     * Checks a condition between any two moves.
      *
      * @param holds says whether it does. It may read stages and what functions change, and must change nothing
-     * @param text what holds then
+     * @param text the condition in words
      */
     public void check(BooleanSupplier holds, String text) {
         run.checks.add(new Run.Check(Objects.requireNonNull(holds), text));
     }
 
-    /** What must hold once nothing comes any more. */
+    /** Checks a condition at the end of each order. */
     public void atEnd(BooleanSupplier holds, String text) {
-        run.ends.add(new Run.Check(Objects.requireNonNull(holds), text));
+        run.endChecks.add(new Run.Check(Objects.requireNonNull(holds), text));
     }
 
     /** These have to be settled once nothing comes any more. */
@@ -128,7 +128,7 @@ public final class World {
 
     /** Within a function: others may go on here. Without it a function is one move up to where it waits. */
     public void point() {
-        run.point();
+        run.letOthersGoOn();
     }
 
     /** Within a function: one of these values. Each is tried, so a function can stand for what answers in several ways. */
@@ -155,7 +155,7 @@ public final class World {
         return stage;
     }
 
-    /** What each stage of each request ended in, as {@code cf run} prints it, to compare the ends of orders. */
+    /** The outcome of each stage of each request, as {@code cf run} prints it, to compare the ends of orders. */
     public List<String> outcomes() {
         return run.outcomes();
     }

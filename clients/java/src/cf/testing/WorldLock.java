@@ -17,7 +17,7 @@ final class WorldLock implements Lock {
     }
 
     /** The thread that goes on, or the search itself. */
-    private Object me() {
+    private Object currentOwner() {
         return run.current() == null ? run : run.current();
     }
 
@@ -30,10 +30,10 @@ final class WorldLock implements Lock {
 
     @Override
     public boolean tryLock() {
-        if (owner != null && owner != me() && !process.isDead) {
+        if (owner != null && owner != currentOwner() && !process.isDead) {
             return false;
         }
-        owner = me();
+        owner = currentOwner();
         many++;
         return true;
     }

@@ -1,15 +1,15 @@
 package cf.testing;
 
 import cf.internal.Host;
-import cf.internal.Reader;
+import cf.internal.RequestReader;
 import cf.store.Functions;
 import cf.store.Store;
 import cf.store.StoreException;
 import cf.store.StoredHistory;
 import cf.store.StoredStage;
 import cf.testing.Answer.Bound;
-import cf.testing.Footprint.How;
-import cf.testing.Move.Word;
+import cf.testing.Footprint.Access;
+import cf.testing.Move.Action;
 import java.util.ArrayList;
 import java.util.Arrays;
 import java.util.Collection;
@@ -39,10 +39,10 @@ public final class WorldStore {
     private static final long PATIENCE = 61_000_000_000L;
 
     final Run run;
-    final Rows rows;
+    final WorldRows rows;
     final List<StoreProcess> processes = new ArrayList<>();
-    final List<Granted> granted = new ArrayList<>();
-    final List<Answered> answered = new ArrayList<>();
+    final List<GrantedClaim> grantedClaims = new ArrayList<>();
+    final List<AnsweredWord> answeredWords = new ArrayList<>();
     /** How many things of a kind may still go wrong. */
     private final int[] bounds = new int[Bound.values().length];
     /** Puts that are on their way, also those that have come. */
@@ -52,11 +52,11 @@ public final class WorldStore {
     private final Map<String, String[]> marks = new HashMap<>();
 
     /** A granted claim that a process was told of. */
-    public static final class Granted {
+    public static final class GrantedClaim {
         private final String process, request;
         private final int stage;
 
-        Granted(String process, String request, int stage) {
+        GrantedClaim(String process, String request, int stage) {
             this.process = process;
             this.request = request;
             this.stage = stage;
@@ -84,12 +84,12 @@ public final class WorldStore {
     }
 
     /** A word that a process was told to stand. */
-    public static final class Answered {
+    public static final class AnsweredWord {
         private final String process, request;
         private final int place;
         private final long word;
 
-        Answered(String process, String request, int place, long word) {
+        AnsweredWord(String process, String request, int place, long word) {
             this.process = process;
             this.request = request;
             this.place = place;
@@ -124,48 +124,48 @@ public final class WorldStore {
 
     WorldStore(Run run) {
         this.run = run;
-        rows = new Rows(run::touch);
+        rows = new WorldRows(run::touch);
     }
 
     // What may go wrong.
 
     /** So many calls of the store never come there. They are asked again. */
     public WorldStore lost(int times) {
-        return with(Bound.LOST, times);
+        return setBound(Bound.LOST, times);
     }
 
     /** So many calls are done, and the answer is lost. They are asked again. */
     public WorldStore unanswered(int times) {
-        return with(Bound.UNANSWERED, times);
+        return setBound(Bound.UNANSWERED, times);
     }
 
     /** So many puts are on their way for a while, and come later, if their place is still free then. Meanwhile they are asked again. */
     public WorldStore late(int times) {
-        return with(Bound.LATE, times);
+        return setBound(Bound.LATE, times);
     }
 
-    /** So often the store doesn't answer for a minute: the caller gets {@link StoreException.Unknown}. What it asked for is done or not. */
+    /** So often the store doesn't answer for a minute: the caller gets {@link StoreException.Unknown}, and its call is done or not. */
     public WorldStore silent(int times) {
-        return with(Bound.SILENT, times);
+        return setBound(Bound.SILENT, times);
     }
 
-    /** So many processes are killed, between any two moves of their threads. What they had claimed stays claimed until others take them for gone. */
+    /** So many processes are killed, between any two moves of their threads. Their claims stay until others take them for gone. */
     public WorldStore killed(int times) {
-        return with(Bound.KILLED, times);
+        return setBound(Bound.KILLED, times);
     }
 
     /** So often a process that is there is taken for gone, while its threads are at work. */
     public WorldStore slow(int times) {
-        return with(Bound.SLOW, times);
+        return setBound(Bound.SLOW, times);
     }
 
-    private WorldStore with(Bound bound, int times) {
+    private WorldStore setBound(Bound bound, int times) {
         bounds[bound.ordinal()] = times;
         return this;
     }
 
-    /** How many things of a kind may still go wrong. */
-    int left(Bound bound) {
+    /** How many faults of a kind may still come. */
+    int remaining(Bound bound) {
         return bounds[bound.ordinal()];
     }
 
@@ -180,7 +180,7 @@ public final class WorldStore {
     public StoreProcess process(String name, Functions functions) {
         StoreProcess made = new StoreProcess(this, processes.size(), name, functions);
         processes.add(made);
-        run.touch("processes", How.CHANGES);
+        run.touch("processes", Access.CHANGES);
         return made;
     }
 
@@ -204,22 +204,22 @@ public final class WorldStore {
 
     /** The value or the exception that the first stage of this name ended with, by all words that stand; null where it isn't settled. */
     public Object outcome(String request, String stage) {
-        int number = number(request, stage);
+        int number = stageNumber(request, stage);
         return number < 0 || !rows.reader(request).isSettled(number) ? null : rows.reader(request).outcome(number);
     }
 
     /** Whether the first stage of this name is settled, by all words that stand. */
     public boolean isSettled(String request, String stage) {
-        int number = number(request, stage);
+        int number = stageNumber(request, stage);
         return number >= 0 && rows.reader(request).isSettled(number);
     }
 
     /** The first stage of this name, or -1. */
-    private int number(String request, String stage) {
-        touch(Rows.row(request), How.READS);
-        Reader reader = rows.reader(request);
-        for (int k = 0; reader != null && k < reader.size(); k++) {
-            if (reader.name(k).equals(stage)) {
+    private int stageNumber(String request, String stage) {
+        touch(WorldRows.rowThing(request), Access.READS);
+        RequestReader reader = rows.reader(request);
+        for (int k = 0; reader != null && k < reader.stageCount(); k++) {
+            if (reader.stageName(k).equals(stage)) {
                 return k;
             }
         }
@@ -227,29 +227,29 @@ public final class WorldStore {
     }
 
     /** Each claim that a process was told to be its own, in turn. */
-    public List<Granted> granted() {
-        return Collections.unmodifiableList(granted);
+    public List<GrantedClaim> granted() {
+        return Collections.unmodifiableList(grantedClaims);
     }
 
     /** Each word that a process was told to stand, in turn. */
-    public List<Answered> answered() {
-        return Collections.unmodifiableList(answered);
+    public List<AnsweredWord> answered() {
+        return Collections.unmodifiableList(answeredWords);
     }
 
-    /** What transactional functions have done by their connections, and what stands, in turn. */
+    /** The committed effects of transactional functions on their connections, in turn. */
     public List<Effect> effects() {
-        touch(Rows.EFFECTS, How.READS);
+        touch(WorldRows.EFFECTS, Access.READS);
         return Collections.unmodifiableList(rows.effects);
     }
 
-    /** What each stage of each request came to, by all words that stand, to compare the ends of orders. */
+    /** The outcome of each stage of each request, by all words that stand, to compare the ends of orders. */
     public List<String> outcomes() {
         List<String> outcomes = new ArrayList<>();
         for (String name : rows.names) {
-            Reader reader = rows.reader(name);
-            touch(Rows.row(name), How.READS);
-            for (int k = 0; k < reader.size(); k++) {
-                outcomes.add(name + ": " + reader.name(k) + " " + (reader.isSettled(k) ? reader.ended(k) : "is open"));
+            RequestReader reader = rows.reader(name);
+            touch(WorldRows.rowThing(name), Access.READS);
+            for (int k = 0; k < reader.stageCount(); k++) {
+                outcomes.add(name + ": " + reader.stageName(k) + " " + (reader.isSettled(k) ? reader.endText(k) : "is open"));
             }
         }
         return outcomes;
@@ -270,28 +270,28 @@ public final class WorldStore {
         return rows.names.stream().map(name -> rows.reader(name).history()).collect(Collectors.toList());
     }
 
-    /** Whether it is a stage as a process has it that was killed. */
-    boolean isOfDead(StoredStage stage) {
-        return processes.stream().anyMatch(it -> it.isDead && it.serving().has(stage));
+    /** Whether it is a stage of a killed process. */
+    boolean isOfKilled(StoredStage stage) {
+        return processes.stream().anyMatch(it -> it.isDead && it.serving().hasStage(stage));
     }
 
     // What processes ask.
 
-    void touch(Object thing, How how) {
-        run.touch(thing, how);
+    void touch(Object thing, Access access) {
+        run.touch(thing, access);
     }
 
-    /** The thread of a process that this is, or null: then what it does is a part of another's move. */
-    private Flight flight(StoreProcess process) {
+    /** The thread of this process that goes on, or null: then its call is a part of another's move. */
+    private Flight currentFlight(StoreProcess process) {
         Flight flight = run.current();
         return flight != null && flight.process == process ? flight : null;
     }
 
-    /** Asks the store for something, which is a move of its own, and is answered as the search says. What comes is what a put asks for, or null. */
-    <T> T ask(StoreProcess process, Answer[] ways, String text, Coming coming, Supplier<T> act) {
-        Flight flight = flight(process);
+    /** Makes a call of the store, which is a move of its own, and which the search answers. {@code coming} is the put that is asked for, or null. */
+    <T> T askStore(StoreProcess process, Answer[] ways, String text, Coming coming, Supplier<T> act) {
+        Flight flight = currentFlight(process);
         if (process.isDead || run.isClosing()) {
-            throw new Leaving(Leaving.Why.GONE);
+            throw new Leaving(Leaving.Reason.GONE);
         }
         boolean isOthers = coming != null && coming.commits == null;
         if (flight == null || flight.isFresh && ways == Answer.OF_READS) {
@@ -303,34 +303,34 @@ public final class WorldStore {
             return act.get();
         }
         flight.isFresh = false;
-        Answer chosen = (Answer) run.waitFor(Flight.Wait.asks(text, ways, () -> possible(ways)), -1);
+        Answer chosen = (Answer) run.waitFor(Flight.Wait.forAnswer(text, ways, () -> possibleAnswers(ways)), -1);
         for (Bound cost : chosen.costs) {
-            touch(FAULTS, How.CHANGES);
+            touch(FAULTS, Access.CHANGES);
             bounds[cost.ordinal()]--;
         }
         try {
-            if (chosen.stands && isOthers) {
+            if (chosen.isDone && isOthers) {
                 awaitPlace(coming.put.request());
             }
             if (chosen == Answer.ANSWERED) {
                 return act.get();
             }
-            if (chosen.stands) {
-                stands(act);
+            if (chosen.isDone) {
+                runUntold(act);
             }
-            if (chosen.has(Bound.LATE)) {
+            if (chosen.hasCost(Bound.LATE)) {
                 flying.add(coming);
                 if (coming.commits != null) {
                     coming.commits.isOnItsWay = true;
                 }
             }
-            if (chosen.has(Bound.SILENT)) {
+            if (chosen.hasCost(Bound.SILENT)) {
                 process.host.clock += PATIENCE;
             }
             throw new StoreException.Unknown("no answer", null);
         } finally {
-            if (flight.isCaller && chosen.stands && ways != Answer.OF_READS) { // (a test's own lines follow)
-                run.waitFor(Flight.Wait.asks("goes on", Answer.OF_CALLS, () -> possible(Answer.OF_CALLS)), -1);
+            if (flight.isCaller && chosen.isDone && ways != Answer.OF_READS) { // (a test's own lines follow)
+                run.waitFor(Flight.Wait.forAnswer("goes on", Answer.OF_CALLS, () -> possibleAnswers(Answer.OF_CALLS)), -1);
             }
         }
     }
@@ -340,29 +340,29 @@ public final class WorldStore {
      * it came behind the wait, it would always come after the place was given back, and so race with nothing.
      */
     private void awaitPlace(String request) {
-        touch(Rows.place(request), How.READS);
+        touch(WorldRows.placeThing(request), Access.READS);
         while (rows.isHeld(request)) {
-            run.waitFor(new Flight.Wait("its place in " + request, Rows.place(request), () -> !rows.isHeld(request), null), -1);
+            run.waitFor(new Flight.Wait("its place in " + request, WorldRows.placeThing(request), () -> !rows.isHeld(request), null), -1);
         }
     }
 
-    /** Takes a put's place for a transaction, if it is free, once no other one has it. That is no move of its own, unless it waits. */
-    boolean takes(ProcessTransaction transaction, Store.Put put) {
+    /** Takes a put's place for a transaction, if it is free, once no other transaction has it. That is no move, unless it waits. */
+    boolean takePlace(ProcessTransaction transaction, Store.Put put) {
         awaitPlace(put.request());
-        return rows.takes(transaction, put);
+        return rows.takePlace(transaction, put);
     }
 
     /** Lets a transaction stand. */
     void commit(ProcessTransaction transaction) {
         Store.Put put = transaction.put;
-        ask(transaction.process, Answer.OF_PUTS, "commits, and " + rows.reader(put.request()).text(put), new Coming(put, transaction), () -> {
+        askStore(transaction.process, Answer.OF_PUTS, "commits, and " + rows.reader(put.request()).putText(put), new Coming(put, transaction), () -> {
             rows.commit(transaction);
             return null;
         });
     }
 
-    /** Does it. Nobody is told what it gives or throws. */
-    private static void stands(Supplier<?> act) {
+    /** Runs a call whose answer is lost. */
+    private static void runUntold(Supplier<?> act) {
         try {
             act.get();
         } catch (StoreException untold) {
@@ -370,10 +370,10 @@ public final class WorldStore {
         }
     }
 
-    private List<Integer> possible(Answer[] ways) {
+    private List<Integer> possibleAnswers(Answer[] ways) {
         List<Integer> possible = new ArrayList<>();
         for (int k = 0; k < ways.length; k++) {
-            if (Arrays.stream(ways[k].costs).allMatch(cost -> left(cost) > 0)) {
+            if (Arrays.stream(ways[k].costs).allMatch(cost -> remaining(cost) > 0)) {
                 possible.add(k);
             }
         }
@@ -381,16 +381,16 @@ public final class WorldStore {
     }
 
     /** Calls a function, which is a move of its own. */
-    Object call(StoreProcess process, String name, Host.Call call) throws Throwable {
-        Flight flight = flight(process);
+    Object call(StoreProcess process, String name, Host.FunctionCall call) throws Throwable {
+        Flight flight = currentFlight(process);
         if (flight == null) {
             return call.call();
         }
-        run.waitFor(Flight.Wait.asks("calls " + name, Answer.OF_CALLS, () -> possible(Answer.OF_CALLS)), -1);
+        run.waitFor(Flight.Wait.forAnswer("calls " + name, Answer.OF_CALLS, () -> possibleAnswers(Answer.OF_CALLS)), -1);
         List<Object> before = flight.touches;
         flight.touches = new ArrayList<>(before);
-        flight.touches.addAll(things(name));
-        flight.touches.forEach(thing -> touch(thing, How.CHANGES));
+        flight.touches.addAll(touchedThings(name));
+        flight.touches.forEach(thing -> touch(thing, Access.CHANGES));
         try {
             return call.call();
         } catch (AssertionError failed) {
@@ -401,8 +401,8 @@ public final class WorldStore {
         }
     }
 
-    /** What a function touches. */
-    private List<Object> things(String function) {
+    /** The things that a function touches. */
+    private List<Object> touchedThings(String function) {
         String[] names = marks.get(function);
         if (names == null) {
             return Collections.singletonList(Footprint.USER);
@@ -419,45 +419,45 @@ public final class WorldStore {
 
     // Moves.
 
-    /** What processes may do beside what their threads do. */
+    /** The moves of processes beside those of their threads. */
     List<Move> moves(boolean hasOthers) {
         List<Move> moves = new ArrayList<>();
         List<StoreProcess> living = new ArrayList<>(processes), free = new ArrayList<>();
         living.removeIf(it -> it.isDead);
         living.stream().filter(this::isFree).forEach(free::add);
-        living.forEach(process -> addOf(process, moves));
+        living.forEach(process -> addMovesOf(process, moves));
         addNoticed(free, moves);
         for (int n = 0; n < flying.size(); n++) {
             if (mayLand(n, flying.get(n))) {
-                moves.add(new Move(Word.LAND, n, 0, 0));
+                moves.add(new Move(Action.LAND, n, 0, 0));
             }
         }
         List<Move> faults = new ArrayList<>();
         for (StoreProcess other : living) {
-            if (left(Bound.SLOW) > 0 && !flights(other).isEmpty()) {
+            if (remaining(Bound.SLOW) > 0 && !flights(other).isEmpty()) {
                 addGone(other, free, faults);
             }
         }
         for (StoreProcess process : living) {
-            if (left(Bound.KILLED) > 0 && !flights(process).isEmpty()) {
-                faults.add(new Move(Word.KILL, process.key(), 0, 0));
+            if (remaining(Bound.KILLED) > 0 && !flights(process).isEmpty()) {
+                faults.add(new Move(Action.KILL, process.key(), 0, 0));
             }
         }
         if (!faults.isEmpty() && (run.settings.isReduced || moves.isEmpty() && !hasOthers)) {
-            moves.add(new Move(Word.SPARE, 0, 0, 0));
+            moves.add(new Move(Action.SPARE, 0, 0, 0));
         }
         moves.addAll(faults);
         return moves;
     }
 
-    private void addOf(StoreProcess process, List<Move> moves) {
-        process.callers.forEach(work -> moves.add(new Move(Word.JOB, process.key(), work.number, 0)));
+    private void addMovesOf(StoreProcess process, List<Move> moves) {
+        process.callers.forEach(work -> moves.add(new Move(Action.JOB, process.key(), work.number, 0)));
         if (isFree(process)) {
-            StoreProcess.Work work = next(process);
+            StoreProcess.Work work = nextWork(process);
             if (work != null) {
-                moves.add(new Move(Word.JOB, process.key(), work.number, 0));
+                moves.add(new Move(Action.JOB, process.key(), work.number, 0));
             } else if (!process.stuck.isEmpty() || rows.names.stream().anyMatch(name -> matters(process, name))) {
-                moves.add(new Move(Word.LOOK, process.key(), 0, 0));
+                moves.add(new Move(Action.LOOK, process.key(), 0, 0));
             }
         }
     }
@@ -467,21 +467,21 @@ public final class WorldStore {
      * stands.
      */
     private void addNoticed(List<StoreProcess> free, List<Move> moves) {
-        for (Rows.Due each : rows.timers.values()) {
+        for (WorldRows.NumberedTimer each : rows.timers.values()) {
             free.stream().filter(it -> isDue(it, each.timer)).findFirst().ifPresent(
-                    by -> moves.add(new Move(Word.DUE, by.key(), rows.names.indexOf(each.timer.request()), each.timer.stage(), each.number)));
+                    by -> moves.add(new Move(Action.DUE, by.key(), rows.names.indexOf(each.timer.request()), each.timer.stage(), each.number)));
         }
         processes.stream().filter(it -> it.isDead).forEach(other -> addGone(other, free, moves));
     }
 
     private void addGone(StoreProcess other, List<StoreProcess> free, List<Move> moves) {
         free.stream().filter(it -> it != other && hasClaim(it, other)).findFirst().ifPresent(
-                by -> moves.add(new Move(Word.GONE, by.key(), other.key(), 0)));
+                by -> moves.add(new Move(Action.GONE, by.key(), other.key(), 0)));
     }
 
     private boolean mayLand(int number, Coming coming) {
         String request = coming.put.request();
-        return !landed.contains(number) && (coming.commits != null || !rows.isHeld(request)) && rows.reader(request).seen() == coming.put.at();
+        return !landed.contains(number) && (coming.commits != null || !rows.isHeld(request)) && rows.reader(request).wordCount() == coming.put.at();
     }
 
     private List<Flight> flights(StoreProcess process) {
@@ -496,22 +496,22 @@ public final class WorldStore {
         return busy < Math.max(process.workers, 1) && !process.serving().isStopped();
     }
 
-    private StoreProcess.Work next(StoreProcess process) {
+    private StoreProcess.Work nextWork(StoreProcess process) {
         return process.queue.stream().filter(it -> it.job == Host.Job.FIRE || it.job == Host.Job.WORK && matters(process, it.name)).findFirst()
                 .orElse(null);
     }
 
-    /** Whether a process that looks at a request finds something to do in it, or to tell somebody of. */
+    /** Whether a process that looks at a request finds work in it, or wakes a waiter. */
     private boolean matters(StoreProcess process, String name) {
-        Reader all = rows.reader(name);
+        RequestReader all = rows.reader(name);
         if (!process.worksOn(name) || process.serving().isBroken(name)) {
             return false;
         }
         boolean isOpen = rows.memory.isOpen(name);
-        if (isOpen && process.workers > 0 && all.ready().stream().anyMatch(stage -> process.serving().knows(all, stage))) {
+        if (isOpen && process.workers > 0 && all.readyStages().stream().anyMatch(stage -> process.serving().knowsFunction(all, stage))) {
             return true;
         }
-        return process.serving().has(name) && (process.serving().hasUntold(name, all) || isOpen && (all.isFinished() || all.relays()));
+        return process.serving().hasRequest(name) && (process.serving().hasUntold(name, all) || isOpen && (all.isFinished() || all.hasRelays()));
     }
 
     private boolean isDue(StoreProcess process, Store.Timer timer) {
@@ -525,48 +525,48 @@ public final class WorldStore {
 
     /** Makes a move. */
     void make(Move move) {
-        StoreProcess process = move.word.isOfProcess ? of(move.a) : null;
+        StoreProcess process = move.action.isOfProcess ? processOf(move.a) : null;
         if (process != null) {
-            touch(process.thing, How.CHANGES);
+            touch(process.thing, Access.CHANGES);
         }
-        switch (move.word) {
+        switch (move.action) {
             case JOB:
-                begin(process, take(process, move.b));
+                beginWork(process, removeWork(process, move.b));
                 break;
             case LOOK:
                 process.stuck.clear();
-                round(process, null);
+                runRound(process, null);
                 beginNext(process);
                 break;
             case DUE:
-                touch(Rows.row(rows.names.get(move.b)), How.READS);
+                touch(WorldRows.rowThing(rows.names.get(move.b)), Access.READS);
                 process.due = rows.timer(move.b, move.c);
-                round(process, null);
+                runRound(process, null);
                 process.due = null;
                 beginNext(process);
                 break;
             case GONE:
-                gone(process, of(move.b));
+                takeForGone(process, processOf(move.b));
                 break;
             case KILL:
                 kill(process);
                 break;
             case LAND:
                 landed.add(move.a);
-                touch("land " + move.a, How.CHANGES);
-                land(flying.get(move.a));
+                touch("land " + move.a, Access.CHANGES);
+                landPut(flying.get(move.a));
                 break;
             default:
-                touch(KILLS, How.CHANGES);
+                touch(KILLS, Access.CHANGES);
                 killed(0).slow(0);
         }
     }
 
-    private StoreProcess of(int key) {
+    private StoreProcess processOf(int key) {
         return processes.get(Move.PROCESS - key);
     }
 
-    private static StoreProcess.Work take(StoreProcess process, int number) {
+    private static StoreProcess.Work removeWork(StoreProcess process, int number) {
         for (List<StoreProcess.Work> works : Arrays.asList(process.queue, process.callers)) {
             for (Iterator<StoreProcess.Work> each = works.iterator(); each.hasNext();) {
                 StoreProcess.Work work = each.next();
@@ -579,39 +579,39 @@ public final class WorldStore {
         throw new IllegalStateException("there is no job " + number);
     }
 
-    private void begin(StoreProcess process, StoreProcess.Work work) {
+    private void beginWork(StoreProcess process, StoreProcess.Work work) {
         boolean isCaller = work.job == null;
         String name = isCaller ? work.name : process.name;
         Flight flight = new Flight(Move.place(process.key(), work.number), name, name, null, false,
-                () -> run.act(work.act::run, name));
+                () -> run.runOrFail(work.act::run, name));
         flight.process = process;
         flight.isCaller = isCaller;
         flight.isFresh = !isCaller;
         flight.touches = new ArrayList<>(isCaller ? Arrays.asList(process.thing, Footprint.USER) : Collections.singletonList(process.thing));
         if (isCaller) {
-            touch(Footprint.USER, How.CHANGES);
+            touch(Footprint.USER, Access.CHANGES);
         }
         run.begin(flight);
     }
 
     private void beginNext(StoreProcess process) {
-        StoreProcess.Work work = next(process);
+        StoreProcess.Work work = nextWork(process);
         if (work == null) {
             work = process.queue.stream().filter(it -> it.job == Host.Job.WORK).findFirst().orElse(null);
         }
         if (work != null) {
             process.queue.remove(work);
-            begin(process, work);
+            beginWork(process, work);
         }
     }
 
-    /** Some time passes, others that are there say so, but one, and a process looks at the store. */
-    private void round(StoreProcess process, StoreProcess silent) {
-        pass(process, silent);
-        process.serving().round();
+    /** Lets time pass, in which all living processes but one beat, and has a process look at the store. */
+    private void runRound(StoreProcess process, StoreProcess silent) {
+        passTime(process, silent);
+        process.serving().runRound();
     }
 
-    private void pass(StoreProcess process, StoreProcess silent) {
+    private void passTime(StoreProcess process, StoreProcess silent) {
         process.host.clock += process.lease / 4;
         for (StoreProcess other : processes) {
             if (other != silent && !other.isDead) {
@@ -620,31 +620,31 @@ public final class WorldStore {
         }
     }
 
-    private void gone(StoreProcess process, StoreProcess other) {
-        touch(other.thing, How.READS);
+    private void takeForGone(StoreProcess process, StoreProcess other) {
+        touch(other.thing, Access.READS);
         if (!other.isDead) {
-            touch(KILLS, How.CHANGES);
+            touch(KILLS, Access.CHANGES);
             bounds[Bound.SLOW.ordinal()]--;
         }
         for (int k = 0; k < LOOKS; k++) {
-            pass(process, other);
+            passTime(process, other);
             process.serving().beat();
         }
-        round(process, other);
+        runRound(process, other);
         beginNext(process);
     }
 
     private void kill(StoreProcess process) {
-        touch(KILLS, How.CHANGES);
+        touch(KILLS, Access.CHANGES);
         bounds[Bound.KILLED.ordinal()]--;
         process.isDead = true;
         List<Flight> flights = flights(process);
         run.flights().removeAll(flights);
         dead.addAll(flights);
-        rows.freesAllOf(process);
+        rows.releaseAllOf(process);
     }
 
-    private void land(Coming coming) {
+    private void landPut(Coming coming) {
         if (coming.commits == null) {
             rows.append(coming.put);
         } else {
@@ -652,27 +652,27 @@ public final class WorldStore {
         }
     }
 
-    /** What a move is called. It is asked before the move is made. */
+    /** The text of a move, which is asked for before it is made. */
     String text(Move move) {
-        switch (move.word) {
+        switch (move.action) {
             case LAND:
                 Coming coming = flying.get(move.a);
                 return "the " + (coming.commits == null ? "put" : "commit") + " that was on its way comes: "
-                        + rows.reader(coming.put.request()).text(coming.put);
+                        + rows.reader(coming.put.request()).putText(coming.put);
             case SPARE:
                 return "nobody is killed any more";
             case JOB:
-                return text(of(move.a), move.b);
+                return workText(processOf(move.a), move.b);
             case DUE:
-                return of(move.a).name + " finds that the limit of " + rows.name(rows.names.get(move.b), move.c) + " has passed";
+                return processOf(move.a).name + " finds that the limit of " + rows.stageName(rows.names.get(move.b), move.c) + " has passed";
             case GONE:
-                return of(move.a).name + " takes " + of(move.b).name + " for gone";
+                return processOf(move.a).name + " takes " + processOf(move.b).name + " for gone";
             default:
-                return of(move.a).name + (move.word == Word.LOOK ? " looks what is new" : " is killed");
+                return processOf(move.a).name + (move.action == Action.LOOK ? " looks what is new" : " is killed");
         }
     }
 
-    private String text(StoreProcess process, int number) {
+    private String workText(StoreProcess process, int number) {
         Collection<StoreProcess.Work> works = new HashSet<>(process.queue);
         works.addAll(process.callers);
         StoreProcess.Work work = works.stream().filter(it -> it.number == number).findFirst().get();
@@ -688,7 +688,7 @@ public final class WorldStore {
     void close() {
         dead.forEach(flight -> {
             if (flight.carrier != null) {
-                flight.carrier.end();
+                flight.carrier.stop();
             }
         });
     }

@@ -36,6 +36,7 @@ public final class AllTests {
             overDatabase(StoresTest.InPostgres::new, "PostgreSQL", "database");
             over(StoresTest.InPostgres::new, "puts beside a drop", StoreFaultsTest::dropped);
             over(StoresTest.InPostgres::new, "locks that aren't free in time", StoreFaultsTest::lockedOut);
+            over(StoresTest.InPostgres::new, "notices of a closed store", StoreFaultsTest::noticesEnd);
         }
         if (chosen != null && !chosen.isEmpty()) {
             System.err.println("there are no tests " + chosen);
@@ -74,6 +75,7 @@ public final class AllTests {
         test("all that is cancelled", ClosingTest::cancelsAll);
         test("a limit of a request at its edges", ClosingTest::cancelsRest);
         test("what goes on where a request ends", ClosingTest::goesOn);
+        test("what goes on where a flow's request ends", ClosingTest::goesOnInFlow);
         test("a limit of a request in every order", ClosingTest::cancelsRestAtAnyMoment);
         test("users' code under a lock", UserCodeTest::unlocked);
         test("calls by states", EndsTest::byStates);
@@ -81,6 +83,7 @@ public final class AllTests {
         test("exceptions beside Java's", FaultsTest::besideJavas);
         test("hooks that throw behind many stages", FaultsTest::hooks);
         test("who has cancelled a stage", FaultsTest::stacks);
+        test("what breaks in Java's own classes", FaultsTest::breaksInJavas);
         test("late answers", TimeoutsTest::late);
         test("waiting in a pool of one", FunctionsTest::waitsWhileRunning);
         test("refused tasks", FunctionsTest::refusedTasks);
@@ -181,6 +184,11 @@ public final class AllTests {
         test("cancels at any moment", OrdersTest::cancelled);
         test("points within functions", OrdersTest::points);
         test("flows in a world", OrdersTest::flows);
+        test("moves that touch something else", OrdersTest::touchesElse);
+        test("functions of either source in every order", OrdersTest::ready);
+        test("moves behind a function that was started", OrdersTest::behindStarted);
+        test("failing orders with fewer switches", OrdersTest::fewerSwitches);
+        test("functions that are called in a row", OrdersTest::inRow);
         test("services over a store with a fault of order", StoredOrdersTest::plantedFaults);
         test("sound services over a store in every order", StoredOrdersTest::soundServices);
         test("what a failing order over a store tells", StoredOrdersTest::stories);
@@ -203,12 +211,19 @@ public final class AllTests {
         test("commits that come late", StoredOrdersTest::lateCommits);
         test("places of a row that a transaction has", StoredOrdersTest::places);
         test("the connection of a world", StoredOrdersTest::connections);
+        test("effects in the order of their commits", StoredOrdersTest::effects);
+        test("looks at stages of a process", StoredOrdersTest::looks);
+        test("who has a stage of a store", StoredOrdersTest::granted);
         test("what is promised of a store in every order", StoredOrdersTest::promises);
         test("orders over a store that are left out", StoredOrdersTest::leftOut);
         test("orders over a store by chance", StoredOrdersTest::byChance);
         test("JSON", StoresTest::json);
         test("who is gone", StoresTest::gone);
         test("which errors of PostgreSQL say that it is away", StoreFaultsTest::away);
+        test("which errors of SQLite say so", StoreFaultsTest::awayFromFile);
+        test("statements that are prepared once", StoreFaultsTest::prepared);
+        test("puts of no words", StoreFaultsTest::plansNothing);
+        test("what a function has attached before", StoredFunctionsTest::alike);
         test("the module of JDBC", StoresTest::module);
         test("what the module exports", StoresTest::exported);
         if (StoresTest.hasDriver()) {
@@ -217,7 +232,11 @@ public final class AllTests {
             overDatabase(StoresTest.InFile::new, "SQLite", "file");
             over(StoresTest.InFile::new, "who reads many requests at first", StoreFaultsTest::beats);
             over(StoresTest.InFile::new, "a process that comes back", StoreFaultsTest::comesBack);
+            over(StoresTest.InFile::new, "a session's name", StoreFaultsTest::namesItself);
+            over(StoresTest.InFile::new, "open requests that stay known", StoreFaultsTest::keepsOpen);
+            over(StoresTest.InFile::new, "connections of a closed store", StoredFunctionsTest::closes);
             over(StoresTest.InFile::new, "further tries of what composes", StoreFaultsTest::composesAgain);
+            over(StoresTest.InFile::new, "a stage that isn't there", StoreFaultsTest::givesNoStage);
             over(StoresTest.InFile::new, "functions that run at the end", StoreFaultsTest::closes);
             over(StoresTest.InFile::new, "who waits at the end", StoreFaultsTest::over);
             over(StoresTest.InFile::new, "a store that takes nothing for a while", StoreFaultsTest::refused);
@@ -291,6 +310,7 @@ public final class AllTests {
         over(place, "histories of requests in " + engine, StoredFunctionsTest::histories);
         over(place, "calls that are broken off", StoreFaultsTest::brokenOff);
         over(place, "transactions that are undone", StoreFaultsTest::undone);
+        over(place, "waits while nothing changes", StoreFaultsTest::quiet);
     }
 
     /** Runs a test where its requests stand. */

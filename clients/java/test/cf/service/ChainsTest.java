@@ -23,7 +23,7 @@ final class ChainsTest {
 
     /** A chain through many requests is no recursion. */
     static void backAndForth() {
-        Request one = SERVICE.request().goesOn(), other = SERVICE.request().goesOn();
+        Request one = SERVICE.request().continueInNext(), other = SERVICE.request().continueInNext();
         Stage<Integer> firstLink = one.promise(), lastLink = firstLink;
         for (int k = 0; k < 20_000; k++) {
             Stage<Integer> next = (k % 2 == 0 ? other : one).promise();
@@ -47,7 +47,7 @@ final class ChainsTest {
                 x -> CompletableFuture.completedFuture(x).minimalCompletionStage(), x -> SERVICE.request().completedFuture(x),
                 x -> foreign(CompletableFuture.completedFuture(x)));
         for (Function<Integer, CompletionStage<Integer>> kind : kinds) {
-            Request chained = SERVICE.request().goesOn();
+            Request chained = SERVICE.request().continueInNext();
             Stage<Integer> firstLink = chained.promise(), lastLink = firstLink, failed = chained.promise(), saved = failed;
             AtomicInteger deepest = new AtomicInteger();
             for (int k = 0; k < links; k++) {
@@ -88,7 +88,7 @@ final class ChainsTest {
 
     /** A chain that goes to and fro between stages and futures of Java's: however deep that calls back, all of it ends. */
     static void foreignChains() throws Exception {
-        Request chained = SERVICE.request().goesOn();
+        Request chained = SERVICE.request().continueInNext();
         Stage<Void> firstLink = chained.promise(), lastLink = firstLink;
         for (int k = 0; k < 3000; k++) {
             lastLink = chained.adopt(CompletableFuture.allOf(lastLink));
@@ -119,7 +119,7 @@ final class ChainsTest {
         Service service = new Service(Runnable::run);
         IllegalStateException failure = new IllegalStateException();
         for (int round = 0; round < 6; round++) {
-            Request chained = service.request("deep").goesOn();
+            Request chained = service.request("deep").continueInNext();
             Stage<Integer> firstLink = chained.promise(), behind = firstLink.thenApply(x -> x + 1), done = chained.completedFuture(1);
             List<Stage<?>> linkedStages = new ArrayList<>();
             List<Runnable> uses = Arrays.asList(() -> {

@@ -44,7 +44,7 @@ public final class Checks {
 
     /** Whether a stage is settled, for which no other thread goes on first where a test is run in all orders. */
     public static boolean isSettled(Stage<?> stage) {
-        return stage.seen(true) != null;
+        return stage.readOutcome(true) != null;
     }
 
     /** {@code cf_look check} says that an account fits, where that program is. */
@@ -130,12 +130,12 @@ public final class Checks {
 
     /** Times a stage out at once, by a word of the clock's, and calls in this thread what hangs on it. Whether it wasn't settled. */
     static boolean timeOut(Stage<?> stage) {
-        News news = new News();
+        FollowUps followUps = new FollowUps();
         boolean did;
         synchronized (stage.request.machine) {
-            did = stage.request.change(Words.failAs(Request.CLOCK, stage.number, Words.TIMED_OUT), stage.request.who(), news);
+            did = stage.request.applyWord(Words.failAs(Request.CLOCK, stage.number, Words.TIMED_OUT), stage.request.callerNumber(), followUps);
         }
-        Request.tell(news);
+        Request.tell(followUps);
         return did;
     }
 

@@ -68,18 +68,18 @@ final class ClosingTest {
         source.complete(9);
         is(elsewhere.get(20, TimeUnit.SECONDS), "elsewhere");
         // The core goes to the next one, while there is a limit and afterwards.
-        int live = Machine.live();
+        int live = Machine.liveCores();
         List<Stage<Integer>> limited = new ArrayList<>();
         for (int k = 0; k < 300; k++) {
             try (Request next = SERVICE.request()) {
                 limited.add(next.<Integer>promise().orTimeout(1, TimeUnit.HOURS));
             }
         }
-        is(Machine.live() <= live + 10, true);
+        is(Machine.liveCores() <= live + 10, true);
         for (Stage<Integer> each : limited) {
             is(each.complete(1), true);
         }
-        is(Machine.live() <= live + 10, true);
+        is(Machine.liveCores() <= live + 10, true);
     }
 
     /** Functions close the request, and so do threads meanwhile, all under its lock. */
@@ -325,5 +325,18 @@ final class ClosingTest {
             world.atEnd(() -> sent.size() == 1 && seen.add(sent.get(0) + " " + rest.isCancelled()) | true, "the answer is sent");
         }).seconds(60).whole().check();
         is(seen.size(), 8);
+    }
+
+    /** What a function of a flow has given is needed by what stands behind that. */
+    static void goesOnInFlow() {
+        List<Stage<Integer>> gives = new ArrayList<>();
+        Flow flow = new Flow("order");
+        Flow.Step<Integer> first = flow.promise(), follows = first.thenCompose(x -> gives.get(0));
+        Request request = SERVICE.start(flow);
+        gives.add(request.promise());
+        request.stage(first).complete(1);
+        request.cancelRestAfter(request.stage(first));
+        is(gives.get(0).complete(7), true);
+        is(request.stage(follows).join(), 7);
     }
 }

@@ -27,10 +27,10 @@ final class DescribeTest {
         while (faces.length() < 80) {
             faces.append("\ud83d\ude00");
         }
-        String told = Text.of(Describe.ALL, faces);
+        String told = Text.describe(Describe.ALL, faces);
         is(told, faces.substring(0, 56) + "...");
-        is(Text.of(Describe.ALL, String.join("", Collections.nCopies(60, "x"))).length(), 60);
-        is(Text.of(Describe.ALL, String.join("", Collections.nCopies(61, "x"))), String.join("", Collections.nCopies(57, "x")) + "...");
+        is(Text.describe(Describe.ALL, String.join("", Collections.nCopies(60, "x"))).length(), 60);
+        is(Text.describe(Describe.ALL, String.join("", Collections.nCopies(61, "x"))), String.join("", Collections.nCopies(57, "x")) + "...");
     }
 
     private static final class Secret extends RuntimeException {
@@ -69,7 +69,7 @@ final class DescribeTest {
 
     static void described() throws Exception {
         cut();
-        Service types = INLINE.describing(Describe.TYPES), nothing = INLINE.describing(Describe.NOTHING);
+        Service types = INLINE.withDescribe(Describe.TYPES), nothing = INLINE.withDescribe(Describe.NOTHING);
         Path file = Files.createTempFile("cf", ".jfr");
         try (jdk.jfr.Recording recording = new jdk.jfr.Recording()) {
             recording.enable("cf.Word");
@@ -96,7 +96,7 @@ final class DescribeTest {
         is(ends.contains("-") && ends.contains("java.lang.String of 10") && ends.contains("cf.service.DescribeTest$Secret"), true);
         is(told(INLINE, INLINE.request("all")).get(0).contains("bearer 123"), true);
         is(told(INLINE, INLINE.request("one", Describe.NOTHING)).get(0).contains("bearer 123"), false);
-        Request goesOn = types.request("goes on").goesOn();
+        Request goesOn = types.request("goes on").continueInNext();
         Stage<String> last = goesOn.completedFuture("bearer 123");
         while (goesOn.next() == null) {
             last = last.thenApply(x -> x);
@@ -104,7 +104,7 @@ final class DescribeTest {
         is(last.request() == goesOn.next(), true);
         is(last.request().history().toString().contains("bearer"), false);
         is(types.request().name().equals(nothing.request().name()), false);
-        thrown(NullPointerException.class, () -> INLINE.describing(null));
+        thrown(NullPointerException.class, () -> INLINE.withDescribe(null));
         thrown(NullPointerException.class, () -> INLINE.request("null", null));
     }
 
@@ -121,13 +121,13 @@ final class DescribeTest {
 
     static void describers() throws Exception {
         String long_ = String.join("", Collections.nCopies(100, "x"));
-        is(Text.of(Describe.TYPES, "four"), "java.lang.String of 4");
-        is(Text.of(Describe.TYPES, new byte[7]), "byte[] of 7");
-        is(Text.of(Describe.TYPES, Arrays.asList(1, 2)), "java.util.Arrays$ArrayList of 2");
-        is(Text.of(Describe.TYPES, Collections.singletonMap(1, 2)), "java.util.Collections$SingletonMap of 1");
-        is(Text.of(Describe.TYPES, 5), "java.lang.Integer");
-        is(Text.of(Describe.TYPES, new Secret()), "cf.service.DescribeTest$Secret");
-        is(Text.of(Describe.NOTHING, 5), "-");
+        is(Text.describe(Describe.TYPES, "four"), "java.lang.String of 4");
+        is(Text.describe(Describe.TYPES, new byte[7]), "byte[] of 7");
+        is(Text.describe(Describe.TYPES, Arrays.asList(1, 2)), "java.util.Arrays$ArrayList of 2");
+        is(Text.describe(Describe.TYPES, Collections.singletonMap(1, 2)), "java.util.Collections$SingletonMap of 1");
+        is(Text.describe(Describe.TYPES, 5), "java.lang.Integer");
+        is(Text.describe(Describe.TYPES, new Secret()), "cf.service.DescribeTest$Secret");
+        is(Text.describe(Describe.NOTHING, 5), "-");
         // One's own is told as it is, and where it throws, a question mark is.
         Request own = INLINE.request("own", value -> value instanceof String ? long_ + "\n" : null);
         own.completedFuture("a");

@@ -69,7 +69,7 @@ final class EndsTest {
     private final ExecutorService pool = Executors.newFixedThreadPool(1);
     private final ThreadLocal<String> context = ThreadLocal.withInitial(() -> "-");
     private final BlockingQueue<String> told = new LinkedBlockingQueue<>();
-    private final Service service = new Service(pool).carrying(() -> this::within).onEnd(history -> {
+    private final Service service = new Service(pool).withContexts(() -> this::within).onEnd(history -> {
         Thread own = Thread.currentThread();
         told.add("by " + own.getName() + (own.isDaemon() ? "" : ", for which the JVM waits"));
     });
@@ -208,7 +208,7 @@ final class EndsTest {
             it.open.cancel(true);
             it.request.close();
             it.request.close();
-            calmly(() -> it.service.ends().end(20));
+            calmly(() -> it.service.ends().drain(20));
             return it.told;
         });
         return calls;

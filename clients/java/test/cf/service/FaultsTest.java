@@ -84,6 +84,12 @@ final class FaultsTest {
                 }
             }
         }
+        programs.put("what a function gives for one that failed", promise -> {
+            CompletableFuture<Object> source = promise.get(), given = promise.get(), instead = source.exceptionallyCompose(error -> given);
+            source.completeExceptionally(broken("source"));
+            given.cancel(true);
+            return Arrays.asList(source, given, instead, instead.thenApply(x -> x));
+        });
         programs.put("what functions throw", promise -> {
             CompletableFuture<Object> source = promise.get(), one = source.thenApply(x -> Checks.breaks()), two = source.handle((x, e) -> {
                 throw new CompletionException(broken("two"));
@@ -226,5 +232,22 @@ final class FaultsTest {
         adminStops(begun.stage(other));
         is(isBy(begun.stage(next).exceptionNow(), "adminStops"), true);
         is(begun.stage(all).exceptionNow() == thrown(CancellationException.class, begun.stage(promise)::join), true);
+    }
+
+    /** What breaks in Java's own classes behind a stage keeps nothing from others, and is thrown to who settles it. */
+    static void breaksInJavas() {
+        class Mute extends RuntimeException {
+            private static final long serialVersionUID = 1;
+
+            @Override
+            public String toString() {
+                throw new IllegalStateException("mute");
+            }
+        }
+        Stage<Object> stage = SERVICE.request().promise();
+        Future<Void> javas = CompletableFuture.allOf(stage);
+        Stage<String> behind = stage.handle((value, error) -> "told");
+        is(thrown(IllegalStateException.class, () -> stage.completeExceptionally(new Mute())).getMessage(), "mute");
+        is(behind.join() + " " + javas.isDone(), "told false");
     }
 }

@@ -37,7 +37,7 @@ final class FreeingTest {
                 mayBeFreed.add(new WeakReference<>(raced(k % 8, each)));
             }
         }
-        is(livingStage.more.outside.take() == null, true);
+        is(livingStage.extras.outsideLinks.takeAll() == null, true);
         for (CompletionStage<Object> each : lived) {
             Request keeping = SERVICE.request();
             wait.add(keeping.anyOf(keeping.promise(), keeping.promise(), each));
@@ -96,7 +96,7 @@ final class FreeingTest {
         com.sun.management.ThreadMXBean threads = (com.sun.management.ThreadMXBean) ManagementFactory.getThreadMXBean();
         long own = Thread.currentThread().getId();
         Stage<Integer> latch = SERVICE.request().promise(), last = null;
-        Request keeping = SERVICE.request().goesOn();
+        Request keeping = SERVICE.request().continueInNext();
         long before = threads.getThreadAllocatedBytes(own);
         for (int k = 0; k < 20_000; k++) {
             last = keeping.adopt(latch);
@@ -165,24 +165,24 @@ final class FreeingTest {
         for (int k = 0; k < 5; k++) {
             System.gc();
             Thread.sleep(20);
-            Freed.all();
+            Freed.freeAll();
         }
-        int live = Machine.live(), count = 300;
+        int live = Machine.liveCores(), count = 300;
         List<Request> over = new ArrayList<>();
         for (int k = 0; k < count; k++) {
             Request one = INLINE.request("over");
             is(one.completedFuture(k).thenApply(x -> x + 1).join(), k + 1);
             over.add(one);
         }
-        is(Machine.live() <= live + 10, true);
+        is(Machine.liveCores() <= live + 10, true);
         for (int k = 0; k < count; k++) {
             is(over.get(k).history().events(), 5);
             is(over.get(k).completedFuture(k).thenApply(x -> x + 2).join(), k + 2);
             is(over.get(k).history().report().endsWith("stage 1 value 1\nstage 2 value 2\nstage 3 value 3\n"), true);
         }
-        is(Machine.live() > live + count / 2, true);
+        is(Machine.liveCores() > live + count / 2, true);
         over.forEach(Request::close);
-        is(Machine.live() < live + count / 2, true);
+        is(Machine.liveCores() < live + count / 2, true);
         // One that is in use again isn't over, and its limits are kept.
         Request used = INLINE.request("used");
         is(used.completedFuture(1).join(), 1);
@@ -192,20 +192,20 @@ final class FreeingTest {
         // So it is with a flow, once a stage of it was asked for: that asks the machine.
         Flow flow = new Flow("over");
         Flow.Step<Object> last = flow.promise().thenApply(x -> x);
-        live = Machine.live();
+        live = Machine.liveCores();
         for (int k = 0; k < count; k++) {
             over.set(k, INLINE.start(flow, k));
             is(over.get(k).stage(last).join(), k);
         }
-        is(Machine.live() <= live + 10, true);
+        is(Machine.liveCores() <= live + 10, true);
         for (int k = 0; k < count; k++) {
             over.set(k, INLINE.start(flow, k));
         }
-        is(Machine.live() > live + count / 2, true);
+        is(Machine.liveCores() > live + count / 2, true);
         for (int k = 0; k < count; k++) {
             is(over.get(k).stage(last).join(), k);
         }
-        is(Machine.live() < live + count / 2, true);
+        is(Machine.liveCores() < live + count / 2, true);
     }
 
     private static Object dropped() {
@@ -248,7 +248,7 @@ final class FreeingTest {
         for (int k = 0; k < 9000; k++) {
             open.add(INLINE.request("open"));
         }
-        is(Machine.live() >= 9000, true);
+        is(Machine.liveCores() >= 9000, true);
         int own = collectors.size();
         System.gc();
         for (int k = 0; k < 4000 && (asked.get() == 0 || told.get() < collections(collectors) - before); k++) {
@@ -259,7 +259,7 @@ final class FreeingTest {
         for (Request each : open) {
             each.close();
         }
-        is(Machine.live() < 9000, true);
+        is(Machine.liveCores() < 9000, true);
     }
 
     private static long collections(List<GarbageCollectorMXBean> collectors) {
@@ -278,7 +278,7 @@ final class FreeingTest {
             Request unclosed = INLINE.request("unclosed");
             unclosed.promise(); // So it is never over.
             unclosed.completedFuture(k);
-            most = Math.max(most, Machine.live());
+            most = Math.max(most, Machine.liveCores());
         }
         System.out.println("at most " + most + " were alive");
         is(most < 30_000, true);
@@ -292,16 +292,16 @@ final class FreeingTest {
         for (int k = 0; k < 100; k++) {
             open.add(INLINE.request("open")); // So no core is at hand.
         }
-        int live = Machine.live();
+        int live = Machine.liveCores();
         for (int k = 0; k < 200; k++) {
             INLINE.start(flow);
         }
-        for (int k = 0; k < 200 && Machine.live() > live + 100; k++) {
+        for (int k = 0; k < 200 && Machine.liveCores() > live + 100; k++) {
             System.gc();
             Thread.sleep(5);
             open.add(INLINE.request("open"));
         }
-        is(Machine.live() <= live + 100, true);
+        is(Machine.liveCores() <= live + 100, true);
         open.forEach(Request::close);
     }
 }

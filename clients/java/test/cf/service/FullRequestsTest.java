@@ -52,7 +52,7 @@ final class FullRequestsTest {
     }
 
     static void goesOn() {
-        Request fullRequest = SERVICE.request().goesOn();
+        Request fullRequest = SERVICE.request().continueInNext();
         Stage<Integer> firstOfFull = fullRequest.promise(), lastThatFits = firstOfFull;
         for (int k = 0; k < 10_000; k++) {
             lastThatFits = lastThatFits.thenApply(x -> x + 1);
@@ -65,7 +65,7 @@ final class FullRequestsTest {
         }
         is(count, 3);
         is(firstOfFull.thenCombine(lastThatFits, Integer::sum).join(), 10_000);
-        Request ofService = new Service().goesOn().describing(Describe.NOTHING).request();
+        Request ofService = new Service().withNextRequests().withDescribe(Describe.NOTHING).request();
         for (int k = 0; k <= 4096; k++) {
             ofService.promise();
         }
@@ -76,7 +76,7 @@ final class FullRequestsTest {
     static void goesOnByMany() throws Exception {
         int threads = 4, each = 2100;
         for (int round = 0; round < 20; round++) {
-            Request first = SERVICE.request().goesOn();
+            Request first = SERVICE.request().continueInNext();
             CountDownLatch ended = new CountDownLatch(threads);
             for (int k = 0; k < threads; k++) {
                 new Thread(() -> {
@@ -99,7 +99,7 @@ final class FullRequestsTest {
     static void letsGoWithoutPlace() throws Exception {
         int threads = 4, each = 600;
         for (int round = 0; round < 40; round++) {
-            Request first = SERVICE.request().goesOn();
+            Request first = SERVICE.request().continueInNext();
             Stage<Integer> own = first.promise();
             List<CompletableFuture<Integer>> others = Collections.synchronizedList(new ArrayList<>());
             CountDownLatch ended = new CountDownLatch(threads);

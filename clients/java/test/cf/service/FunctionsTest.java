@@ -220,7 +220,7 @@ final class FunctionsTest {
             is(each.join(), 2);
         }
         is(calling.history().toString().contains("some thread attaches"), true);
-        Set<Integer> numbers = Arrays.stream(calling.history().words()).mapToObj(Words::who).collect(Collectors.toCollection(TreeSet::new));
+        Set<Integer> numbers = Arrays.stream(calling.history().words()).mapToObj(Words::caller).collect(Collectors.toCollection(TreeSet::new));
         is(numbers, IntStream.range(Request.FIRST_THREAD, 64).boxed().collect(Collectors.toSet()));
     }
 

@@ -101,7 +101,7 @@ final class GatheringTest {
 
     /** Of a request that goes on any number is gathered, in several requests, and what lives long keeps none of them. */
     static void parts() {
-        Request gathering = SERVICE.request().goesOn();
+        Request gathering = SERVICE.request().continueInNext();
         Stage<?>[] row = new Stage<?>[3000];
         for (int k = 0; k < row.length; k++) {
             row[k] = gathering.promise();

@@ -49,7 +49,7 @@ final class HistoriesTest {
         a.cancel(false);
         is(history.events(), 6);
         is(told.history().events(), 7);
-        is(Words.name(history.words()[2]), "complete");
+        is(Words.kindName(history.words()[2]), "complete");
     }
 
     /** Where the program cf_look is. */
@@ -63,7 +63,7 @@ final class HistoriesTest {
         is(relay.join() + late.join(), 3);
         List<String> found = new ArrayList<>();
         for (long word : request.history().words()) {
-            found.add(Words.name(word) + " " + Words.who(word));
+            found.add(Words.kindName(word) + " " + Words.caller(word));
         }
         is(found, Arrays.asList("attach 3", "complete 2", "attach 3", "complete 1"));
     }

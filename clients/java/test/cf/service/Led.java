@@ -142,7 +142,7 @@ final class Led implements Waits.Leader {
     }
 
     private void tried(World world) throws Exception {
-        Waits.ledBy(this);
+        Waits.setLeader(this);
         try {
             world.begin(this);
             players.forEach(player -> THREADS.execute(player::run));
@@ -155,7 +155,7 @@ final class Led implements Waits.Leader {
             }
             throw new AssertionError("in the order " + row, thrown);
         } finally {
-            Waits.ledBy(null);
+            Waits.setLeader(null);
         }
     }
 
@@ -256,12 +256,12 @@ final class Led implements Waits.Leader {
     // What a service asks.
 
     @Override
-    public void turn() {
-        rest(null, false);
+    public void awaitTurn() {
+        waitUntil(null, false);
     }
 
     @Override
-    public void rest(BooleanSupplier until, boolean orInterrupted) {
+    public void waitUntil(BooleanSupplier until, boolean orInterrupted) {
         Player self = SELF.get();
         if (self != null) {
             self.ask(until, orInterrupted);
@@ -274,7 +274,7 @@ final class Led implements Waits.Leader {
     }
 
     @Override
-    public Future<?> at(long moment, Runnable act) {
+    public Future<?> runAt(long moment, Runnable act) {
         if (starts++ == fails) {
             hasFailed = true;
             throw new OutOfMemoryError("unable to create native thread");

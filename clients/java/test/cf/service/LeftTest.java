@@ -220,7 +220,7 @@ final class LeftTest {
         requests.forEach(Request::cancelAll);
         requests.forEach(Request::close);
         requests.forEach(Request::close);
-        service.ends().end(20);
+        service.ends().drain(20);
         is(hooks.get(), requests.size());
     }
 
@@ -233,8 +233,8 @@ final class LeftTest {
         int[] links = new int[of.length];
         Arrays.fill(links, -1);
         for (long word : history.words()) {
-            if (Words.linking(word)) {
-                links[Words.stage(word)] = Words.low(word);
+            if (Words.isLinking(word)) {
+                links[Words.stage(word)] = Words.lowBits(word);
             }
         }
         for (int k = 0; k < of.length; k++) {

@@ -32,28 +32,30 @@ final class MachineTest {
         Machine one = new Machine(flow.plan(), 8);
         one.attach(Words.attach(WHO, Form.APPLY, 1, 0, 0, 1), Machine.BY_EXECUTOR, WHO);
         one.apply(Words.complete(WHO, 0, 7), WHO);
-        is(one.claimed() + " " + one.ready() + " " + one.ready(0) + " " + one.told() + " " + one.told(0) + " " + one.number(0), "0 1 1 1 "
+        is(one.claimedCount() + " " + one.readyCount() + " " + one.readyStage(0) + " " + one.settledCount() + " " + one.settledBits(0) + " "
+                + one.settledNumber(0), "0 1 1 1 "
                 + (History.GIVES << 16 | 1 << 21) + " 7");
         is(one.events(), 2);
-        one.rest(null);
+        one.giveBackCore(null);
         long began = Native.ticks();
         Machine two = new Machine(flow.plan(), 8);
         two.attach(Words.attach(WHO, Form.APPLY, 1, 0, 0, 1), Machine.HERE, WHO);
         two.apply(Words.complete(WHO, 0, 7), WHO);
-        is(two.claimed() + " " + two.ready() + " " + two.claimed(0) + " " + two.kind(0) + " " + two.first(0), "1 0 1 " + History.ONE + " 7");
+        is(two.claimedCount() + " " + two.readyCount() + " " + two.claimedStage(0) + " " + two.argumentBits(0) + " " + two.firstArgument(0), "1 0 1 "
+                + History.ONE + " 7");
         two.finish(1, false, 8, WHO);
-        is(two.answer() + " " + two.told() + " " + two.number(0), History.WON + " 1 8");
-        long[] kept = two.kept();
+        is(two.answer() + " " + two.settledCount() + " " + two.settledNumber(0), History.WON + " 1 8");
+        long[] kept = two.wordsAndMoments();
         is(two.events(), 4);
         is(kept.length, 4 + 3);
         is(kept[4] >>> 8 >= began && kept[5] >= kept[4] && kept[6] >>> 8 >= kept[5] >>> 8, true);
         is((kept[4] & 0xff) + " " + (kept[5] & 0xff) + " " + (kept[6] & 0xff), "1 2 1");
-        is(Words.name(kept[0]) + " " + Words.name(kept[1]) + " " + Words.name(kept[2]), "attach complete claim");
-        two.rest(null);
+        is(Words.kindName(kept[0]) + " " + Words.kindName(kept[1]) + " " + Words.kindName(kept[2]), "attach complete claim");
+        two.giveBackCore(null);
         // One that goes on has the lanes of before.
         one.apply(Words.claim(WHO, 1), WHO);
-        is(one.answer() + " " + one.claimed() + " " + one.first(0) + " " + one.told(), History.GRANTED + " 1 7 0");
-        one.rest(null);
+        is(one.answer() + " " + one.claimedCount() + " " + one.firstArgument(0) + " " + one.settledCount(), History.GRANTED + " 1 7 0");
+        one.giveBackCore(null);
         // The same by requests: the executor's functions stay its own.
         ExecutorService pool = Executors.newSingleThreadExecutor(run -> new Thread(run, "pool"));
         Service pooled = new Service(pool);
@@ -100,19 +102,19 @@ final class MachineTest {
         long came = Native.ticks();
         tasks.get(0).run();
         is(stage.join(), 5);
-        long[] kept = stage.request().machine.kept();
+        long[] kept = stage.request().machine.wordsAndMoments();
         is(kept.length, 3 + 3);
-        is(Words.name(kept[0]) + " " + Words.name(kept[1]) + " " + Words.name(kept[2]), "attach claim finish");
+        is(Words.kindName(kept[0]) + " " + Words.kindName(kept[1]) + " " + Words.kindName(kept[2]), "attach claim finish");
         is(kept[3] >>> 8 <= came && kept[4] >>> 8 >= came && kept[5] >>> 8 >= kept[4] >>> 8, true);
         is(stage.request().history().report(), "attached 0\ngranted none\nwon\nstage 0 value 0\n");
         // Where its opening is refused, it is opened by the next call.
         Machine machine = new Machine(Words.attach(WHO, Form.SUPPLY, 0, 0, 0, 0));
         thrown(AssertionError.class, () -> machine.apply(-1, WHO));
         machine.apply(Words.claim(WHO, 0), WHO);
-        is(machine.answer() + " " + machine.claimed() + " " + machine.events(), History.GRANTED + " 1 2");
+        is(machine.answer() + " " + machine.claimedCount() + " " + machine.events(), History.GRANTED + " 1 2");
         machine.finish(0, false, 3, WHO);
-        is(machine.answer() + " " + machine.told() + " " + machine.isOver(), History.WON + " 1 true");
-        machine.rest(null);
+        is(machine.answer() + " " + machine.settledCount() + " " + machine.isOver(), History.WON + " 1 true");
+        machine.giveBackCore(null);
     }
 
     /** Two requests never have one core: not where one is closed twice, nor where several threads open and close them. */
@@ -169,7 +171,7 @@ final class MachineTest {
     /** A word is refused in the midst of those that wait, as where memory is. The next call does it, and those behind it, each in its lane. */
     static void refusedWords() {
         Machine.Plan plan = new Flow("refused").plan();
-        Machine.Core core = Machine.Core.found(plan.pool);
+        Machine.Core core = Machine.Core.reuseOrCreate(plan.pool);
         is(plan.pool.put(core, 0), true);
         Machine machine = new Machine(plan, 8);
         machine.attachLater(source(), Machine.HERE);
@@ -179,11 +181,11 @@ final class MachineTest {
         thrown(AssertionError.class, machine::flush);
         is(machine.events(), 4);
         // The source of the second one, which wasn't there.
-        is(machine.apply(core.at, 0, source(), Machine.HERE, Machine.NOBODY) & 0xff, (long) Native.OK);
+        is(machine.apply(core.address, 0, source(), Machine.HERE, Machine.NOBODY) & 0xff, (long) Native.OK);
         machine.apply(Words.complete(WHO, 0, 7), WHO);
-        is(machine.ready() + " " + machine.ready(0) + " " + machine.claimed() + " " + machine.claimed(0), "1 3 1 4");
+        is(machine.readyCount() + " " + machine.readyStage(0) + " " + machine.claimedCount() + " " + machine.claimedStage(0), "1 3 1 4");
         is(machine.events(), 7);
-        machine.rest(null);
+        machine.giveBackCore(null);
     }
 
     /** A history tells both causes, of which requests have but the first. */
@@ -208,7 +210,7 @@ final class MachineTest {
         is(said.contains("main claims 1 handle and calls it with a bad answer\n"), true);
         is(said.contains("main times out 2 source\n") && said.contains("2 source ends: timed out\n"), true);
         is(said.contains("main fails 2 source with a bad answer: too late\n"), true);
-        machine.rest(null);
+        machine.giveBackCore(null);
     }
 
     /** Numbers that are told beside an array or a place don't make the library read past them. */
@@ -238,8 +240,8 @@ final class MachineTest {
             is(machine.apply(core, waiting, source(), 0, WHO) & 0xff, 26L);
         }
         for (int stage : new int[] {-1, 1, 4096, Integer.MAX_VALUE}) {
-            is(machine.ask(core, stage) != Native.OK, true);
-            is((machine.deadline(core, 0, stage, 5, false, 0) & 0xff) != Native.OK, true);
+            is(machine.fetchOutcome(core, stage) != Native.OK, true);
+            is((machine.setDeadline(core, 0, stage, 5, false, 0) & 0xff) != Native.OK, true);
             is((machine.finish(core, 0, stage, false, 0, WHO, true) & 0xff) != Native.OK, true);
         }
         for (short[] of : new short[][] {{0, 1, 0}, {0, 0, -1}, {0, 4096, 0}, new short[5000]}) {
@@ -249,7 +251,7 @@ final class MachineTest {
             is((machine.gather(core, 0, number, new short[3], WHO) & 0xff) != Native.OK, true);
             is((machine.gather(core, number == 6 ? -1 : 0, Form.ALL_OF.ordinal(), new short[3], number) & 0xff) != Native.OK, true);
         }
-        is((int) machine.pass(core, 0, -1, Integer.MAX_VALUE) & 0xff, 0);
+        is((int) machine.passTimeTo(core, 0, -1, Integer.MAX_VALUE) & 0xff, 0);
         is((int) machine.apply(core, 0, Words.complete(WHO, 0, 3), Integer.MAX_VALUE, Integer.MAX_VALUE) & 0xff, 34);
         is((int) machine.apply(core, 0, Words.complete(WHO, 0, 3), 0, WHO) & 0xff, 0);
         for (int n : new int[] {-1, 3, 100, Integer.MAX_VALUE}) {
@@ -259,12 +261,12 @@ final class MachineTest {
         is(machine.words(core, new long[100], 2, 0) + machine.words(core, new long[1], 1, 1), Native.OK);
         long supply = Words.attach(WHO, Form.SUPPLY, 0, 0, 0, 0);
         for (long word : new long[] {-1, Words.claim(WHO, 1), Words.claim(64, 0)}) {
-            is((machine.first(core, word, 1, Words.claim(WHO, 0), WHO) & 0xff) != Native.OK, true);
-            is((machine.first(core, supply, 1, word, WHO) & 0xff) != Native.OK, true);
+            is((machine.openWith(core, word, 1, Words.claim(WHO, 0), WHO) & 0xff) != Native.OK, true);
+            is((machine.openWith(core, supply, 1, word, WHO) & 0xff) != Native.OK, true);
         }
-        is(machine.first(core, supply, Long.MIN_VALUE, supply, Integer.MAX_VALUE) & 0xff, (long) Native.OK);
+        is(machine.openWith(core, supply, Long.MIN_VALUE, supply, Integer.MAX_VALUE) & 0xff, (long) Native.OK);
         Machine.destroy(core);
-        machine.rest(null);
+        machine.giveBackCore(null);
     }
 
     private static Machine sources(Machine machine, int count) {
@@ -278,7 +280,7 @@ final class MachineTest {
     static void largeCores() {
         for (int stages : new int[] {512, 513}) {
             Machine.Plan plan = new Flow("stages").plan();
-            sources(new Machine(plan, 8), stages).rest(null);
+            sources(new Machine(plan, 8), stages).giveBackCore(null);
             is(plan.pool.take(0) != null, stages == 512);
         }
         for (int late : new int[] {1000, 16 * 512}) {
@@ -287,7 +289,7 @@ final class MachineTest {
             for (int k = 0; k < late; k++) {
                 machine.apply(Words.cancel(WHO, 0), WHO);
             }
-            machine.rest(null);
+            machine.giveBackCore(null);
             is(plan.pool.take(0) != null, late == 1000);
         }
     }
@@ -296,17 +298,17 @@ final class MachineTest {
     static void failsToComeAgain() {
         Machine machine = sources(new Machine(null, 8), 3);
         boolean[] fails = {true};
-        machine.rest(() -> {
+        machine.giveBackCore(() -> {
             if (fails[0]) {
                 Checks.breaks();
             }
         });
         thrown(Checks.Broken.class, () -> machine.apply(Words.complete(WHO, 2, 7), WHO));
-        is(machine.events() + " " + machine.kept().length, "3 4");
+        is(machine.events() + " " + machine.wordsAndMoments().length, "3 4");
         fails[0] = false;
         machine.apply(Words.complete(WHO, 2, 7), WHO);
-        is(machine.answer() + " " + machine.told() + " " + machine.events(), "1 1 4");
-        machine.rest(null);
+        is(machine.answer() + " " + machine.settledCount() + " " + machine.events(), "1 1 4");
+        machine.giveBackCore(null);
     }
 
     /** Words that wait have the moment of the first of them. */
@@ -314,11 +316,11 @@ final class MachineTest {
         Machine machine = sources(new Machine(null, 8), 1);
         long came = Native.ticks();
         sources(machine, 1).apply(Words.complete(WHO, 0, 7), WHO);
-        long[] kept = machine.kept();
+        long[] kept = machine.wordsAndMoments();
         is(kept.length, 3 + 2);
         is(kept[3] >>> 8 <= came && kept[4] >>> 8 >= came, true);
         is((kept[3] & 0xff) + " " + (kept[4] & 0xff), "2 1");
-        machine.rest(null);
+        machine.giveBackCore(null);
     }
 
     /** More events come at one moment than a number tells. Once all words are done again, they have their moments, and nothing is told again. */
@@ -330,27 +332,27 @@ final class MachineTest {
         }
         machine.gather(Form.ANY_OF, of, WHO);
         machine.apply(Words.fail(WHO, 0, 1), WHO);
-        int told = machine.told();
-        while (machine.more(WHO)) {
-            told += machine.told();
+        int told = machine.settledCount();
+        while (machine.fetchMore(WHO)) {
+            told += machine.settledCount();
         }
         is(told, 300);
         int events = machine.events();
-        long[] kept = machine.kept();
+        long[] kept = machine.wordsAndMoments();
         int sum = 0;
         for (int k = events; k < kept.length; k++) {
             sum += (int) kept[k] & 0xff;
             is(k == events || kept[k] >>> 8 >= kept[k - 1] >>> 8, true);
         }
         is(events + " " + sum, "600 600");
-        machine.rest(null);
+        machine.giveBackCore(null);
         machine.apply(Words.cancel(WHO, 1), WHO);
-        is(machine.told() + " " + machine.told(0) % 4096 + " " + machine.more(WHO), "1 1 false");
-        long[] again = machine.kept();
+        is(machine.settledCount() + " " + machine.settledBits(0) % 4096 + " " + machine.fetchMore(WHO), "1 1 false");
+        long[] again = machine.wordsAndMoments();
         is(machine.events(), 601);
         is(again.length, kept.length + 2);
         is(Arrays.equals(Arrays.copyOfRange(again, 601, 601 + kept.length - 600), Arrays.copyOfRange(kept, 600, kept.length)), true);
-        machine.rest(null);
+        machine.giveBackCore(null);
     }
 
     /** One request of a call has a stage more of an executor. Another one's isn't such a stage, also once its words are done again. */

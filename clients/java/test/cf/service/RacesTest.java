@@ -168,7 +168,7 @@ final class RacesTest {
                     one.handle((x, e) -> 0).get(20, TimeUnit.SECONDS);
                 }
             }
-            is(raced.more.outside.take() == null, true);
+            is(raced.extras.outsideLinks.takeAll() == null, true);
         }
         AtomicReference<Stage<Integer>> next = new AtomicReference<>();
         AtomicReference<List<Stage<Integer>>> hung = new AtomicReference<>();
@@ -176,7 +176,7 @@ final class RacesTest {
         Future<?> hangs = pool.submit(() -> {
             for (int k = 0; k < steps; k++) {
                 Stage<Integer> raced = taken(next);
-                Request racing = SERVICE.request().goesOn();
+                Request racing = SERVICE.request().continueInNext();
                 List<Stage<Integer>> made = new ArrayList<>();
                 while (!raced.isDone()) {
                     made.add(racing.adopt(raced));

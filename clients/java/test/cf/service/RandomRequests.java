@@ -228,8 +228,8 @@ public final class RandomRequests {
     }
 
     private static void stays(Stage<Object> stage) {
-        Object first = stage.told;
-        if (first != null && (stage.told != first || !stage.isDone())) {
+        Object first = stage.outcome;
+        if (first != null && (stage.outcome != first || !stage.isDone())) {
             throw new AssertionError("an outcome changed");
         }
     }

@@ -21,7 +21,7 @@ final class RecordingsTest {
             System.out.println("(no recordings in this JVM)");
             return;
         }
-        is(Recorder.now() != null, jdk.jfr.FlightRecorder.isInitialized());
+        is(Recorder.current() != null, jdk.jfr.FlightRecorder.isInitialized());
         Path file = Files.createTempFile("cf", ".jfr");
         int words;
         try (jdk.jfr.Recording recording = new jdk.jfr.Recording()) {
@@ -75,8 +75,8 @@ final class RecordingsTest {
         try (jdk.jfr.Recording recording = new jdk.jfr.Recording(jdk.jfr.Configuration.getConfiguration("profile"))) {
             recording.start();
             INLINE.request("unasked").completedFuture(1).thenApply(x -> x);
-            is(Recorder.now() != null, true);
-            is(Recorder.hasStages() || Recorder.now().takesWords(), false);
+            is(Recorder.current() != null, true);
+            is(Recorder.hasStages() || Recorder.current().takesWords(), false);
             recording.stop();
             recording.dump(file);
         } catch (NoClassDefFoundError none) {

@@ -40,27 +40,27 @@ public final class Replies {
             apply(machine, k);
         }
         for (int k = 0; k < ends.length; k++) {
-            ends[k] = machine.isSettled(k) ? new int[] {k, machine.told(0) >>> 16, machine.number(0)} : null;
+            ends[k] = machine.isSettled(k) ? new int[] {k, machine.settledBits(0) >>> 16, machine.settledNumber(0)} : null;
         }
-        machine.rest(null);
+        machine.giveBackCore(null);
     }
 
     private void apply(Machine machine, int event) {
         machine.apply(words[event], Machine.NOBODY);
         answers[event] = machine.answer();
-        numbers[event] = machine.number();
+        numbers[event] = machine.replyNumber();
         for (int i = 0; i < ARGUMENTS; i++) {
-            arguments[event][i] = machine.argument(i);
+            arguments[event][i] = machine.replyArgument(i);
         }
         List<int[]> settled = new ArrayList<>();
         do {
-            for (int i = 0; i < machine.told(); i++) {
-                int what = machine.told(i);
+            for (int i = 0; i < machine.settledCount(); i++) {
+                int what = machine.settledBits(i);
                 if (!isFirst[what & 0xfff]) {
-                    settled.add(new int[] {what & 0xfff, what >>> 16, machine.number(i)});
+                    settled.add(new int[] {what & 0xfff, what >>> 16, machine.settledNumber(i)});
                 }
             }
-        } while (machine.more(Machine.NOBODY));
+        } while (machine.fetchMore(Machine.NOBODY));
         settled.sort((a, b) -> a[0] - b[0]);
         told.add(settled);
     }
@@ -129,10 +129,10 @@ public final class Replies {
     private String callers() {
         List<List<String>> callers = new ArrayList<>();
         for (int k = 0; k < words.length; k++) {
-            while (callers.size() <= Words.who(words[k])) {
+            while (callers.size() <= Words.caller(words[k])) {
                 callers.add(new ArrayList<>());
             }
-            List<String> own = callers.get(Words.who(words[k]));
+            List<String> own = callers.get(Words.caller(words[k]));
             own.add("[\"did\"," + (k + 1) + ",\"" + words[k] + "\",\"" + reply(k) + "\"]");
             for (int[] each : told.get(k)) {
                 own.add("[\"outcome\"," + (k + 1) + "," + each[0] + ",\"" + outcome(each[1], each[2]) + "\"]");

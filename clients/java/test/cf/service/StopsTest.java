@@ -76,7 +76,7 @@ public final class StopsTest {
             uses(plan);
             System.gc();
             Thread.sleep(20);
-            Freed.all();
+            Freed.freeAll();
         }
         System.out.println("survived " + stopped + " stops");
         System.exit(0);
@@ -84,16 +84,16 @@ public final class StopsTest {
 
     /** A core is lost, found, given back, used again, has not all set again, and finds no place where it is given back. */
     private static void uses(Machine.Plan plan) {
-        Machine.Core lost = Machine.Core.found(plan.pool);
+        Machine.Core lost = Machine.Core.reuseOrCreate(plan.pool);
         lost.freed.enqueue();
         lost = null;
         Machine one = new Machine(plan, 8), two = new Machine(plan, 8);
         broken = one;
         is(done(one) + done(two), 2);
-        one.rest(() -> {
+        one.giveBackCore(() -> {
             throw new IllegalStateException();
         });
-        two.rest(null);
+        two.giveBackCore(null);
         try {
             one.apply(Words.complete(WHO, 0, 3), WHO);
         } catch (IllegalStateException notAgain) {
@@ -102,16 +102,16 @@ public final class StopsTest {
         Machine single = new Machine(Words.attach(WHO, Form.SUPPLY, 0, 0, 0, 0));
         single.apply(Words.claim(WHO, 0), WHO);
         single.finish(0, false, 3, WHO);
-        single.rests();
+        single.tryGiveBackCore();
         Machine first = new Machine(plan, 8), second = new Machine(plan, 8);
         is(done(first) + done(second), 2);
-        first.over();
-        second.over();
+        first.giveBackLater();
+        second.giveBackLater();
     }
 
     private static int done(Machine machine) {
         machine.apply(Words.complete(WHO, 0, 7), WHO);
-        return machine.told();
+        return machine.settledCount();
     }
 
     // In the one that leads it.

@@ -33,11 +33,11 @@ final class TaleTest {
             }
             cases++;
             Tale tale = new Tale(rows((List<?>) one.get("stages")), number(one.get("room")), longs(one.get("words")));
-            tale.time(longs(one.get("times")));
-            for (Tale.Said what : Tale.Said.values()) {
-                tale.say(what, ((List<?>) ((Map<?, ?>) one.get("said")).get(name(what))).toArray(new String[0]));
+            tale.setTimes(longs(one.get("times")));
+            for (Tale.Label what : Tale.Label.values()) {
+                tale.setLabels(what, ((List<?>) ((Map<?, ?>) one.get("said")).get(name(what))).toArray(new String[0]));
             }
-            for (Tale.Kind kind : Tale.Kind.values()) {
+            for (Tale.Format kind : Tale.Format.values()) {
                 Object wanted = ((Map<?, ?>) one.get("texts")).get(name(kind));
                 StringBuilder lines = new StringBuilder();
                 if (wanted instanceof List<?>) {
@@ -91,20 +91,20 @@ final class TaleTest {
         }
         Tale tale = new Tale(new int[0], 1, new long[] {Words.attach(3, Form.SOURCE, 0, 0, 0, 0)});
         names[0] = words.toString();
-        tale.say(Tale.Said.NAME, "\ude00\ud83d");
-        tale.say(Tale.Said.STAGES, names);
-        is(tale.text(Tale.Kind.LINES), "\\ude00\\ud83d: 1 event, 1 stage\ncaller 3 attaches 0 " + words + ", source\n");
+        tale.setLabels(Tale.Label.NAME, "\ude00\ud83d");
+        tale.setLabels(Tale.Label.STAGES, names);
+        is(tale.text(Tale.Format.LINES), "\\ude00\\ud83d: 1 event, 1 stage\ncaller 3 attaches 0 " + words + ", source\n");
     }
 
     /** What doesn't fit is refused with a code, and nothing is read past what there is. */
     static void refused() {
         long[] none = {}, attach = {Words.attach(0, Form.SOURCE, 0, 0, 0, 0)};
-        thrown(AssertionError.class, () -> new Tale(new int[0], 0, new long[] {-1}).text(Tale.Kind.LINES));
-        thrown(AssertionError.class, () -> new Tale(new int[0], 0, new long[] {Words.cancel(0, 0)}).text(Tale.Kind.LINES));
+        thrown(AssertionError.class, () -> new Tale(new int[0], 0, new long[] {-1}).text(Tale.Format.LINES));
+        thrown(AssertionError.class, () -> new Tale(new int[0], 0, new long[] {Words.cancel(0, 0)}).text(Tale.Format.LINES));
         for (int room : new int[] {-1, 4097, Integer.MAX_VALUE, Integer.MIN_VALUE}) {
-            thrown(AssertionError.class, () -> new Tale(new int[0], room, none).text(Tale.Kind.LINES));
+            thrown(AssertionError.class, () -> new Tale(new int[0], room, none).text(Tale.Format.LINES));
         }
-        thrown(AssertionError.class, () -> new Tale(new int[] {0, -1, 7}, 0, none).text(Tale.Kind.LINES));
+        thrown(AssertionError.class, () -> new Tale(new int[] {0, -1, 7}, 0, none).text(Tale.Format.LINES));
         byte[][] told = new byte[1][];
         byte[] text = {'r', 's', 't'}, half = {'r', (byte) 0xc3};
         int[][] wrong = {{-1}, {Integer.MAX_VALUE, 1}, {Integer.MIN_VALUE}, {2, 1, 1}, {1, 4}, {1, -1}, {1, Integer.MIN_VALUE}, {0, 2, 2, 2}, {0, 2, 2, -1},

@@ -101,7 +101,7 @@ final class TimeoutsTest {
             word = Words.kind(each) == Words.FAIL_AS ? each : word;
         }
         is(word, 8L << 56 | 1L << 48);
-        is(Words.name(word), "failAs");
+        is(Words.kindName(word), "failAs");
         // Each has its own; who comes too late is told so.
         Request otherTimed = SERVICE.request();
         Stage<Integer> firstTimed = otherTimed.promise(), secondTimed = otherTimed.promise(), done = otherTimed.completedFuture(1);
@@ -151,7 +151,7 @@ final class TimeoutsTest {
                 is(end(each), "fault timeout wrapped");
                 is(each.request().history().toString().contains("relay times out "), true);
             }
-            Throwable told = ((Faults.Fault) of.told).error();
+            Throwable told = ((Faults.Fault) of.outcome).error();
             is(adopted.handle((x, error) -> wrapped ? error == told : error.getClass() == TimeoutException.class).join(), true);
             is(end(adopted), wrapped ? "fault thrown 0 raw" : "fault timeout raw");
             furtherTimedOut(wrapped);
@@ -173,7 +173,7 @@ final class TimeoutsTest {
 
     /** Functions in a further request are called with what they would be called with in the first one. */
     private static void furtherTimedOut(boolean wrapped) {
-        Request timed = SERVICE.request().goesOn();
+        Request timed = SERVICE.request().continueInNext();
         Stage<Integer> slow = timed.promise(), of = wrapped ? slow.thenApply(x -> x) : slow;
         while (timed.next() == null) {
             timed.promise();
@@ -247,7 +247,7 @@ final class TimeoutsTest {
             }
             List<Integer> order = new ArrayList<>();
             for (long word : timed.history().words()) {
-                if (Words.who(word) == Request.CLOCK) {
+                if (Words.caller(word) == Request.CLOCK) {
                     order.add(Words.stage(word));
                 }
             }

@@ -58,7 +58,7 @@ final class TracesTest {
     /** Each function has the context of where it was handed over, whoever calls it. */
     static void contexts() throws Exception {
         for (Executor executor : Arrays.<Executor>asList(Runnable::run, act -> new Thread(act).start())) {
-            Service carrying = new Service(executor).carrying(TENANTS);
+            Service carrying = new Service(executor).withContexts(TENANTS);
             Request request = carrying.request("r");
             Stage<String> promise = request.promise();
             List<Stage<String>> attached = new ArrayList<>();
@@ -99,7 +99,7 @@ final class TracesTest {
     /** What a context throws, the call throws, and nothing is changed; one that doesn't call a function at once fails its stage. */
     static void brokenContexts() throws Exception {
         boolean[] breaks = new boolean[1];
-        Service carrying = new Service(Runnable::run).carrying(() -> {
+        Service carrying = new Service(Runnable::run).withContexts(() -> {
             if (breaks[0]) {
                 Checks.breaks();
             }
@@ -114,14 +114,14 @@ final class TracesTest {
         is(request.history().stages(), 1);
         breaks[0] = false;
         is(stage.thenApply(x -> x + 1).join(), 2);
-        Service idle = new Service(Runnable::run).carrying(() -> act -> {});
+        Service idle = new Service(Runnable::run).withContexts(() -> act -> {});
         is(idle.request("r").supplyAsync(() -> 1).handle((x, e) -> 2).handle((x, e) -> 3).isCompletedExceptionally(), true);
     }
 
     /** A hook is told once, when a request is closed and all is settled. */
     static void ends() throws Exception {
         BlockingQueue<History> told = new LinkedBlockingQueue<>();
-        Service service = new Service(act -> new Thread(act).start()).carrying(TENANTS).onEnd(told::add);
+        Service service = new Service(act -> new Thread(act).start()).withContexts(TENANTS).onEnd(told::add);
         Request request = service.request("a");
         Stage<Integer> promise = request.promise();
         Stage<Integer> next = promise.thenApply(x -> x + 1);
@@ -149,7 +149,7 @@ final class TracesTest {
         is(told.poll(20, TimeUnit.SECONDS).name(), "empty");
         is(told.poll(50, TimeUnit.MILLISECONDS), null);
         BlockingQueue<String> tenants = new LinkedBlockingQueue<>();
-        as("opener", () -> new Service().carrying(TENANTS).onEnd(history -> tenants.add(TENANT.get())).request("b")).close();
+        as("opener", () -> new Service().withContexts(TENANTS).onEnd(history -> tenants.add(TENANT.get())).request("b")).close();
         is(tenants.poll(20, TimeUnit.SECONDS), "opener");
     }
 
@@ -223,7 +223,7 @@ final class TracesTest {
         is(before <= whole.start() && whole.start() <= spans.get(1).start() && spans.get(1).end() <= charge.start()
                 && charge.start() <= charge.end() && charge.end() <= whole.end()
                 && whole.end() <= System.currentTimeMillis() * 1_000_000 + second, true);
-        is(failing(Checks.INLINE.describing(Describe.NOTHING)).history().spans().get(2).thrown().toString(), "{exception.message=-}");
+        is(failing(Checks.INLINE.withDescribe(Describe.NOTHING)).history().spans().get(2).thrown().toString(), "{exception.message=-}");
         Request request = Checks.INLINE.request("r");
         is(request.history().spans().size(), 0);
         Stage<Integer> promise = request.promise();
@@ -299,7 +299,7 @@ final class TracesTest {
     static void openTelemetry() throws Exception {
         Tracer tracer = new Tracer();
         CountDownLatch told = new CountDownLatch(1);
-        Service service = new Service(Runnable::run).carrying(Spans.CONTEXTS).onEnd(new Spans(tracer).andThen(history -> told.countDown()));
+        Service service = new Service(Runnable::run).withContexts(Spans.CONTEXTS).onEnd(new Spans(tracer).andThen(history -> told.countDown()));
         io.opentelemetry.api.trace.Span http = new io.opentelemetry.api.trace.Span("http");
         Request[] request = new Request[1];
         new Context(http).wrap(Runnable::run).execute(() -> request[0] = failing(service));

@@ -97,7 +97,8 @@ final class UserCodeTest {
             seen("a context");
             return executor;
         };
-        Service service = new Service(executor).describing(it -> seen("a describing function", String.valueOf(it))).carrying(contexts).onEnd(history -> {
+        Service service = new Service(executor).withDescribe(it ->
+                seen("a describing function", String.valueOf(it))).withContexts(contexts).onEnd(history -> {
             seen("a hook");
             told.countDown();
         });
@@ -137,7 +138,7 @@ final class UserCodeTest {
         Flow.Step<Object> promise = flow.promise(), failed = promise.thenApply(x -> loud()).named("fails"), behind = failed.thenApply(x -> x);
         Request begun = service.start(flow, new Value());
         is(begun.stage(behind).isCompletedExceptionally(), true);
-        Request full = service.request().goesOn();
+        Request full = service.request().continueInNext();
         Stage<Object> first = full.promise();
         while (full.next() == null) {
             full.promise();

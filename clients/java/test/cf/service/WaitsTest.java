@@ -131,7 +131,7 @@ final class WaitsTest {
             }
         });
         led.plays(() -> {
-            Waits.turn();
+            Waits.awaitTurn();
             waits.interrupt();
         });
         led.plays(() -> is(stage.complete(1), true));
@@ -180,7 +180,7 @@ final class WaitsTest {
     }
 
     private static boolean hangs(Stage<?> stage) {
-        return stage.more != null && stage.more.outside != null && stage.more.outside.take() != null;
+        return stage.extras != null && stage.extras.outsideLinks != null && stage.extras.outsideLinks.takeAll() != null;
     }
 
     /** Where a stage ends as it gets a limit, no alarm is left for it. */

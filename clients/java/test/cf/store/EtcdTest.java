@@ -89,7 +89,7 @@ public final class EtcdTest {
 
         @Override
         public Store open() {
-            return RowView.sure(new Host(), () -> EtcdStore.open("127.0.0.1:" + port));
+            return RowView.retryingForAMinute(new Host(), () -> EtcdStore.open("127.0.0.1:" + port));
         }
 
         @Override
@@ -235,9 +235,9 @@ public final class EtcdTest {
             Store.Opened first = store.open("first", "{}");
             Object mark = store.news(null).mark;
             is(store.news(mark).ends, Collections.emptyMap());
-            store.changed(1000); // (it begins to watch)
+            store.awaitChange(1000); // (it begins to watch)
             long began = System.nanoTime();
-            store.changed(200);
+            store.awaitChange(200);
             is(System.nanoTime() - began >= 190_000_000, true);
             Thread puts = new Thread(() -> {
                 other.open("second", "{}");
@@ -246,7 +246,7 @@ public final class EtcdTest {
             puts.start();
             began = System.nanoTime();
             for (int k = 0; k < 2 && store.news(mark).ends.getOrDefault("first", 0) == 0; k++) {
-                store.changed(29_000);
+                store.awaitChange(29_000);
             }
             is(System.nanoTime() - began < 25_000_000_000L, true);
             puts.join();
@@ -298,9 +298,9 @@ public final class EtcdTest {
             thrown(StoreException.Unknown.class, () -> store.find("a"));
             thrown(StoreException.Unknown.class, () -> store.append(put(opened, 0, -1, 1, 1)));
             thrown(StoreException.Unknown.class, proxy::open);
-            store.changed(10); // (it says nothing, as long as nobody answers)
+            store.awaitChange(10); // (it says nothing, as long as nobody answers)
             server.start();
-            is(RowView.sure(new Host(), () -> store.append(put(opened, 0, -1, 1, 1))), null);
+            is(RowView.retryingForAMinute(new Host(), () -> store.append(put(opened, 0, -1, 1, 1))), null);
             is(told(store.read("a", opened.number, 0)), "1 1 ");
         }
         for (String address : new String[] {"", "host", "host:port", "a:1,", "etcd://a"}) {

@@ -14,8 +14,8 @@ public final class StoreChecks {
         Set<Integer> settled = new HashSet<>(), finished = new HashSet<>();
         for (Store.Entry entry : row) {
             int kind = Words.kind(entry.word);
-            if (kind != Words.ATTACH && kind != Words.CLAIM && !Words.linking(entry.word) && settled.add(Words.stage(entry.word))
-                    && kind == Words.FINISH && !Words.throwing(entry.word)) {
+            if (kind != Words.ATTACH && kind != Words.CLAIM && !Words.isLinking(entry.word) && settled.add(Words.stage(entry.word))
+                    && kind == Words.FINISH && !Words.isThrowing(entry.word)) {
                 finished.add(Words.stage(entry.word));
             }
         }

@@ -8,6 +8,7 @@ import cf.internal.Words;
 import cf.store.StoresTest.Database;
 import cf.store.StoresTest.InFile;
 import cf.store.StoresTest.InPostgres;
+import java.lang.reflect.Proxy;
 import java.nio.file.Files;
 import java.nio.file.Path;
 import java.nio.file.Paths;
@@ -24,6 +25,7 @@ import java.util.Deque;
 import java.util.HashMap;
 import java.util.List;
 import java.util.Map;
+import java.util.Set;
 import java.util.concurrent.CompletableFuture;
 import java.util.concurrent.CountDownLatch;
 import java.util.concurrent.ExecutionException;
@@ -32,6 +34,7 @@ import java.util.concurrent.TimeoutException;
 import java.util.concurrent.atomic.AtomicBoolean;
 import java.util.concurrent.atomic.AtomicInteger;
 import java.util.function.Consumer;
+import java.util.stream.Collectors;
 
 /** What if a store is slow, refuses something for a while, is silent, or breaks a call off; and if a process is taken for gone that is there? */
 public final class StoreFaultsTest {
@@ -55,7 +58,7 @@ public final class StoreFaultsTest {
         }
 
         @Override
-        public void begin(int threads, Runnable looks) {}
+        public void startThreads(int threads, Runnable looks) {}
 
         @Override
         public void execute(Job job, String request, Runnable act) {
@@ -63,15 +66,18 @@ public final class StoreFaultsTest {
         }
 
         @Override
-        public void end() {}
+        public void shutDown() {}
 
         @Override
-        public void warns(String text, String request, Throwable thrown) {}
+        public void warn(String text, String request, Throwable thrown) {}
+
+        @Override
+        public void warnBroken(String text, boolean isDropped) {}
 
         /** Some time passes, and a service that has this host looks what is new, and does what is to be done. */
         void looks(StoreService service, long nanos) {
             clock += nanos;
-            service.round();
+            service.runRound();
             while (!jobs.isEmpty()) {
                 jobs.poll().run();
             }
@@ -79,7 +85,7 @@ public final class StoreFaultsTest {
     }
 
     private static StoreService service(Store store, Functions functions, ByHand host) {
-        return new StoreService(store, functions, 1, LEASE, TimeUnit.NANOSECONDS, true, null, null, host);
+        return StoreService.builder(store, functions).threads(1).lease(LEASE, TimeUnit.NANOSECONDS).takesAll(true).host(host).build();
     }
 
     /** Who reads many requests for the first time, each of which takes a while, says all along that he is there. */
@@ -101,7 +107,7 @@ public final class StoreFaultsTest {
             return null;
         });
         try (StoreService works = service(slow, new Functions(), host)) {
-            works.round();
+            works.runRound();
             pauses.add(host.clock - last[0]);
             is(host.clock, 2 * LEASE);
             is(Collections.max(pauses) <= LEASE / 2, true);
@@ -131,7 +137,8 @@ public final class StoreFaultsTest {
             return null;
         });
         try (StoreService works = service(seen, functions, first);
-                StoreService judge = new StoreService(file.open(), functions, 0, LEASE, TimeUnit.NANOSECONDS, true, null, null, second)) {
+                StoreService judge = StoreService.builder(file.open(), functions).threads(0)
+                        .lease(LEASE, TimeUnit.NANOSECONDS).takesAll(true).host(second).build()) {
             judges[0] = judge;
             StoredRequest request = works.request("comes back");
             StoredStage last = request.supply("charge").again(3);
@@ -181,7 +188,7 @@ public final class StoreFaultsTest {
             is(StoresTest.remote(ordered).kind(), RemoteException.ABANDONED);
             is(done, Arrays.asList("order", "charge 2 lamp", "charge 2 lamp", "order", "ship"));
             is(request.stage(last.number() + 3).name() + " " + request.stage(last.number() + 4), "ship null");
-            is(request.with(view -> Arrays.toString(view.sources(last.number() + 3))), "[7, 8]");
+            is(request.withView(view -> Arrays.toString(view.sources(last.number() + 3))), "[7, 8]");
         }
     }
 
@@ -194,7 +201,7 @@ public final class StoreFaultsTest {
             return 7L;
         });
         try (Store store = file.open(); StoreService asks = StoresTest.service(file, functions, 0, false)) {
-            StoreService works = new StoreService(file.open(), functions, 1, 50, TimeUnit.MILLISECONDS, true);
+            StoreService works = StoreService.builder(file.open(), functions).threads(1).lease(50, TimeUnit.MILLISECONDS).takesAll(true).build();
             StoredStage slow = works.request("closes").supply("slow");
             began.await();
             Thread closes = new Thread(works::close);
@@ -227,7 +234,7 @@ public final class StoreFaultsTest {
             request = service.request("over");
             waits = service.request("closed").promise("waits");
             other.open("closed").end();
-            for (int looks = 0; service.knownOf("closed") != null; looks++) {
+            for (int looks = 0; service.findServed("closed") != null; looks++) {
                 is(looks < 2000, true);
                 Thread.sleep(1); // (it is let go, since it is closed)
             }
@@ -328,7 +335,7 @@ public final class StoreFaultsTest {
             stage = request.stage(0);
             promise.complete(7);
             asked.await();
-            for (int looks = 0; !request.withIfFree(view -> true, false); looks++) {
+            for (int looks = 0; !request.withViewIfFree(view -> true, false); looks++) {
                 is(looks < 2000, true);
                 Thread.sleep(1);
             }
@@ -336,7 +343,7 @@ public final class StoreFaultsTest {
             thrown(TimeoutException.class, () -> stage.get(1, TimeUnit.MILLISECONDS));
             theirs.end();
             goesOn.countDown();
-            for (int looks = 0; waits.knownOf("unread") != null; looks++) {
+            for (int looks = 0; waits.findServed("unread") != null; looks++) {
                 is(looks < 5000, true);
                 Thread.sleep(1); // (it is let go, since it is closed)
             }
@@ -490,7 +497,7 @@ public final class StoreFaultsTest {
     public static void undone(Database at) {
         try (JdbcStore store = at.open()) {
             for (Throwable fault : new Throwable[] {new SQLException("refused"), new IllegalStateException("wrong"), new OutOfMemoryError("none left")}) {
-                thrown(Throwable.class, () -> store.within(db -> {
+                thrown(Throwable.class, () -> store.inOwnTransaction(db -> {
                     db.change("insert into cf_beat (session, count) values (7, 1)");
                     throw StoreFaultsTest.<RuntimeException>sneaky(fault);
                 }));
@@ -576,10 +583,10 @@ public final class StoreFaultsTest {
         });
         Host host = new Host() {
             @Override
-            public void warns(String text, String request, Throwable thrown) {}
+            public void warn(String text, String request, Throwable thrown) {}
         };
         Store impatient = JdbcStore.open(at.url() + "&options=-c%20lock_timeout=20");
-        try (StoreService service = new StoreService(impatient, functions, 1, 10, TimeUnit.SECONDS, false, null, null, host);
+        try (StoreService service = StoreService.builder(impatient, functions).threads(1).host(host).build();
                 Connection locks = at.connect(); Statement db = locks.createStatement()) {
             StoredStage seven = service.request("locked out").supply("seven");
             runs.await();
@@ -603,5 +610,156 @@ public final class StoreFaultsTest {
     @SuppressWarnings("unchecked")
     private static <X extends Throwable> X sneaky(Throwable thrown) throws X {
         throw (X) thrown;
+    }
+
+    /** A row is broken that says that a function gave a stage which isn't there, or that has lost which one it was. */
+    public static void givesNoStage(InFile file) {
+        for (boolean isLost : new boolean[] {false, true}) {
+            Store wrong = StoresTest.seen(file.open(), (call, args) -> {
+                if (call.equals("append")) {
+                    Store.Put put = (Store.Put) args[0];
+                    Map<Integer, byte[]> payloads = new HashMap<>(put.payloads);
+                    payloads.values().removeIf(its -> isLost && Arrays.equals(its, given(3)));
+                    payloads.replaceAll((place, its) -> Arrays.equals(its, given(3)) ? given(99) : its);
+                    args[0] = new Store.Put(put.request, put.number, put.at, put.entries, payloads, put.opens);
+                }
+                return null;
+            });
+            Functions functions = new Functions().composing("gives", 1, (request, item) -> request.promise("given"));
+            ByHand host = new ByHand();
+            try (StoreService works = service(wrong, functions, host); StoreService reads = service(file.open(), functions, new ByHand())) {
+                StoredRequest request = works.request("gives no stage, " + isLost);
+                StoredStage item = request.promise("item");
+                item.compose("gives");
+                item.complete(1);
+                host.looks(works, 0);
+                String why = thrown(StoreException.Broken.class, () -> reads.open(request.name).withView(RowView::relayWord)).getMessage();
+                is(why.endsWith(isLost ? "no payload is there, and a word names it" : "there is no stage 99") ? "" : why, "");
+            }
+        }
+    }
+
+    /** What a row has of a function that gave this stage. */
+    private static byte[] given(int stage) {
+        return Json.write(Collections.singletonMap("stage", stage));
+    }
+
+    /** Which of SQLite's errors say so. */
+    public static void awayFromFile() {
+        JdbcStore store = new SqliteStore("jdbc:sqlite::memory:");
+        for (int code : new int[] {5, 6, 7, 8, 10, 13, 14, 10 | 3 << 8}) {
+            is(store.isAway(new SQLException("away", null, code)) + " " + code, "true " + code);
+        }
+        for (int code : new int[] {1, 3, 9, 11, 12, 18, 19, 26, 19 | 8 << 8}) {
+            is(store.isAway(new SQLException("refused", null, code)) + " " + code, "false " + code);
+        }
+    }
+
+    /** A service says once what its session is called, and again that it is there. */
+    public static void namesItself(InFile file) {
+        List<String> calls = new ArrayList<>();
+        Store seen = StoresTest.seen(file.open(), (call, args) -> {
+            calls.add(call);
+            return null;
+        });
+        ByHand host = new ByHand();
+        try (StoreService service = service(seen, new Functions(), host)) {
+            for (int looks = 0; looks < 3; looks++) {
+                host.looks(service, LEASE);
+            }
+            is(Collections.frequency(calls, "beat") + " " + Collections.frequency(calls, "nameSession"), "3 1");
+        }
+    }
+
+    /** An open request stays known where a look finds nothing new of it. */
+    public static void keepsOpen(InFile file) {
+        ByHand host = new ByHand();
+        try (StoreService service = service(file.open(), new Functions(), host)) {
+            service.request("open").promise("promise");
+            for (int looks = 0; looks < 3; looks++) {
+                host.looks(service, 1);
+            }
+            is(service.findServed("open") != null, true);
+        }
+    }
+
+    /** Who waits for a change in a database waits while there is none. */
+    public static void quiet(Database at) throws Exception {
+        List<Long> lasted = new ArrayList<>();
+        try (Store store = at.open()) {
+            store.open("quiet", StoredPlan.text("", Collections.emptyList(), Collections.emptyMap()));
+            for (int waits = 0; waits < 4; waits++) {
+                long began = System.nanoTime();
+                store.awaitChange(100);
+                lasted.add((System.nanoTime() - began) / 1_000_000);
+            }
+        }
+        is(Collections.max(lasted) >= 100 ? "" : lasted.toString(), "");
+    }
+
+    /** Nobody sends notices of puts any more once a store is closed. */
+    public static void noticesEnd(InPostgres at) throws Exception {
+        Set<Thread> others = notifying(), its;
+        try (Store store = at.open()) {
+            Store.Opened opened = store.open("notices", StoredPlan.text("", Collections.emptyList(), Collections.emptyMap()));
+            store.append(new Store.Put(opened.name, opened.number, 0, Arrays.asList(new Store.Entry(1, 1)), Collections.emptyMap(), false));
+            its = notifying();
+            its.removeAll(others);
+            is(its.size(), 1);
+            for (Thread each : its) {
+                while (each.getState() != Thread.State.WAITING) {
+                    Thread.sleep(1); // (it sends the first one)
+                }
+            }
+        }
+        for (Thread each : its) {
+            each.join(10_000);
+            is(each.isAlive(), false);
+        }
+    }
+
+    private static Set<Thread> notifying() {
+        return Thread.getAllStackTraces().keySet().stream().filter(it -> it.getName().equals("cf-notify")).collect(Collectors.toSet());
+    }
+
+    /** The library refuses a put of no words. */
+    public static void plansNothing() {
+        StoredPlan plan = new StoredPlan(StoredPlan.text("", Collections.emptyList(), Collections.emptyMap()), "plans nothing");
+        try (NativeRow row = new NativeRow(plan.rows, 8, 0, 1)) {
+            thrown(NativeRow.Refusal.class, () -> row.planPut(new long[0]));
+        }
+    }
+
+    /** A statement is prepared once, and one that failed is closed and prepared anew. */
+    public static void prepared() throws SQLException {
+        List<String> told = new ArrayList<>();
+        AtomicBoolean fails = new AtomicBoolean();
+        PreparedStatement statement = proxy(PreparedStatement.class, method -> {
+            told.add(method);
+            if (fails.get() && method.equals("executeUpdate")) {
+                throw new SQLException("refused");
+            }
+            return method.equals("executeUpdate") ? 1 : null;
+        });
+        PreparedConnection db = new PreparedConnection(proxy(Connection.class, method -> {
+            told.add(method);
+            return statement;
+        }));
+        is(db.change("a") + db.change("a"), 2);
+        is(told, Arrays.asList("prepareStatement", "executeUpdate", "executeUpdate"));
+        fails.set(true);
+        thrown(SQLException.class, () -> db.change("a"));
+        fails.set(false);
+        told.clear();
+        is(db.change("a"), 1);
+        is(told, Arrays.asList("prepareStatement", "executeUpdate"));
+    }
+
+    private interface Answers {
+        Object of(String method) throws SQLException;
+    }
+
+    private static <T> T proxy(Class<T> kind, Answers answers) {
+        return kind.cast(Proxy.newProxyInstance(kind.getClassLoader(), new Class<?>[] {kind}, (proxy, method, args) -> answers.of(method.getName())));
     }
 }

@@ -181,7 +181,7 @@ public final class StoredFunctionsTest {
             is(StoresTest.remote(request.supply("object")).kind(), "IllegalArgumentException");
             is(StoresTest.remote(request.supply("commits")).text().contains("ends its transaction, and not commit"), true);
             is(StoresTest.remote(request.supply("puts")).text().contains("its transactional function can't put to it"), true);
-            if (service.store.locksOut()) {
+            if (service.store.locksOutOthers()) {
                 is(StoresTest.remote(request.supply("puts elsewhere")).text().contains("its own transaction has the file"), true);
             }
             is(effects(file), wanted);
@@ -236,7 +236,7 @@ public final class StoredFunctionsTest {
             Process has = new ProcessBuilder("flock", line, "sh", "-c", "echo has; sleep 0.7").start();
             is(has.getInputStream().read(), (int) 'h');
             long began = System.nanoTime();
-            thrown(StoreException.Unknown.class, () -> gives.take(0)); // (who waits in its place lets go by itself)
+            thrown(StoreException.Unknown.class, () -> gives.lockWithin(0)); // (who waits in its place lets go by itself)
             List<Thread> beats = new ArrayList<>();
             for (int k = 0; k < 3; k++) {
                 int session = k;
@@ -250,17 +250,17 @@ public final class StoredFunctionsTest {
             is(has.waitFor(), 0);
             is(store.beats().size(), 3);
             is(new ProcessBuilder("flock", "-w", "5", line, "true").start().waitFor(), 0);
-            gives.take(5);
+            gives.lockWithin(5);
             gives.close(); // (it is this thread's turn still)
             is(new ProcessBuilder("flock", "-n", line, "true").start().waitFor(), 1);
             is(opened(line), 3L);
-            gives.give();
+            gives.unlockTurn();
             is(opened(line), 2L);
             is(new ProcessBuilder("flock", "-n", line, "true").start().waitFor(), 0);
         }
         is(opened(line), 0L);
         try (Line none = new Line(file.folder + "/none/db")) {
-            thrown(StoreException.Unknown.class, () -> none.take(0));
+            thrown(StoreException.Unknown.class, () -> none.lockWithin(0));
         }
     }
 
@@ -319,7 +319,8 @@ public final class StoredFunctionsTest {
         };
         StoredContexts tenant = new Tenant("tenant");
         try (StoreService others = StoresTest.service(place, functions, 0, false)) {
-            try (StoreService service = new StoreService(place.open(), functions, 2, 5, TimeUnit.SECONDS, true, tenant, hook)) {
+            try (StoreService service = StoreService.builder(place.open(), functions).threads(2)
+                    .lease(5, TimeUnit.SECONDS).takesAll(true).contexts(tenant).onEnd(hook).build()) {
                 StoredRequest open = service.request("open"), ended = service.request("ended");
                 TENANT.set("ada");
                 for (int k = 0; k < 2; k++) {
@@ -340,7 +341,7 @@ public final class StoredFunctionsTest {
     }
 
     private static StoreService carrying(Place place, Functions functions, StoredContexts contexts, int threads) {
-        return new StoreService(place.open(), functions, threads, 5, TimeUnit.SECONDS, true, contexts);
+        return StoreService.builder(place.open(), functions).threads(threads).lease(5, TimeUnit.SECONDS).takesAll(true).contexts(contexts).build();
     }
 
     public static void contexts(Place place) throws Exception {
@@ -491,5 +492,37 @@ public final class StoredFunctionsTest {
             fits(shared.account());
             is(history.script().contains("\"stages\""), true);
         }
+    }
+
+    /** What a function has attached is found again by all that was said of it, its arguments, too. */
+    public static void alike() {
+        Map<String, Object> said = new LinkedHashMap<>();
+        said.put("name", "charge");
+        said.put("fn", "charge");
+        said.put("args", Arrays.asList("lamp"));
+        for (String key : new String[] {"", "name", "fn", "version", "args", "kwargs", "again", "by"}) {
+            Map<String, Object> other = new LinkedHashMap<>(said);
+            if (!key.isEmpty()) {
+                other.put(key, key.equals("args") ? Arrays.asList("desk") : key.equals("kwargs") ? said : said.containsKey(key) ? "ship"
+                        : (Object) 2L);
+            }
+            is(key + new StoredPlan.StageSpec(other, 7).isAlike(new StoredPlan.StageSpec(said, 7)), key + key.isEmpty());
+        }
+        for (long stage : new long[] {-1, 7}) { // (a stage goes on with lower ones)
+            Map<String, Object> wrong = new LinkedHashMap<>(said);
+            wrong.put("to", stage);
+            thrown(IllegalArgumentException.class, () -> new StoredPlan.StageSpec(wrong, 7));
+        }
+        said.remove("args");
+        is(new StoredPlan.StageSpec(said, 7).isAlike(new StoredPlan.StageSpec(new LinkedHashMap<>(said), 7)), true);
+    }
+
+    /** A store that is closed has no connection open. */
+    public static void closes(InFile file) {
+        try (JdbcStore store = file.open()) {
+            store.open("closes", StoredPlan.text("", Collections.emptyList(), Collections.emptyMap()));
+            is(opened(file.path) > 0, true);
+        }
+        is(opened(file.path), 0L);
     }
 }

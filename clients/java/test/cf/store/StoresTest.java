@@ -161,7 +161,7 @@ public final class StoresTest {
     }
 
     static StoreService service(Place place, Functions functions, int threads, boolean takesAll) {
-        return new StoreService(place.open(), functions, threads, LEASE, TimeUnit.MILLISECONDS, takesAll);
+        return StoreService.builder(place.open(), functions).threads(threads).lease(LEASE, TimeUnit.MILLISECONDS).takesAll(takesAll).build();
     }
 
     /** A store of which this sees each call first. What it gives that isn't null is the answer. */
@@ -232,6 +232,7 @@ public final class StoresTest {
                 thrown(StoreException.Gone.class, () -> store.append(new Store.Put("puts", number + 1, 0, entries, Collections.emptyMap(), false)));
             }
             is(store.read("puts", number, 0).size(), 40);
+            thrown(StoreException.Gone.class, () -> store.payload("puts", number + 1, 1));
         }
     }
 
@@ -250,7 +251,7 @@ public final class StoresTest {
             Object[] told = new Object[puts.size()];
             List<Thread> threads = new ArrayList<>();
             int before = store.commits;
-            line.take(5);
+            line.lockWithin(5);
             for (int k = 0; k < told.length; k++) {
                 int its = k;
                 Thread thread = new Thread(() -> {
@@ -262,11 +263,11 @@ public final class StoresTest {
                 });
                 thread.start();
                 threads.add(thread);
-                while (store.waits() < k + 1) {
+                while (store.waitingPuts() < k + 1) {
                     Thread.sleep(1);
                 }
             }
-            line.give();
+            line.unlockTurn();
             for (Thread thread : threads) {
                 thread.join();
             }
@@ -308,6 +309,9 @@ public final class StoresTest {
             is(end(request.promise("never").either(inc, "inc")), 43L);
             is(end(request.allOf(inc, sum, sorry)), null);
             is(end(request.anyOf(inc, request.promise("late"))), 42L);
+            is(end(request.anyOf(inc, sum, number)), 42L); // (the first that was named, where all are settled)
+            StoredStage open = request.promise("open");
+            is(end(request.anyOf(open, open, open, inc)), 42L);
             is(request.stage("inc").number(), 1);
             is(request.stage("inc").name(), "inc");
             is(request.stage("none"), null);
@@ -435,7 +439,7 @@ public final class StoresTest {
         });
         StoredFlow flow = new StoredFlow("order");
         flow.promise("given");
-        try (StoreService service = new StoreService(dying, new Functions(), 4, 1000, TimeUnit.SECONDS, false); Store other = place.open()) {
+        try (StoreService service = StoreService.builder(dying, new Functions()).lease(1000, TimeUnit.SECONDS).build(); Store other = place.open()) {
             StoredRequest over = service.start(flow, "over", 1), plain = service.request("plain");
             for (int k = 0; other.news(null).ends.containsKey("over"); k++) {
                 is(k < 2000, true);
@@ -472,7 +476,7 @@ public final class StoresTest {
                 return isSilent.get() ? super.nanoTime() : super.nanoTime() + RowView.PATIENCE;
             }
         };
-        try (StoreService service = new StoreService(silent, functions, 2, 500, TimeUnit.MILLISECONDS, false, null, null, hasty);
+        try (StoreService service = StoreService.builder(silent, functions).threads(2).lease(500, TimeUnit.MILLISECONDS).host(hasty).build();
                 Store other = place.open()) {
             StoredRequest request = service.start(flow, "silent", 1);
             for (int k = 0; other.news(null).ends.containsKey("silent"); k++) {
@@ -504,7 +508,8 @@ public final class StoresTest {
         StoredFlow flow = new StoredFlow("order");
         flow.promise("given").then("inc");
         Functions functions = new Functions().elsewhere("inc", 1);
-        try (StoreService service = new StoreService(slow, functions, 0, 1000, TimeUnit.SECONDS, false); Store other = place.open()) {
+        try (StoreService service = StoreService.builder(slow, functions).threads(0)
+                .lease(1000, TimeUnit.SECONDS).build(); Store other = place.open()) {
             StoredStage last = service.start(flow, "told").stage(1);
             while (looked.get() < 2) { // (from then on it asks by a mark)
                 Thread.sleep(1);
@@ -512,7 +517,8 @@ public final class StoresTest {
             looks.set(false);
             RowView view = new RowView(other, other.find("told"), 5, new Host());
             view.catchUp();
-            view.act(it -> Arrays.asList(new RowView.Wanted(Words.complete(0, 0, Words.NIL), null), new RowView.Wanted(Words.cancel(0, 1), null)));
+            view.act(it -> Arrays.asList(new RowView.WantedWord(Words.complete(0, 0, Words.NIL), null),
+                    new RowView.WantedWord(Words.cancel(0, 1), null)));
             is(other.end("told", view.opened.number, 2), true);
             looks.set(true);
             thrown(CancellationException.class, () -> last.get(10, TimeUnit.SECONDS));
@@ -531,7 +537,7 @@ public final class StoresTest {
             is(end(soon), null);
         }
         try (Store store = place.open()) {
-            List<Store.Timer> left = store.due(1e12);
+            List<Store.Timer> left = store.dueTimers(1e12);
             is(left.size(), 1); // what was fired is forgotten
             is(left.get(0).stage, 2);
         }
@@ -670,45 +676,45 @@ public final class StoresTest {
             }
             return call.equals("beats") ? new HashMap<>(beats) : beats.remove(args[0]);
         });
-        StoreService.Watcher watcher = new StoreService.Watcher(100, host);
+        StoreService.Sessions sessions = new StoreService.Sessions(100, host);
         long[] pauses = {0, 10_000, 40, 20, 0, 50, 50, 50, 50};
         boolean[] areGone = new boolean[pauses.length];
         for (int k = 0; k < pauses.length; k++) {
             now[0] += pauses[k];
             isAway[0] = k == 6;
             beats.put(1L, k < 4 ? 1L : 2L); // (it beats once more before the fifth look)
-            watcher.look(store);
-            areGone[k] = watcher.isGone(1);
+            sessions.readBeats(store);
+            areGone[k] = sessions.isGone(1);
         }
         is(Arrays.toString(areGone), "[false, false, false, true, false, false, false, false, false]");
-        is(watcher.isGone(7), false); // (it never beat, so it counts from now on)
+        is(sessions.isGone(7), false); // (it never beat, so it counts from now on)
         for (int looks = 0; looks < 203; looks++) {
             now[0] += 50;
-            watcher.look(store);
+            sessions.readBeats(store);
         }
-        is(watcher.isGone(7) + " " + beats, "true {}");
+        is(sessions.isGone(7) + " " + beats, "true {}");
         beats.put(2L, 1L);
-        watcher.look(store);
+        sessions.readBeats(store);
         for (int looks = 0; looks < 4; looks++) { // (an answer that takes long is nobody's silence, and a word is a sign of life)
             takes[0] = 60;
-            watcher.look(store);
+            sessions.readBeats(store);
             takes[0] = 0;
-            is(watcher.isGone(2), false);
+            is(sessions.isGone(2), false);
         }
         for (int looks = 0; looks < 4; looks++) {
             now[0] += 40;
-            watcher.look(store);
-            watcher.hears(2);
-            is(watcher.isGone(2), false);
+            sessions.readBeats(store);
+            sessions.noteWord(2);
+            is(sessions.isGone(2), false);
         }
         now[0] += 50;
-        watcher.look(store);
+        sessions.readBeats(store);
         now[0] += 50;
-        watcher.look(store);
-        is(watcher.isGone(2), false);
+        sessions.readBeats(store);
+        is(sessions.isGone(2), false);
         now[0] += 1;
-        watcher.look(store);
-        is(watcher.isGone(2), true);
+        sessions.readBeats(store);
+        is(sessions.isGone(2), true);
     }
 
     /** For the first job of each kind no thread can be started: what none took is taken later. */
@@ -724,7 +730,8 @@ public final class StoresTest {
                 super.execute(job, request, act);
             }
         };
-        try (InFile file = new InFile(); StoreService service = new StoreService(file.open(), functions, 2, LEASE, TimeUnit.MILLISECONDS, false, null, null, host)) {
+        try (InFile file = new InFile(); StoreService service = StoreService.builder(file.open(), functions).threads(2)
+                .lease(LEASE, TimeUnit.MILLISECONDS).host(host).build()) {
             StoredRequest request = service.request("no thread");
             StoredStage number = request.promise("number"), inc = number.then("inc"), slow = request.promise("slow");
             slow.orTimeout(30, TimeUnit.MILLISECONDS);
@@ -754,7 +761,7 @@ public final class StoresTest {
                 if (call.equals("dropTimer")) {
                     old.remove(args[0]);
                 }
-                return call.equals("due") && !old.isEmpty() ? new ArrayList<>(old) : null;
+                return call.equals("dueTimers") && !old.isEmpty() ? new ArrayList<>(old) : null;
             });
             try (StoreService service = service(keeping, functions)) {
                 StoredRequest first = service.request("again");
@@ -771,7 +778,7 @@ public final class StoresTest {
                     is(looks < 4000, true);
                     Thread.sleep(5);
                 }
-                is(service.knownOf("again") == second, true);
+                is(service.findServed("again") == second, true);
                 is(other.open("again").stage(later.number()).complete(1), true);
                 is(end(last), 2L);
             }
@@ -835,8 +842,8 @@ public final class StoresTest {
                 }
             }
         }
-        is(leaks.toString(), "[cf.service.History.telling, cf.service.RequestFullException.<init>, cf.service.RequestHistory.telling,"
-                + " cf.store.StoredHistory.telling]");
+        is(leaks.toString(), "[cf.service.History.teller, cf.service.RequestFullException.<init>, cf.service.RequestHistory.teller,"
+                + " cf.store.StoredHistory.teller]");
     }
 
     private static void leaks(Class<?> of, Set<String> leaks) {

@@ -162,7 +162,7 @@ public final class Asked {
         private void look(Caller caller, int stage, int most, int looks) {
             boolean isDone = stage < made.size() && Checks.isSettled(made.get(stage));
             if (counts && !isDone && looks < most) {
-                caller.calls.add(caller.made, new Caller.Call(() -> look(caller, stage, most, looks + 1), false));
+                caller.calls.add(caller.callsMade, new Caller.CallerCall(() -> look(caller, stage, most, looks + 1), false));
             }
         }
 

@@ -69,7 +69,7 @@ public final class OrdersTest {
 
     public static void stories() {
         Failure failure = Orders.of(OrdersTest::charged).run().failed().get(0);
-        is(failure.told().stream().map(Failure.Told::text).collect(Collectors.toList()),
+        is(failure.told().stream().map(Failure.ToldMove::text).collect(Collectors.toList()),
                 Arrays.asList("price comes: 4900", "charge is called", "the limit of charge passes", "charge again is called"));
         is(failure.told().get(2).settled(), Collections.singletonList("charge ends: TimeoutException"));
         is(failure.pairs().toString(), "[1, 2]");
@@ -118,6 +118,7 @@ public final class OrdersTest {
         Report most = Services.ALL.sound("overdrawn").orders().most(5).run();
         is(most.orders() + most.cut() <= 5, true);
         is(most.whole(), false);
+        is(Services.ALL.faulty("overdrawn").orders().chance(50, 1).failures(2).asFound().run().failed().size(), 2);
         Report seconds = Services.ALL.sound("overdrawn").orders().seconds(0).run();
         is(seconds.orders(), 0);
         is(seconds.whole(), false);
@@ -204,10 +205,18 @@ public final class OrdersTest {
                 }
             }).named("two");
         }), " blocks outside the world, at cf.testing.OrdersTest.");
+        long[] blocks = new long[1];
         has(why(world -> {
             Stage<Integer> price = world.arrives(3, "price");
-            world.service().request().runAsync(() -> CompletableFuture.allOf(price).join()).named("a function");
+            world.service().request().runAsync(() -> {
+                for (long began = System.nanoTime(); System.nanoTime() - began < 300_000_000;) {
+                    Thread.onSpinWait(); // (it is at work for a while)
+                }
+                blocks[0] = System.nanoTime();
+                CompletableFuture.allOf(price).join();
+            }).named("a function");
         }), "a function blocks outside the world, at cf.testing.OrdersTest.");
+        is(System.nanoTime() - blocks[0] >= 1_750_000_000, true); // (eight looks)
     }
 
     // Faults of tests.
@@ -546,5 +555,65 @@ public final class OrdersTest {
                 throw new AssertionError(failed.getCause().getMessage());
             }
         }), "the test threw AssertionError: x");
+    }
+
+    /** The same moves that touch something else are told, too. */
+    public static void touchesElse() {
+        AtomicInteger runs = new AtomicInteger();
+        has(thrown(() -> Orders.of(world -> {
+            Request request = world.service().request();
+            Stage<Integer> one = request.promise(), two = request.promise(), three = request.promise();
+            world.calls("somebody", () -> (runs.getAndIncrement() == 2 ? two : one).complete(1)); // (the first order is run twice)
+            world.calls("one", three, it -> it.complete(1));
+            world.calls("two", three, it -> it.complete(2));
+        }).run()), "\nit touched ");
+    }
+
+    /** A function that takes either source, and reads both, is called by each of them, before and behind the other. */
+    public static void ready() {
+        Set<String> seen = new HashSet<>();
+        isSound(world -> {
+            Request request = world.service().request();
+            Stage<Integer> one = request.adopt(world.arrives(1, "one")), two = request.adopt(world.arrives(2, "two"));
+            world.settles(one.applyToEither(two, x -> seen.add(x + " " + one.isDone() + " " + two.isDone())));
+        });
+        is(seen, new HashSet<>(Arrays.asList("1 true false", "1 true true", "2 false true", "2 true true")));
+    }
+
+    /** In a fine search others move once a function is attached that waits for nobody. */
+    public static void behindStarted() {
+        Scenario scenario = world -> {
+            List<Integer> seen = new ArrayList<>();
+            world.calls("somebody", () -> seen.add(1));
+            world.service().supplyAsync(() -> 1);
+            is(seen.isEmpty(), true);
+        };
+        is(Orders.of(scenario).run().failed().isEmpty(), true);
+        is(Orders.of(scenario).fine().run().failed().isEmpty(), false);
+    }
+
+    /** Who moves again does so at once in a failing order that is made smaller, from its first move on. */
+    public static void fewerSwitches() {
+        Scenario scenario = world -> {
+            List<String> done = new ArrayList<>();
+            world.calls("late", () -> done.add("late"));
+            world.calls("two", () -> done.add("two"));
+            world.caller("one").calls(() -> done.add("one")).calls(() -> done.add("one"));
+            world.check(() -> done.size() < 3 || done.contains("late") || done.get(0).equals("two"), "two is the first, or the last is late");
+        };
+        is(Orders.of(scenario).asFound().run().failed().get(0).row(), "by.2.0 by.1.0 by.2.1");
+        is(Orders.of(scenario).run().failed().get(0).row(), "by.2.0 by.2.1 by.1.0");
+    }
+
+    /** Each of several functions that a thread calls in a row is told by its own name. */
+    public static void inRow() {
+        Failure failure = Orders.of(world -> {
+            Stage<Integer> price = world.service().request().adopt(world.arrives(3, "price"));
+            world.settles(price.thenApply(x -> x).named("one"), price.thenApply(x -> x).named("two"));
+            world.atEnd(() -> false, "it fails");
+        }).run().failed().get(0);
+        is(failure.told().stream().map(Failure.ToldMove::text).collect(Collectors.toList()),
+                Arrays.asList("price comes: 3", "one is called", "one returns", "two is called",
+                "two returns"));
     }
 }

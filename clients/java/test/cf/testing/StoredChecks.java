@@ -56,7 +56,7 @@ final class StoredChecks {
         store.effects().forEach(effect -> effects.merge(effect.sql(), 1, Integer::sum));
         for (String name : store.rows.names) {
             for (int stage : StoreChecks.finished(store.rows.memory.read(name))) {
-                String function = store.rows.name(name, stage).replaceAll("( again)*$", "");
+                String function = store.rows.stageName(name, stage).replaceAll("( again)*$", "");
                 if (function.endsWith(WRITES)) {
                     effects.merge(function, -1, Integer::sum);
                 }

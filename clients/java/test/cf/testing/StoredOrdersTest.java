@@ -72,7 +72,7 @@ public final class StoredOrdersTest {
     }
 
     private static List<String> texts(Failure failure) {
-        return failure.told().stream().map(Failure.Told::text).collect(Collectors.toList());
+        return failure.told().stream().map(Failure.ToldMove::text).collect(Collectors.toList());
     }
 
     private static Failure failure(String name) {
@@ -163,7 +163,7 @@ public final class StoredOrdersTest {
             StoreProcess shop = store.process("shop");
             StoredStage stage = shop.request("order").promise("promise");
             shop.calls("client", () -> completed(stage));
-            world.calls("another", () -> seen.add(store.left(Bound.LOST) + " " + store.isSettled("order", "promise")));
+            world.calls("another", () -> seen.add(store.remaining(Bound.LOST) + " " + store.isSettled("order", "promise")));
             return new Object[] {seen};
         }, made -> made[0].toString()), set("[1 false]", "[1 true]", "[0 false]", "[0 true]"));
         is(tried(store -> store.silent(1)), set("[true] [order: promise ends: 7]", "[unknown] [order: promise ends: 7]", "[unknown] [order: promise is open]"));
@@ -177,7 +177,7 @@ public final class StoredOrdersTest {
             StoredStage stage = shop.request("order").promise("promise");
             shop.calls("client", () -> completed(stage));
             return new Object[] {store};
-        }, made -> ((WorldStore) made[0]).left(Bound.UNANSWERED)), set(0, 1, 2));
+        }, made -> ((WorldStore) made[0]).remaining(Bound.UNANSWERED)), set(0, 1, 2));
     }
 
     /** A put that was given up comes later, or finds its place taken. */
@@ -619,5 +619,48 @@ public final class StoredOrdersTest {
         for (String name : Arrays.asList("own word for another's", "done elsewhere", "charged again")) {
             is(name + StoredServices.ALL.faulty(name).orders().chance(500, 3).run().failed().isEmpty(), name + "false");
         }
+    }
+
+    /** Effects stand in the order of their commits, and these are tried in each. */
+    public static void effects() {
+        is(ends(world -> {
+            Functions functions = new Functions().transactional("write", 1, (connection, args) -> write(connection, args.get(0)));
+            WorldStore store = world.store();
+            for (int number = 1; number <= 2; number++) {
+                store.process("process " + number, functions).request("order " + number).supply("write", number);
+            }
+            return new Object[] {store};
+        }, made -> ((WorldStore) made[0]).effects().toString()), set("[insert 1, insert 2]", "[insert 2, insert 1]"));
+        Effect effect = new Effect("insert", Arrays.asList(1));
+        for (Object other : Arrays.asList(new Effect("delete", Arrays.asList(1)), new Effect("insert", Arrays.asList(2)), "insert [1]")) {
+            is(effect.equals(other) + " " + other, "false " + other);
+        }
+        is(effect.equals(new Effect("insert", Arrays.asList(1))), true);
+    }
+
+    /** Who looks at a stage of a process does so before and behind each change of what that knows. */
+    public static void looks() {
+        is(ends(world -> {
+            List<String> seen = new ArrayList<>();
+            WorldStore store = world.store();
+            StoreProcess shop = store.process("shop");
+            StoredStage own = shop.request("order").promise("promise"), theirs = store.process("another").open("order").stage(0);
+            shop.calls("client", () -> own.complete(7));
+            world.calls("somebody", () -> seen.add(store.isSettled("order", "promise") + " " + theirs.isDone()));
+            return new Object[] {seen};
+        }, made -> made[0].toString()), set("[false false]", "[true false]", "[true true]"));
+    }
+
+    /** A world tells which process has which stage, and what it was told to stand. */
+    public static void granted() {
+        is(ends(world -> {
+            WorldStore store = world.store();
+            store.worker("one", new Functions().with("load", 1, () -> 7)).request("order").supply("load");
+            return new Object[] {store};
+        }, made -> {
+            WorldStore store = (WorldStore) made[0];
+            Set<String> told = store.answered().stream().map(it -> it.process() + " " + it.request()).collect(Collectors.toSet());
+            return store.granted() + " " + told;
+        }), set("[one has stage 0 of order] [one order]"));
     }
 }

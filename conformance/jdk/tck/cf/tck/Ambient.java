@@ -19,7 +19,7 @@ public class Ambient<T> extends Stage<T> {
     private static final boolean EACH = "each".equals(System.getProperty("tck.requests"));
     private static final Service SERVICE = new Service();
     private static final List<Request> MADE = new ArrayList<>();
-    private static Request current = SERVICE.request("before").goesOn();
+    private static Request current = SERVICE.request("before").continueInNext();
 
     public Ambient() {
         super(ambient());
@@ -27,7 +27,7 @@ public class Ambient<T> extends Stage<T> {
 
     private static synchronized Request ambient() {
         if (EACH) {
-            MADE.add(SERVICE.request().goesOn());
+            MADE.add(SERVICE.request().continueInNext());
             return MADE.get(MADE.size() - 1);
         }
         while (current.next() != null) {
@@ -39,7 +39,7 @@ public class Ambient<T> extends Stage<T> {
 
     static synchronized void begin(String name) {
         MADE.clear();
-        current = SERVICE.request(name).goesOn();
+        current = SERVICE.request(name).continueInNext();
         MADE.add(current);
     }
 

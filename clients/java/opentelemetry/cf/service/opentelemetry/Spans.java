@@ -20,7 +20,7 @@ import java.util.function.Consumer;
  * current where the request was opened:
  *
  * <pre>{@code
- * Service service = new Service(pool).carrying(Spans.CONTEXTS).onEnd(new Spans(openTelemetry.getTracer("shop")));
+ * Service service = new Service(pool).withContexts(Spans.CONTEXTS).onEnd(new Spans(openTelemetry.getTracer("shop")));
  * }</pre>
  */
 public final class Spans implements Consumer<History> {
@@ -40,7 +40,7 @@ public final class Spans implements Consumer<History> {
         long end = 0;
         Context within = Context.current();
         for (Span span : history.spans()) {
-            io.opentelemetry.api.trace.Span shown = begun(span, within, made);
+            io.opentelemetry.api.trace.Span shown = startSpan(span, within, made);
             if (span.thrown() != null) {
                 AttributesBuilder attributes = Attributes.builder();
                 span.thrown().forEach(attributes::put);
@@ -63,7 +63,7 @@ public final class Spans implements Consumer<History> {
         }
     }
 
-    private io.opentelemetry.api.trace.Span begun(Span span, Context within, Map<Integer, io.opentelemetry.api.trace.Span> made) {
+    private io.opentelemetry.api.trace.Span startSpan(Span span, Context within, Map<Integer, io.opentelemetry.api.trace.Span> made) {
         SpanBuilder builder = tracer.spanBuilder(span.name()).setParent(within).setStartTimestamp(span.start(), TimeUnit.NANOSECONDS);
         span.attributes().forEach((key, value) -> {
             if (value instanceof Integer) {

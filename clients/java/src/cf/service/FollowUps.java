@@ -3,39 +3,39 @@ package cf.service;
 import cf.internal.Watch;
 
 /**
- * What is to be told once the lock is free: stages that were settled; that are ready, for executors; functions that this thread has claimed.
- * They may be of several requests, so that a chain through many of them is no recursion.
+ * What one operation has to do once the lock is free: wake the waiters of settled stages, hand ready stages to executors, and call the functions
+ * that this thread has claimed. They may be of several requests, so a chain through many of them is no recursion.
  */
-final class News implements Watch.Turn {
-    /** Who decides when functions are called; null where this thread does. */
+final class FollowUps implements Watch.Turn {
+    /** The test that decides when functions are called; null where this thread calls them. */
     final Watch watch;
     private Stage<?> settled, lastSettled, handed, lastHanded;
-    private Call calls, lastCall, free;
+    private ClaimedCall calls, lastCall, free;
 
-    /** Relays in other requests that are to be settled with this. */
+    /** Links to relays of other requests, which are to be settled with this outcome. */
     private Link relayed;
-    Object told;
+    Object relayedOutcome;
 
     /** A request all of whose stages are settled. */
-    Machine over;
+    Machine overMachine;
 
-    /** What kept a request from telling all. */
+    /** The error that cut a request's follow-ups short, or null. */
     Throwable failure;
 
-    /** What a function gave or has thrown that was called for a watch, until it is finished. */
-    private Object given;
+    /** What a function that was called for a watch has returned or thrown, until its stage is finished. */
+    private Object result;
     private Throwable thrown;
     private boolean isSettled;
 
-    News() {
+    FollowUps() {
         this(null);
     }
 
-    News(Watch watch) {
+    FollowUps(Watch watch) {
         this.watch = watch;
     }
 
-    void settled(Stage<?> stage) {
+    void addSettled(Stage<?> stage) {
         if (settled == null) {
             settled = stage;
         } else {
@@ -44,7 +44,7 @@ final class News implements Watch.Turn {
         lastSettled = stage;
     }
 
-    void handed(Stage<?> stage) {
+    void addHanded(Stage<?> stage) {
         if (handed == null) {
             handed = stage;
         } else {
@@ -53,28 +53,28 @@ final class News implements Watch.Turn {
         lastHanded = stage;
     }
 
-    /** One to be filled and handed to {@link #claimed}. */
-    Call call() {
-        Call call = free;
+    /** A call to fill in and hand to {@link #addCall}. */
+    ClaimedCall newCall() {
+        ClaimedCall call = free;
         free = null;
-        return call != null ? call : new Call();
+        return call != null ? call : new ClaimedCall();
     }
 
-    /** It was called. */
-    void called(Call call) {
-        call.clear();
+    /** Takes a call back whose function was called. */
+    void recycle(ClaimedCall call) {
+        call.release();
         free = call;
     }
 
-    /** Of one request the lowest is called first. */
-    void claimed(Call call) {
+    /** Adds a call. Of one request, the lowest stage's comes first. */
+    void addCall(ClaimedCall call) {
         if (calls == null) {
             calls = lastCall = call;
         } else if (lastCall.request != call.request || lastCall.number < call.number) {
             lastCall.next = call;
             lastCall = call;
         } else {
-            Call before = null, at = calls;
+            ClaimedCall before = null, at = calls;
             while (at.request != call.request || at.number < call.number) {
                 before = at;
                 at = at.next;
@@ -88,22 +88,22 @@ final class News implements Watch.Turn {
         }
     }
 
-    /** A row of them; the last one's were polled. */
-    void relayed(Link links, Object told) {
+    /** Sets a chain of links; those of the chain before were polled. */
+    void setRelayed(Link links, Object told) {
         relayed = links;
-        this.told = told;
+        this.relayedOutcome = told;
     }
 
     Machine pollOver() {
-        Machine machine = over;
-        over = null;
+        Machine machine = overMachine;
+        overMachine = null;
         return machine;
     }
 
     Link pollRelayed() {
         Link link = relayed;
         if (link != null) {
-            relayed = link.after;
+            relayed = link.next;
         }
         return link;
     }
@@ -126,8 +126,8 @@ final class News implements Watch.Turn {
         return stage;
     }
 
-    Call pollCall() {
-        Call call = calls;
+    ClaimedCall pollCall() {
+        ClaimedCall call = calls;
         if (call != null) {
             calls = call.next;
             call.next = null;
@@ -135,13 +135,13 @@ final class News implements Watch.Turn {
         return call;
     }
 
-    // As a watch does it.
+    // For a watch.
 
     @Override
-    public boolean next() {
+    public boolean tellToNext() {
         while (relayed != null || settled != null || handed != null) {
             Request.tellNext(this);
-            watch.happened();
+            watch.eventTold();
         }
         return calls != null;
     }
@@ -152,13 +152,13 @@ final class News implements Watch.Turn {
     }
 
     @Override
-    public void act() {
-        isSettled = calls.stage.told != null;
-        given = thrown = null;
+    public void callFunction() {
+        isSettled = calls.stage.outcome != null;
+        result = thrown = null;
         try {
-            given = isSettled ? null : Carried.call(calls.form, calls.function, calls.first, calls.second());
+            result = isSettled ? null : ContextFunction.call(calls.form, calls.function, calls.first, calls.secondArgument());
         } catch (Throwable error) {
-            if (watch.leaves(error)) {
+            if (watch.endsRun(error)) {
                 throw error;
             }
             thrown = error;
@@ -166,14 +166,14 @@ final class News implements Watch.Turn {
     }
 
     @Override
-    public Throwable thrown() {
+    public Throwable exception() {
         return thrown;
     }
 
     @Override
-    public void finish() {
-        Call call = pollCall();
-        call.request.finish(call.number, call.form, call.second(), isSettled, given, thrown, this);
-        watch.happened();
+    public void finishStage() {
+        ClaimedCall call = pollCall();
+        call.request.finish(call.number, call.form, call.secondArgument(), isSettled, result, thrown, this);
+        watch.eventTold();
     }
 }

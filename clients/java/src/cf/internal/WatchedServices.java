@@ -6,31 +6,31 @@ import java.util.concurrent.Executor;
 import java.util.function.BiFunction;
 
 /** Makes services that are watched, and those over stores that a search leads. */
-public final class Watched {
+public final class WatchedServices {
     private static volatile BiFunction<Executor, Watch, Service> maker;
     private static volatile Stores stores;
 
-    private Watched() {}
+    private WatchedServices() {}
 
-    /** {@code Service} tells how they are made. */
-    public static void madeBy(BiFunction<Executor, Watch, Service> by) {
+    /** {@code Service} sets how services are made. */
+    public static void setMaker(BiFunction<Executor, Watch, Service> by) {
         maker = by;
     }
 
-    /** One that this watch runs. The executor is given what isn't a stage's. */
-    public static Service service(Executor executor, Watch watch) {
+    /** A service that this watch runs. The executor gets tasks that are no stage's. */
+    public static Service newService(Executor executor, Watch watch) {
         if (maker == null) {
             new Service(executor);
         }
         return maker.apply(executor, watch);
     }
 
-    /** {@code Functions} tells how those over stores are made. */
-    public static void storesBy(Stores by) {
+    /** {@code Functions} sets how services over stores are made. */
+    public static void setStores(Stores by) {
         stores = by;
     }
 
-    /** What makes them. */
+    /** Makes services over stores. */
     public static Stores stores() {
         if (stores == null) {
             new Functions();

@@ -12,24 +12,24 @@ import java.util.function.BiConsumer;
 import java.util.function.Predicate;
 
 /** Which stages stand behind which. */
-final class Behind {
-    private final Map<Long, Set<Long>> behind = new HashMap<>();
+final class Dependents {
+    private final Map<Long, Set<Long>> dependents = new HashMap<>();
 
     void add(long stage, long source) {
-        behind.computeIfAbsent(source, none -> new LinkedHashSet<>()).add(stage);
+        dependents.computeIfAbsent(source, none -> new LinkedHashSet<>()).add(stage);
     }
 
     /**
-     * Tells what changed stages lead to. That one behind them is settled already is read: it hides the change from those behind it.
+     * Hands on each stage that changed stages lead to. One that is settled already is read: it hides the change from those behind it.
      */
-    void reached(Collection<Long> changed, Predicate<Long> isSettled, BiConsumer<Long, Footprint.How> tells) {
+    void forEachReached(Collection<Long> changed, Predicate<Long> isSettled, BiConsumer<Long, Footprint.Access> tells) {
         Deque<Long> left = new ArrayDeque<>(changed);
         Set<Long> seen = new HashSet<>(changed);
         for (Long at; (at = left.poll()) != null;) {
-            for (Long stage : behind.getOrDefault(at, new LinkedHashSet<>())) {
+            for (Long stage : dependents.getOrDefault(at, new LinkedHashSet<>())) {
                 if (seen.add(stage)) {
                     boolean is = isSettled.test(stage);
-                    tells.accept(stage, is ? Footprint.How.READS : Footprint.How.LEADS);
+                    tells.accept(stage, is ? Footprint.Access.READS : Footprint.Access.LEADS);
                     if (!is) {
                         left.add(stage);
                     }

@@ -3,7 +3,7 @@ package cf.testing;
 import java.util.function.BooleanSupplier;
 
 /** What is due at a moment. */
-final class Timer {
+final class WorldTimer {
     final long due;
     /** Which one of its request it is. */
     final int number;
@@ -12,7 +12,7 @@ final class Timer {
     final BooleanSupplier isLost;
     final String text;
 
-    Timer(long due, int number, long place, Runnable act, BooleanSupplier isLost, String text) {
+    WorldTimer(long due, int number, long place, Runnable act, BooleanSupplier isLost, String text) {
         this.due = due;
         this.number = number;
         this.place = place;
@@ -26,6 +26,6 @@ final class Timer {
     }
 
     Move move() {
-        return new Move(Move.Word.LIMIT, request(), (int) place, number);
+        return new Move(Move.Action.LIMIT, request(), (int) place, number);
     }
 }

@@ -4,30 +4,31 @@ import cf.internal.Form;
 import java.util.concurrent.Executor;
 
 /** A function with the context that goes along with it. */
-final class Carried {
-    private final Executor within;
+final class ContextFunction {
+    private final Executor context;
     private final Object function;
 
-    Carried(Executor within, Object function) {
-        this.within = within;
+    ContextFunction(Executor within, Object function) {
+        this.context = within;
         this.function = function;
     }
 
     /** Calls a function of this form, in its context if it has one. */
     static Object call(Form form, Object function, Object first, Object second) {
-        return function instanceof Carried ? ((Carried) function).called(form, first, second) : form.call(function, first, second);
+        return function instanceof ContextFunction ? ((ContextFunction) function).callWithin(form, first, second)
+                : form.call(function, first, second);
     }
 
-    private Object called(Form form, Object first, Object second) {
-        Call call = new Call(form, first, second);
-        within.execute(call);
+    private Object callWithin(Form form, Object first, Object second) {
+        Invocation call = new Invocation(form, first, second);
+        context.execute(call);
         if (call.thrown != null) {
-            Carried.<RuntimeException>rethrow(call.thrown);
+            ContextFunction.<RuntimeException>rethrow(call.thrown);
         }
         if (!call.isDone) {
             throw new IllegalStateException("the context has not called the function at once");
         }
-        return call.given;
+        return call.result;
     }
 
     @SuppressWarnings("unchecked")
@@ -35,14 +36,14 @@ final class Carried {
         throw (E) error;
     }
 
-    private final class Call implements Runnable {
+    private final class Invocation implements Runnable {
         private final Form form;
         private final Object first, second;
-        private Object given;
+        private Object result;
         private Throwable thrown;
         private boolean isDone;
 
-        Call(Form form, Object first, Object second) {
+        Invocation(Form form, Object first, Object second) {
             this.form = form;
             this.first = first;
             this.second = second;
@@ -51,7 +52,7 @@ final class Carried {
         @Override
         public void run() {
             try {
-                given = form.call(function, first, second);
+                result = form.call(function, first, second);
             } catch (Throwable error) {
                 thrown = error;
             }

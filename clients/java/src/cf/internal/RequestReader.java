@@ -6,20 +6,18 @@ import java.util.Collection;
 import java.util.List;
 
 /** What is known of a request by all words that stand. */
-public interface Reader {
-    /** Reads what has come to stand, and gives the stages that it settled, rising. */
+public interface RequestReader {
+    /** Takes in the words that came, and gives the stages that they settled, rising. */
     List<Integer> catchUp();
 
-    Store.Opened opened();
-
-    /** How many words it has read. */
-    int seen();
+    /** How many words it has taken in. */
+    int wordCount();
 
     /** How many stages there are. */
-    int size();
+    int stageCount();
 
     /** What a stage is called. */
-    String name(int stage);
+    String stageName(int stage);
 
     boolean isSettled(int stage);
 
@@ -27,16 +25,16 @@ public interface Reader {
     Object outcome(int stage);
 
     /** The same in words: {@code ends: 7}. */
-    String ended(int stage);
+    String endText(int stage);
 
     /** The stages whose function is ready, rising. */
-    List<Integer> ready();
+    List<Integer> readyStages();
 
     /** The sessions that have claimed stages which aren't settled. */
     Collection<Long> claimants();
 
-    /** Whether promises of stages that composed are to be settled. */
-    boolean relays();
+    /** Whether promises of composing stages are to be settled. */
+    boolean hasRelays();
 
     /** Whether it is a flow's, all its stages are settled, and no claim is open. */
     boolean isFinished();
@@ -48,5 +46,5 @@ public interface Reader {
     StoredHistory history();
 
     /** What a put to it is called. */
-    String text(Store.Put put);
+    String putText(Store.Put put);
 }
