@@ -41,13 +41,21 @@ def at_once(memory: int) -> int:
     return max(1, min(len(os.sched_getaffinity(0)), free // memory))
 
 
+def rt_path() -> Path:
+    return Path(os.path.realpath(shutil.which("rt") or "rt"))
+
+
+def may_keep_proofs() -> bool:
+    """Whether this rt keeps what a run proved for later runs. Older toolchains prove everything anew each time."""
+    return "rattle-kept" in rt_path().read_text(encoding="utf-8", errors="replace")
+
+
 def keeps_proofs() -> bool:
     """Whether rt kept a proof of an earlier run on this machine. If it kept none, everything is to be proved, and there is work for each
     processor to the end; then rt is told to do one check more at a time than there are processors. By itself it leaves one idle if it
     thinks that memory won't suffice, since it counts some 6 GB for a check that takes 2. If little is left to prove, rt isn't told: it gives idle
     processors to a proof that is running."""
-    kit = Path(os.path.realpath(shutil.which("rt") or "rt")).parent.parent
-    return any(kit.parent.glob("rattle-kept/proof-*"))
+    return any(rt_path().parents[2].glob("rattle-kept/proof-*"))
 
 
 def lines_of(pipe: IO[bytes]) -> Iterator[Optional[str]]:
@@ -161,12 +169,13 @@ def prove_first() -> None:
 
 def run_gate(tell: Callable[[str], object]) -> int:
     """Runs rt ci over the checkout, prints what it prints, and answers its status; rt ci ends when this does. `tell` is called with the name
-    of each crate once it is proved, and built if it is a program. If rt kept no proof, an rt ci that is told how many checks to do at a time
-    follows one that isn't, since the latter is quicker for the first crates and slower for the rest."""
+    of each crate once it is proved, and built if it is a program. If rt kept no proof, it is told how many checks to do at a time. That is
+    slower for the first crates, so an rt ci that isn't told proves those first, if this rt keeps them."""
     environment = dict(os.environ)
     jobs = at_once(AMPLE)
     if jobs == len(os.sched_getaffinity(0)) and not keeps_proofs():
-        prove_first()
+        if may_keep_proofs():
+            prove_first()
         environment.setdefault("RT_JOBS", str(jobs + 1))  # one more, so that no processor rests while a long proof ends
     gate, began = Gate(), time.monotonic()
     told = began
