@@ -661,7 +661,7 @@ fn what_goes_wrong_in_a_look_is_told() {
     static TOLD: AtomicU32 = AtomicU32::new(0);
     let left = AtomicU32::new(1);
     let called = move |call: &str, _: &[Entry]| match call {
-        "due" if left.swap(0, SeqCst) > 0 => Err(StoreError::Unknown("no answer".into())),
+        "due_timers" if left.swap(0, SeqCst) > 0 => Err(StoreError::Unknown("no answer".into())),
         _ => Ok(()),
     };
     let tells = |text: &str| {
