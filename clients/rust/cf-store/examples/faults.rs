@@ -149,8 +149,8 @@ impl Store for Noted {
         self.0.news(since)
     }
 
-    fn changed(&self, wait: Duration) -> Result<(), StoreError> {
-        self.0.changed(wait)
+    fn wait_for_change(&self, wait: Duration) -> Result<(), StoreError> {
+        self.0.wait_for_change(wait)
     }
 
     fn end(&self, name: &str, number: i64, at: usize) -> Result<bool, StoreError> {
@@ -181,8 +181,8 @@ impl Store for Noted {
         self.0.set_timer(timer)
     }
 
-    fn due(&self, now: f64) -> Result<Vec<Timer>, StoreError> {
-        self.0.due(now)
+    fn due_timers(&self, now: f64) -> Result<Vec<Timer>, StoreError> {
+        self.0.due_timers(now)
     }
 
     fn drop_timer(&self, timer: &Timer) -> Result<(), StoreError> {

@@ -112,7 +112,7 @@ impl Store for TellingStore {
         fn read(name: &str, number: i64, at: usize) -> Vec<Entry>;
         fn payload(name: &str, number: i64, place: usize) -> Option<Vec<u8>>;
         fn news(since: Option<Mark>) -> (WordCounts, Mark);
-        fn changed(wait: Duration) -> ();
+        fn wait_for_change(wait: Duration) -> ();
         fn end(name: &str, number: i64, at: usize) -> bool;
         fn beat(session: u64) -> ();
         fn beats() -> BTreeMap<u64, i64>;
@@ -120,7 +120,7 @@ impl Store for TellingStore {
         fn name_session(session: u64, name: &str) -> ();
         fn now() -> f64;
         fn set_timer(timer: &Timer) -> ();
-        fn due(now: f64) -> Vec<Timer>;
+        fn due_timers(now: f64) -> Vec<Timer>;
         fn drop_timer(timer: &Timer) -> ();
     }
 
@@ -661,7 +661,7 @@ fn what_goes_wrong_in_a_look_is_told() {
     static TOLD: AtomicU32 = AtomicU32::new(0);
     let left = AtomicU32::new(1);
     let called = move |call: &str, _: &[Entry]| match call {
-        "due" if left.swap(0, SeqCst) > 0 => Err(StoreError::Unknown("no answer".into())),
+        "due_timers" if left.swap(0, SeqCst) > 0 => Err(StoreError::Unknown("no answer".into())),
         _ => Ok(()),
     };
     let tells = |text: &str| {

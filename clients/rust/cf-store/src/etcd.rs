@@ -254,7 +254,7 @@ impl Store for Etcd {
         Ok((ends, (revision.max(known), 0))) // (a member that lags behind has a lower one)
     }
 
-    fn changed(&self, wait: Duration) -> Result<(), StoreError> {
+    fn wait_for_change(&self, wait: Duration) -> Result<(), StoreError> {
         let mut kept = lock(&self.watch);
         let (turn, told) = match kept.take() {
             Some(mut watch) => {
@@ -333,7 +333,7 @@ impl Store for Etcd {
         }
     }
 
-    fn due(&self, now: f64) -> Result<Vec<Timer>, StoreError> {
+    fn due_timers(&self, now: f64) -> Result<Vec<Timer>, StoreError> {
         let (found, _) = self.keys(b"cf/t/", b"cf/t0", &[("serializable", json!(true))])?;
         let mut told = Vec::new();
         for pair in found {

@@ -413,7 +413,7 @@ impl Store for Postgres {
         Ok((told, (rows[0].get(0), 0)))
     }
 
-    fn changed(&self, wait: Duration) -> Result<(), StoreError> {
+    fn wait_for_change(&self, wait: Duration) -> Result<(), StoreError> {
         let mut listens = lock(&self.listens);
         let Some(connection) = listens.as_mut().filter(|it| !it.client.is_closed()) else {
             let made = PostgresConnection::new(&self.config)?;
@@ -470,7 +470,7 @@ impl Store for Postgres {
         self.ask_of(&timer.request, statement, &[&i32::from(timer.stage), &timer.due, &timer.payload, &timer.number]).map(|_| ())
     }
 
-    fn due(&self, now: f64) -> Result<Vec<Timer>, StoreError> {
+    fn due_timers(&self, now: f64) -> Result<Vec<Timer>, StoreError> {
         let statement = "select name, stage, due, payload, id from cf_timer join cf_request on id = request where due <= $1 order by due";
         let read =
             |row: Row| Timer { request: row.get(0), stage: row.get::<_, i32>(1) as u16, due: row.get(2), payload: row.get(3), number: row.get(4) };

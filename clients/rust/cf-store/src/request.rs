@@ -95,7 +95,7 @@ pub(crate) struct LocalRequest {
 }
 
 impl LocalRequest {
-    pub(crate) fn new(view: RowView, host: &Arc<dyn Host>, locks_out: bool) -> LocalRequest {
+    pub(crate) fn new(view: RowView, host: &Arc<dyn Host>, locks_out_others: bool) -> LocalRequest {
         LocalRequest {
             name: view.opened.name.clone(),
             number: view.opened.number,
@@ -104,7 +104,7 @@ impl LocalRequest {
             host: Arc::clone(host),
             store: Arc::clone(&view.store),
             view: Arc::new(Mutex::new(view)),
-            writes: locks_out.then(Mutex::default),
+            writes: locks_out_others.then(Mutex::default),
             shown: Mutex::default(),
             changed: Condvar::new(),
             reads: Mutex::default(),

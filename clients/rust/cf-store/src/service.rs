@@ -407,7 +407,7 @@ impl ServiceCore {
         let made = Arc::new(LocalRequest::new(
             RowView::new(Arc::clone(&self.store), Arc::clone(&self.host), found, Arc::clone(&self.sessions))?,
             &self.host,
-            self.store.locks_out(),
+            self.store.locks_out_others(),
         ));
         made.catch_up()?;
         let mut requests = lock(&self.requests);
@@ -535,7 +535,7 @@ impl ServiceCore {
         let mut looks = PumpState::new(self.host.now());
         while !self.is_stopping() {
             let pause = LONGEST_PAUSE.min(self.options.lease / 5);
-            let round = self.pump_round(&mut looks).and_then(|()| self.store.changed(pause));
+            let round = self.pump_round(&mut looks).and_then(|()| self.store.wait_for_change(pause));
             if let Err(error) = round {
                 (self.options.warns)(&error.to_string());
                 self.host.sleep(LONGEST_PAUSE);
@@ -635,7 +635,7 @@ impl ServiceCore {
     }
 
     fn submit_due_timers(self: &Arc<ServiceCore>) -> Result<(), StoreError> {
-        for timer in self.store.due(self.store.now()?)? {
+        for timer in self.store.due_timers(self.store.now()?)? {
             let is_its = self.options.takes_all || matches!(lock(&self.requests).get(&timer.request), Some(KnownRequest::Open(_)));
             if is_its && lock(&self.firing).insert((timer.request.clone(), timer.stage)) {
                 self.submit(ServiceJob::Fire(timer));

@@ -256,7 +256,7 @@ impl Store for SQLite {
         Ok((told.into_iter().collect(), mark))
     }
 
-    fn changed(&self, wait: Duration) -> Result<(), StoreError> {
+    fn wait_for_change(&self, wait: Duration) -> Result<(), StoreError> {
         let until = Instant::now() + wait;
         let mut watch = self.watch.lock().unwrap_or_else(PoisonError::into_inner);
         loop {
@@ -326,7 +326,7 @@ impl Store for SQLite {
         Ok(())
     }
 
-    fn due(&self, now: f64) -> Result<Vec<Timer>, StoreError> {
+    fn due_timers(&self, now: f64) -> Result<Vec<Timer>, StoreError> {
         let asked = "select name, stage, due, payload, id from cf_timer join cf_request on id = request where due <= ? order by due";
         self.ask(asked, &[&now], |row| {
             let payload = bytes(row.get_ref(3)?)?.unwrap_or_default();
@@ -343,7 +343,7 @@ impl Store for SQLite {
         true
     }
 
-    fn locks_out(&self) -> bool {
+    fn locks_out_others(&self) -> bool {
         true
     }
 

@@ -104,7 +104,7 @@ pub trait Store: Send + Sync {
     fn news(&self, since: Option<Mark>) -> Result<(WordCounts, Mark), StoreError>;
 
     /// Waits until others may have put something since the last call, for `wait` at most. One thread at a time calls it.
-    fn changed(&self, wait: Duration) -> Result<(), StoreError>;
+    fn wait_for_change(&self, wait: Duration) -> Result<(), StoreError>;
 
     /// Closes a request that has just `at` words, and forgets its timers. True if this call has closed it. A put that [opens](Put::opens) it takes
     /// that back.
@@ -129,7 +129,7 @@ pub trait Store: Send + Sync {
     fn set_timer(&self, timer: &Timer) -> Result<(), StoreError>;
 
     /// Tells the timers that are due at this moment.
-    fn due(&self, now: f64) -> Result<Vec<Timer>, StoreError>;
+    fn due_timers(&self, now: f64) -> Result<Vec<Timer>, StoreError>;
 
     /// Forgets a stage's timer.
     fn drop_timer(&self, timer: &Timer) -> Result<(), StoreError>;
@@ -140,7 +140,7 @@ pub trait Store: Send + Sync {
     }
 
     /// Whether an open transaction keeps all others from putting.
-    fn locks_out(&self) -> bool {
+    fn locks_out_others(&self) -> bool {
         false
     }
 

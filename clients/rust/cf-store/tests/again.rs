@@ -43,7 +43,7 @@ impl Store for Fails {
         fn append(put: Put<'_>) -> Option<Vec<Entry>>;
         fn read(name: &str, number: i64, at: usize) -> Vec<Entry>;
         fn news(since: Option<Mark>) -> (WordCounts, Mark);
-        fn changed(wait: Duration) -> ();
+        fn wait_for_change(wait: Duration) -> ();
         fn beat(session: u64) -> ();
         fn beats() -> BTreeMap<u64, i64>;
         fn drop_beat(session: u64) -> ();
@@ -62,8 +62,8 @@ impl Store for Fails {
         self.store.end(name, number, at)
     }
 
-    fn due(&self, now: f64) -> Result<Vec<Timer>, StoreError> {
-        let mut due = self.store.due(now)?;
+    fn due_timers(&self, now: f64) -> Result<Vec<Timer>, StoreError> {
+        let mut due = self.store.due_timers(now)?;
         due.extend(self.due.lock().unwrap().iter().cloned());
         Ok(due)
     }

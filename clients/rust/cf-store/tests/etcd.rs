@@ -239,13 +239,13 @@ fn sessions_and_timers_stand_in_keys() {
     for it in [timer(1, 5.0, b"V"), late.clone(), early.clone()] {
         store.set_timer(&it).unwrap();
     }
-    assert_eq!(store.due(10.0), Ok(vec![]));
-    assert_eq!(store.due(21.0), Ok(vec![early.clone(), late.clone()]));
+    assert_eq!(store.due_timers(10.0), Ok(vec![]));
+    assert_eq!(store.due_timers(21.0), Ok(vec![early.clone(), late.clone()]));
     store.drop_timer(&early).unwrap();
-    assert_eq!(store.due(21.0), Ok(vec![late]));
+    assert_eq!(store.due_timers(21.0), Ok(vec![late]));
     assert_eq!(store.set_timer(&Timer { number: number + 1, ..early }), Err(StoreError::Gone("a b".into())));
     assert_eq!(store.end("a b", number, 0), Ok(true));
-    assert_eq!(store.due(21.0), Ok(vec![]), "a request that is closed has no timers");
+    assert_eq!(store.due_timers(21.0), Ok(vec![]), "a request that is closed has no timers");
 }
 
 #[test]
@@ -303,7 +303,7 @@ fn a_watch_tells_that_something_was_put() {
     };
     let waits = |wait| {
         let began = Instant::now();
-        store.changed(Duration::from_millis(wait)).unwrap();
+        store.wait_for_change(Duration::from_millis(wait)).unwrap();
         began.elapsed()
     };
     waits(1); // (the watch is opened)

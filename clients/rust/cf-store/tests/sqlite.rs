@@ -130,7 +130,7 @@ fn timers_are_fired_by_any_service() {
     assert_eq!(settled::<String>(&other), Ok("in its place".into()));
     assert_eq!(settled::<Value>(&soon), Ok(Value::Null));
     drop(service);
-    let due = place.store().due(f64::MAX).unwrap();
+    let due = place.store().due_timers(f64::MAX).unwrap();
     assert_eq!(due.iter().map(|timer| timer.stage).collect::<Vec<_>>(), [2], "what was fired is forgotten");
 }
 

@@ -143,7 +143,7 @@ fn a_transactional_function_neither_puts_nor_ends_its_transaction() {
     *puts.lock().unwrap() = Some(request.clone());
     let supply = |function: &str| settled(&request.supply(function, &[json!("x")]).unwrap());
     assert!(failed(supply("own")).text.contains("transactional function can't put"));
-    if place.store().locks_out() {
+    if place.store().locks_out_others() {
         assert!(failed(supply("other")).text.contains("transactional function can't put"));
     }
     for function in ["undoes", "commits", "begins"] {

@@ -92,7 +92,7 @@ impl Store for Memory {
         Ok((news.collect(), (kept.changes, 0)))
     }
 
-    fn changed(&self, _wait: Duration) -> Result<(), StoreError> {
+    fn wait_for_change(&self, _wait: Duration) -> Result<(), StoreError> {
         Ok(())
     }
 
@@ -138,7 +138,7 @@ impl Store for Memory {
         Ok(())
     }
 
-    fn due(&self, now: f64) -> Result<Vec<Timer>, StoreError> {
+    fn due_timers(&self, now: f64) -> Result<Vec<Timer>, StoreError> {
         Ok(lock(&self.0).timers.values().filter(|it| it.1.due <= now).map(|it| it.1.clone()).collect())
     }
 

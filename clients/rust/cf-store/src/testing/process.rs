@@ -242,7 +242,7 @@ impl Store for ProcessStore {
     }
 
     /// The search says when a process looks.
-    fn changed(&self, _wait: Duration) -> Result<(), StoreError> {
+    fn wait_for_change(&self, _wait: Duration) -> Result<(), StoreError> {
         Ok(())
     }
 
@@ -276,7 +276,7 @@ impl Store for ProcessStore {
     }
 
     /// The search says when a limit has passed.
-    fn due(&self, _now: f64) -> Result<Vec<Timer>, StoreError> {
+    fn due_timers(&self, _now: f64) -> Result<Vec<Timer>, StoreError> {
         Ok(self.shop.ask_work(self.number, |work| work.due.clone().into_iter().collect()))
     }
 

@@ -24,7 +24,7 @@ macro_rules! questions {
             fn payload(name: &str, number: i64, place: usize) -> Option<Vec<u8>>;
             fn payloads(name: &str, number: i64, places: &[usize]) -> Vec<Option<Vec<u8>>>;
             fn news(since: Option<Mark>) -> (WordCounts, Mark);
-            fn changed(wait: Duration) -> ();
+            fn wait_for_change(wait: Duration) -> ();
             fn end(name: &str, number: i64, at: usize) -> bool;
             fn beat(session: u64) -> ();
             fn beats() -> BTreeMap<u64, i64>;
@@ -32,7 +32,7 @@ macro_rules! questions {
             fn name_session(session: u64, name: &str) -> ();
             fn now() -> f64;
             fn set_timer(timer: &Timer) -> ();
-            fn due(now: f64) -> Vec<Timer>;
+            fn due_timers(now: f64) -> Vec<Timer>;
             fn drop_timer(timer: &Timer) -> ();
         }
     };
@@ -74,8 +74,8 @@ impl Store for AnyStore {
         self.store.transacts()
     }
 
-    fn locks_out(&self) -> bool {
-        self.store.locks_out()
+    fn locks_out_others(&self) -> bool {
+        self.store.locks_out_others()
     }
 
     fn transaction(&self) -> Result<Box<dyn Transaction + '_>, StoreError> {
