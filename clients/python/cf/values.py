@@ -51,6 +51,7 @@ class Code(enum.IntEnum):
     NOT_HELD = 29
     NO_ROOM = 30
     LOST = 31
+    NOT_OVER, LANES, NO_LANE, PAST_MOMENT = range(32, 36)
     BAD_TEXT, TOO_MANY = 36, 37
     UNDER_WAY, NO_TOKENS = 38, 39
     NULL = 255

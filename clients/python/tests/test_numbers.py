@@ -17,8 +17,16 @@ from cf.values import Code, Failure, Form  # noqa: E402
 
 
 class Numbers(unittest.TestCase):
+    header = HEADER.read_text(encoding="utf-8")
+
+    def test_each_code_of_the_header_has_its_name(self):
+        codes = re.search(r"typedef enum \{([^}]*)\} cf_code;", self.header)
+        self.assertIsNotNone(codes)
+        named = re.findall(r"\bCF_([A-Z_]+) = (\d+)", codes.group(1))
+        self.assertEqual({name: int(it) for name, it in Code.__members__.items()}, {name: int(it) for name, it in named if name != "OK"})
+
     def test_each_name_has_the_number_of_the_header(self):
-        named = dict(re.findall(r"\bCF_([A-Z_]+) = (\d+)", HEADER.read_text(encoding="utf-8")))
+        named = dict(re.findall(r"\bCF_([A-Z_]+) = (\d+)", self.header))
         for kind in (Code, Failure, Form):
             for name, it in kind.__members__.items():
                 with self.subTest(name):
