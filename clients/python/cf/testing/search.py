@@ -145,8 +145,7 @@ class Tree:
         stack, inside = self._stack, 0
         firsts = []
         for each in [k for k in range(place + 1, last) if not stack[k].before >> place & 1] + [last]:
-            own = stack[each].before & ~(stack[place].before | 1 << place) if each == last else stack[each].before
-            if not own & inside:
+            if not stack[each].before & inside:
                 firsts.append(stack[each].chosen)
             inside |= 1 << each
         return firsts
