@@ -200,6 +200,19 @@ fn who_starts_over_many_requests_beats() {
 }
 
 #[test]
+fn what_is_there_before_it_is_known_is_begun_at_once() {
+    let (memory, clock) = (Arc::new(Memory::default()), TestClock::new());
+    let functions = || Functions::new().with("seven", 1, || Ok::<_, String>(7));
+    let asks = TestProcess::new(&memory, &clock, 1, 0, functions(), silent());
+    let works = TestProcess::new(&memory, &clock, 2, 1, functions(), silent());
+    works.turn(); // (no other beat is due as long as the clock stands)
+    let begun = asks.service.request("r").unwrap().supply("seven", &[]).unwrap();
+    works.turn();
+    asks.turn();
+    assert_eq!(begun.peek::<i64>(), Ok(Some(7)));
+}
+
+#[test]
 fn a_new_word_is_a_sign_of_life() {
     let (memory, clock) = (Arc::new(Memory::default()), TestClock::new());
     let watches = TestProcess::new(&memory, &clock, 1, 0, Functions::new(), silent());

@@ -609,7 +609,9 @@ impl ServiceCore {
             return None;
         }
         let found = self.retrying_for_a_minute(|| self.store.find(name)).ok()??;
-        self.local_request(found).map_err(|error| self.give_up_request(name, None, &error)).ok()
+        let inner = self.local_request(found).map_err(|error| self.give_up_request(name, None, &error)).ok()?;
+        self.serve_if_needed(&inner); // (the store tells only of what comes later)
+        Some(inner)
     }
 
     /// Whether there is work in a request without a new word.
