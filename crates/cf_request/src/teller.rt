@@ -76,11 +76,12 @@ impl Teller {
         ensures told { IfOk result (λ t. AreFresh [] (start (with_room plan.now room)).stages t.told) }
         ensures lanes { IfOk result (λ t. t.lanes ≡ record { of = of.now; count = lanes }) }
     {
+        let places = plan.stages() as usize + room as usize;
+        let mut order: Vec<u16> = Vec::with_capacity(alloc, places)?;
+        let mut sets = ReadySets::new(alloc, of, room, lanes)?;
         let ledger = Ledger::new(alloc, plan, room)?;
         let stages = ledger.stages();
-        let mut order: Vec<u16> = Vec::with_capacity(alloc, stages as usize + room as usize)?;
         note_all(&ledger, stages, &mut order);
-        let mut sets = ReadySets::new(alloc, of, room, lanes)?;
         mark_all(&ledger, stages, &mut sets);
         Ok(Teller {
             ledger,
