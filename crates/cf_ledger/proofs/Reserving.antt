@@ -52,6 +52,14 @@ places_less n m most u v x y h is words lists stages =
       of_stages = subst (λ k. k * most ≤ y.free) (sym is) (less_stages n most x.free y.free h.of_stages stages);
     }
 
+-- where there are places for two words, there is one for one
+pub one_of_two : {Z : Type 0} (most : ℕ) (u : Vec ℕ Z) (x : News) → HavePlaces 2 most u x → HavePlaces 1 most u x
+one_of_two most u x h =
+    let a = h.of_words in
+    let b = h.of_lists in
+    let c = h.of_stages in
+    record { of_words = omega (arith, a); of_lists = omega (arith, b); of_stages = omega (arith, c) }
+
 -- where there are places for so many, more are asked for if some are missing
 pub places_short : {Z : Type 0} (n count most : ℕ) (u : Vec ℕ Z) (x : News) → HavePlaces n most u x → (count ≤ x.more → x.free < count * most) → n < count
 places_short n count most u x h missing = elim (cases_lt n count) [

@@ -1,10 +1,13 @@
 -- Words that are written one behind another.
-use Rattle.std.proofs.Common.{◌≡◌, ℕ, zero, suc, ◌+◌, ◌-◌, ◌<◌, List, [], ◌∷◌, ◌++◌, length, length-append, map, refl, ap, sym, ◌∙◌, arith, subst, take, Bool}
+use Rattle.std.proofs.Common.{◌≡◌, ℕ, zero, suc, ◌+◌, ◌-◌, ◌<◌, ◌≤◌, List, [], ◌∷◌, ◌++◌, length, length-append, map, refl, replicate, ap, sym, ◌∙◌, arith, subst, take, Bool}
+use Rattle.std.proofs.lemmas.List.{length-replicate}
 use Rattle.std.specs.Prelude.{Option, Some, None, position, slice_get}
 use Rattle.cf_forms.specs.Plans.{Planned, PlannedStage}
+use Rattle.cf_forms.proofs.PlanLemmas.{place_is}
 use Rattle.cf_model.specs.Graphs.{AreNews, Graph}
 use Rattle.cf_model.proofs.Histories.{state_after-append}
-use Rattle.cf_model.proofs.Shape.{answered-grows, state_after-grows}
+use Rattle.cf_model.proofs.Shape.{answered-grows, length-new_states, state_after-grows}
+use Rattle.cf_model.specs.declared.stage.Stage.TheVariants.{Pending}
 use Rattle.cf_ledger.specs.News.{AreNoted, WritesList}
 use Rattle.cf_model.specs.declared.events.Event.{Event}
 use Rattle.cf_model.specs.declared.events.Reply.{Reply}
@@ -68,6 +71,34 @@ all_flags plan ws g flags lists kept =
     let room = grows.room in
     let here : length flags ≡ length grown.stages + grown.room = kept.flags ∙ ap (λ (s : State). length s.plan.stages + s.plan.room) kept.left in
     omega (arith, stages, room, here)
+
+-- there are no more stages than a plan may have
+pub few_stages : (plan : Planned) (ws : List ℕ) (g : Graph) (flags : List Bool) (lists : List (List ℕ)) → IsKept plan ws g flags lists → length g.state.plan.stages ≤ 4096
+few_stages plan ws g flags lists kept =
+    let all = all_flags plan ws g flags lists kept in
+    let here = kept.flags in
+    let few = (place_is plan.stages plan.room kept.place).0 in
+    omega (arith, all, here, few)
+
+-- there is a state and a claim for each stage
+pub all_states : (plan : Planned) (es : List Event) → length (state_after (start plan) es).stages ≡ length (state_after (start plan) es).plan.stages
+all_states plan es =
+    let grows = state_after-grows (start plan) es in
+    let first : length (start plan).stages ≡ length plan.stages = length-new_states [] plan.stages (replicate (length plan.stages) Pending) ∙ length-replicate (length plan.stages) Pending in
+    let states = grows.all_stages in
+    let stages = ap (λ (l : List PlannedStage). length l) grows.stages ∙ length-append plan.stages grows.more in
+    omega (arith, first, states, stages)
+
+pub all_claims : (plan : Planned) (es : List Event) → length (state_after (start plan) es).claims ≡ length (state_after (start plan) es).plan.stages
+all_claims plan es =
+    let grows = state_after-grows (start plan) es in
+    let first : length (start plan).claims ≡ length plan.stages = length-replicate (length plan.stages) None in
+    let claims = grows.all_claims in
+    let stages = ap (λ (l : List PlannedStage). length l) grows.stages ∙ length-append plan.stages grows.more in
+    omega (arith, first, claims, stages)
+
+pub kept_states : (plan : Planned) (ws : List ℕ) (g : Graph) (flags : List Bool) (lists : List (List ℕ)) → IsKept plan ws g flags lists → length g.state.stages ≡ length g.state.plan.stages
+kept_states plan ws g flags lists kept = subst (λ (s : State). length s.stages ≡ length s.plan.stages) (sym kept.left) (all_states plan (decoded ws))
 
 -- what is kept, once one more word is done and written with its news
 pub kept_push : (plan : Planned) (ws : List ℕ) (g h : Graph) (w : ℕ) (e : Event) (reply : Reply) (flags down : List Bool) (lists more : List (List ℕ)) → IsKept plan ws g flags lists →

@@ -31,6 +31,10 @@ state_of ledger = state_after (start ledger.plan) ledger.events
 abbrev pub state_at : Ledger → ℕ → State
 state_at ledger place = state_after (start ledger.plan) (take place ledger.events)
 
+-- how many stages there are
+abbrev pub stages_of : Ledger → ℕ
+stages_of ledger = length (state_of ledger).plan.stages
+
 -- a stage that an event attaches has room
 abbrev pub HasRoomFor : State → Event → Type 0
 HasRoomFor s (Attaches who form of function) = 0 < s.plan.room

@@ -1,3 +1,4 @@
 pub mod News
 pub mod Ledgers
 pub mod Steps
+pub mod Books

@@ -9,7 +9,7 @@ use Rattle.cf_model.specs.declared.replies.Finished.TheVariants.{Won, Late}
 use Rattle.cf_model.specs.Graphs.{NoneReady, stage_in}
 use Rattle.cf_model.specs.States.{State, claim_at, is_ready}
 use Rattle.cf_event.specs.Words.{word_of}
-use Rattle.cf_ledger.specs.Ledgers.{Does, Ledger, state_of}
+use Rattle.cf_ledger.specs.Ledgers.{Does, Ledger, stages_of, state_of}
 use Rattle.cf_ledger.specs.declared.faults.StepFault.{StepFault}
 use Rattle.cf_ledger.specs.declared.faults.StepFault.TheVariants.{NoMemory, NoCaller, NoStage, NotHeld}
 use Rattle.cf_ledger.specs.declared.step.Finish.{Finish}
@@ -43,7 +43,7 @@ pub record IsTakenBy (who from : ℕ) (old : Ledger) (t : Taken) (new : Ledger) 
 
 -- no stage from a number on is ready
 abbrev pub NoneReadyFrom : ℕ → Ledger → Type 0
-NoneReadyFrom from l = NoneReady from (length (state_of l).plan.stages) (state_of l).stages
+NoneReadyFrom from l = NoneReady from (stages_of l) (state_of l).stages
 
 -- and where none is ready nothing is done
 abbrev pub Takes : ℕ → ℕ → Ledger → Option Taken → Ledger → Type 0

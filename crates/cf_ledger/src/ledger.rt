@@ -6,7 +6,7 @@ ghost use Rattle.cf_model.specs.States.{claim_at, is_ready, lowest_ready_of, out
 ghost use Rattle.cf_model.specs.declared.events.Event.TheVariants.{Claim as Claims, Finish as FinishesAs};
 ghost use Rattle.cf_model.specs.declared.events.Reply.TheVariants.{Claim as ToldClaim, Finish as ToldFinish};
 ghost use Rattle.cf_event.specs.Words.{word_of};
-ghost use Rattle.cf_ledger.specs.Ledgers.{AreTaken, Does, DoesAll, HasRoomFor, IsFirstMisfit, IsShort, LedgerRefuses, opened_with, roomier, state_at, state_of, with_more};
+ghost use Rattle.cf_ledger.specs.Ledgers.{AreTaken, Does, DoesAll, HasRoomFor, IsFirstMisfit, IsShort, LedgerRefuses, opened_with, roomier, stages_of, state_at, state_of, with_more};
 ghost use Rattle.cf_ledger.specs.Steps.{IsNoStep, IsShortOfTwo, NoneReadyFrom, Steps};
 ghost use Rattle.cf_event.specs.Decoding.{decoded, event_of};
 
@@ -14,7 +14,7 @@ use crate::faults::{LedgerFault, Misfit, StepFault};
 use crate::news::News;
 use crate::places::make_places;
 use crate::step::{Held, Step};
-use crate::writing::{finish, take, write, write_claim, write_finish};
+use crate::writing::Book;
 use cf_bits::BitSet;
 use cf_core::Graph;
 use cf_event::{LAST_CALLER, claim_of, decode, giving_of};
@@ -32,17 +32,10 @@ const MOST_WORDS: usize = 1 << 51;
 /// A graph, with the words of all that was done to it and the stages that each word changed.
 ///
 /// A contract sees the plan with its room, the events of the words, and for how many words more memory was found. The
-/// graph is in the state that these events leave, and no turn is left. A flag of `changed` is set only while a tick is
-/// done.
+/// graph is in the state that these events leave, and no turn is left.
 #[derive(Drop)]
 pub struct Ledger {
-    plan: Plan,
-    room: u16,
-    graph: Graph,
-    words: Vec<u64>,
-    changed: BitSet,
-    news: News,
-    free: usize,
+    book: Book,
 }
 
 impl Model for Ledger {
@@ -50,20 +43,11 @@ impl Model for Ledger {
 
     ghost Value = { Ledger };
 
-    ghost use Rattle.std.specs.Prelude.{length};
-    ghost use Rattle.cf_forms.specs.Plans.{with_room};
-    ghost use Rattle.cf_event.specs.Decoding.{decoded, event_of};
-    ghost use Rattle.cf_ledger.specs.Ledgers.{HavePlaces, IsKept};
+    ghost use Rattle.cf_ledger.specs.Books.{IsBook, ledger_in};
 
-    ghost view = { λ l. record {
-      plan = with_room l.plan l.room;
-      events = decoded l.words.items;
-      free = l.free;
-    } };
+    ghost view = { λ l. ledger_in l.book };
 
-    ghost invariant = { λ l.
-        IsKept (with_room l.plan l.room) l.words.items l.graph l.changed l.news.lists
-        × HavePlaces l.free (length l.changed) l.words l.news };
+    ghost invariant = { λ l. IsBook l.book };
 }
 
 impl Ledger {
@@ -77,13 +61,15 @@ impl Ledger {
         let shared = plan.share()?;
         let graph = graph_of(alloc, plan, room)?;
         Ok(Ledger {
-            plan: shared,
-            room,
-            graph,
-            words: Vec::new(alloc),
-            changed,
-            news: News::new(alloc),
-            free: 0,
+            book: Book {
+                plan: shared,
+                room,
+                graph,
+                words: Vec::new(alloc),
+                changed,
+                news: News::new(alloc),
+                free: 0,
+            },
         })
     }
 
@@ -96,21 +82,15 @@ impl Ledger {
         ensures refused { OnErr result (self.new ≡ self.old) }
         ensures short { OnErr result (self.old.free < more) }
     {
-        if more <= self.free {
+        if more <= self.book.free {
             return Ok(());
         }
         // No machine has memory for more.
         if more > MOST_WORDS {
             return Err(AllocError);
         }
-        make_places(
-            &mut self.words,
-            &mut self.news,
-            &self.changed,
-            self.free,
-            more,
-        )?;
-        self.free = more;
+        make_places(&mut self.book, more)?;
+        self.book.free = more;
         Ok(())
     }
 
@@ -148,22 +128,11 @@ impl Ledger {
         ensures why { IfErr result (λ fault. LedgerRefuses (state_of self.old) word fault) }
         ensures short { IfErr result (λ fault. IsShort self.old.free fault) }
     {
-        if stage >= self.graph.stages() {
+        if stage >= self.book.graph.stages() {
             return Err(LedgerFault::NoStage);
         }
-        make_places(&mut self.words, &mut self.news, &self.changed, self.free, 1)?;
-        Ok(write_claim(
-            &self.plan,
-            self.room,
-            &mut self.graph,
-            &mut self.words,
-            &self.changed,
-            &mut self.news,
-            &mut self.free,
-            who,
-            stage,
-            word,
-        ))
+        make_places(&mut self.book, 1)?;
+        Ok(self.book.claim(who, stage, word))
     }
 
     /// Does a finish, whose word this is, as `apply` does.
@@ -182,23 +151,11 @@ impl Ledger {
         ensures why { IfErr result (λ fault. LedgerRefuses (state_of self.old) word fault) }
         ensures short { IfErr result (λ fault. IsShort self.old.free fault) }
     {
-        if stage >= self.graph.stages() {
+        if stage >= self.book.graph.stages() {
             return Err(LedgerFault::NoStage);
         }
-        make_places(&mut self.words, &mut self.news, &self.changed, self.free, 1)?;
-        Ok(write_finish(
-            &self.plan,
-            self.room,
-            &mut self.graph,
-            &mut self.words,
-            &self.changed,
-            &mut self.news,
-            &mut self.free,
-            who,
-            stage,
-            answer,
-            word,
-        ))
+        make_places(&mut self.book, 1)?;
+        Ok(self.book.finish(who, stage, answer, word))
     }
 
     /// Does a word of any kind as `apply` does, in a call of its own.
@@ -212,24 +169,14 @@ impl Ledger {
         let Some(event) = decode(word) else {
             return Err(LedgerFault::NoEvent);
         };
-        if !self.graph.takes(&event) {
+        if !self.book.graph.takes(&event) {
             return Err(LedgerFault::NoStage);
         }
-        if !has_room_for(&self.graph, &event) {
+        if !has_room_for(&self.book.graph, &event) {
             return Err(LedgerFault::NoRoom);
         }
-        make_places(&mut self.words, &mut self.news, &self.changed, self.free, 1)?;
-        Ok(write(
-            &self.plan,
-            self.room,
-            &mut self.graph,
-            &mut self.words,
-            &mut self.changed,
-            &mut self.news,
-            &mut self.free,
-            &event,
-            word,
-        ))
+        make_places(&mut self.book, 1)?;
+        Ok(self.book.write(&event, word))
     }
 
     /// One step of a caller, in one call: it finishes the stage that the caller holds, if there is one, and claims the
@@ -239,6 +186,7 @@ impl Ledger {
     ///
     /// It costs what the two words cost by `apply`, and a look at each stage from that number up to the one that is
     /// claimed.
+    #[tactic(auto, using(crate::proofs::Reserving::one_of_two))]
     pub fn step(&mut self, who: u8, held: Option<Held>, from: u16) -> Result<Step, StepFault>
         ensures done { IfOk result (λ step. Steps who held from self.old step self.new) }
         ensures refused { OnErr result (self.new ≡ self.old) }
@@ -249,39 +197,19 @@ impl Ledger {
             return Err(StepFault::NoCaller);
         }
         if let Some(held) = held {
-            if held.stage >= self.graph.stages() {
+            if held.stage >= self.book.graph.stages() {
                 return Err(StepFault::NoStage);
             }
-            if self.graph.claimant(held.stage) != Some(who) {
+            if self.book.graph.claimant(held.stage) != Some(who) {
                 return Err(StepFault::NotHeld);
             }
         }
-        make_places(&mut self.words, &mut self.news, &self.changed, self.free, 2)?;
+        make_places(&mut self.book, 2)?;
         let finish = match held {
             None => None,
-            Some(held) => Some(finish(
-                &self.plan,
-                self.room,
-                &mut self.graph,
-                &mut self.words,
-                &self.changed,
-                &mut self.news,
-                &mut self.free,
-                who,
-                held,
-            )),
+            Some(held) => Some(self.book.finish_held(who, held)),
         };
-        let taken = take(
-            &self.plan,
-            self.room,
-            &mut self.graph,
-            &mut self.words,
-            &self.changed,
-            &mut self.news,
-            &mut self.free,
-            who,
-            from,
-        );
+        let taken = self.book.take(who, from);
         Ok(Step { finish, taken })
     }
 
@@ -308,14 +236,14 @@ impl Ledger {
         ensures words { result.now ≡ map word_of self.now.events }
         ensures read { decoded result.now ≡ self.now.events }
     {
-        self.words.as_slice()
+        self.book.words.as_slice()
     }
 
     /// How many words are written.
     pub fn len(&self) -> usize
         ensures { result ≡ length self.now.events }
     {
-        self.words.len()
+        self.book.words.len()
     }
 
     /// The stages that the event at a place changed, in rising order: these and no others.
@@ -323,66 +251,66 @@ impl Ledger {
         requires { place < length self.now.events }
         ensures { AreNews (state_at self.now place).stages (state_at self.now (place + 1)).stages result.now }
     {
-        self.news.at(place)
+        self.book.news.at(place)
     }
 
     /// How many stages there are by now, the attached ones too.
     pub fn stages(&self) -> u16
-        ensures count { result ≡ length (state_of self.now).plan.stages }
-        ensures all_stages { length (state_of self.now).stages ≡ length (state_of self.now).plan.stages }
-        ensures all_claims { length (state_of self.now).claims ≡ length (state_of self.now).plan.stages }
+        ensures count { result ≡ stages_of self.now }
+        ensures all_stages { length (state_of self.now).stages ≡ stages_of self.now }
+        ensures all_claims { length (state_of self.now).claims ≡ stages_of self.now }
         ensures few { result + (state_of self.now).plan.room ≤ 4096 }
     {
-        self.graph.stages()
+        self.book.graph.stages()
     }
 
     /// How many stages may still be attached.
     pub fn room(&self) -> u16
         ensures { result ≡ (state_of self.now).plan.room }
     {
-        self.graph.room()
+        self.book.graph.room()
     }
 
     /// The number of a stage's function, if its form has one.
     pub fn function(&self, i: u16) -> Option<u16>
-        requires { i < length (state_of self.now).plan.stages }
+        requires { i < stages_of self.now }
         ensures { result ≡ function_at (state_of self.now).plan.stages i }
     {
-        self.graph.function(i)
+        self.book.graph.function(i)
     }
 
     /// A stage's state.
     #[inline(always)]
     pub fn stage(&self, i: u16) -> Stage
-        requires { i < length (state_of self.now).plan.stages }
+        requires { i < stages_of self.now }
         ensures { result ≡ stage_in (state_of self.now).stages i }
     {
-        self.graph.stage_now(i)
+        self.book.graph.stage_now(i)
     }
 
     /// The caller whose claim of a stage is open, if there is one.
     pub fn claimant(&self, i: u16) -> Option<u8>
-        requires { i < length (state_of self.now).plan.stages }
+        requires { i < stages_of self.now }
         ensures { result ≡ claim_at (state_of self.now) i }
     {
-        self.graph.claimant(i)
+        self.book.graph.claimant(i)
     }
 
     /// The lowest ready stage from a number on. It costs a look at each stage between.
     pub fn next_ready(&self, from: u16) -> Option<u16>
         ensures ready { IfSome result (λ i. is_ready (stage_in (state_of self.now).stages i) ≡ true) }
         ensures above { IfSome result (λ i. from ≤ i) }
-        ensures there { IfSome result (λ i. i < length (state_of self.now).plan.stages) }
+        ensures there { IfSome result (λ i. i < stages_of self.now) }
         ensures first { IfSome result (λ i. NoneReady from i (state_of self.now).stages) }
         ensures none { IfNone result (NoneReadyFrom from self.now) }
     {
-        self.graph.next_ready(from)
+        self.book.graph.next_ready(from)
     }
 
     /// The outcome of a stage, if it is settled.
     #[tactic(auto, using(crate::proofs::Ready::outcome_is))]
     pub fn outcome(&self, i: u16) -> Option<Outcome>
-        requires { i < length (state_of self.now).plan.stages }
+        requires { i < stages_of self.now }
         ensures { result ≡ outcome_at (state_of self.now) i }
     {
         outcome_of(self.stage(i))
@@ -392,8 +320,6 @@ impl Ledger {
     pub fn lowest_ready(&self) -> Option<u16>
         ensures { result ≡ lowest_ready_of (state_of self.now) }
     {
-        // There is a state for each stage.
-        let _known = self.stages();
         self.next_ready(0)
     }
 
@@ -422,10 +348,10 @@ impl Ledger {
         ensures { self.new ≡ record self.old { events = [] } }
     {
         // A plan is opened with all its stages.
-        let _known = self.plan.stages();
-        start_again(&mut self.graph);
-        self.words.clear();
-        self.news.clear();
+        let _known = self.book.plan.stages();
+        start_again(&mut self.book.graph);
+        self.book.words.clear();
+        self.book.news.clear();
     }
 
     /// Whether its plan has place for so many stages more.
@@ -434,7 +360,7 @@ impl Ledger {
         ensures { result ≡ has_place self.now.plan.stages (self.now.plan.room + more) }
     {
         // No plan has place for more room.
-        more as usize <= MAX_STAGES && self.plan.has_place(self.room + more)
+        more as usize <= MAX_STAGES && self.book.plan.has_place(self.book.room + more)
     }
 
     /// Makes room for so many stages more, by doing all words again. It fails only where there is no memory, and then
@@ -448,7 +374,13 @@ impl Ledger {
         ensures unchanged { OnErr result (self.new ≡ self.old) }
         ensures refused { IfErr result (λ fault. fault ≡ LedgerFault.NoMemory) }
     {
-        match ledger_with(alloc, &self.plan, self.room + more, &self.words, self.free) {
+        match ledger_with(
+            alloc,
+            &self.book.plan,
+            self.book.room + more,
+            &self.book.words,
+            self.book.free,
+        ) {
             Ok(ledger) => {
                 drop(mem::replace(self, ledger));
                 Ok(())
@@ -492,7 +424,9 @@ fn graph_of(alloc: Global, plan: &Plan, room: u16) -> Result<Graph, AllocError>
     ensures graph { IfOk result (λ graph. graph.state ≡ start (with_room plan.now room)) }
     ensures worked_out { IfOk result (λ graph. graph.left ≡ None) }
 {
-    Ok(worked_out(Graph::growing_of(alloc, plan, room)?))
+    let mut graph = Graph::growing_of(alloc, plan, room)?;
+    take_turns(&mut graph);
+    Ok(graph)
 }
 
 /// Has a graph start again, and takes all turns that are left.
@@ -501,21 +435,17 @@ fn start_again(graph: &mut Graph)
     ensures worked_out { graph.new.left ≡ None }
 {
     graph.restart();
-    graph.nudge(u32::MAX);
-    // A plan has so few stages and edges that these are fewer turns.
-    let _known = graph.stages();
+    take_turns(graph);
 }
 
-/// The graph once all turns that are left are taken.
-fn worked_out(graph: Graph) -> Graph
-    ensures same { result.state ≡ graph.state }
-    ensures worked_out { result.left ≡ None }
+/// Takes all turns that are left.
+fn take_turns(graph: &mut Graph)
+    ensures same { graph.new.state ≡ graph.old.state }
+    ensures worked_out { graph.new.left ≡ None }
 {
-    let mut graph = graph;
     graph.nudge(u32::MAX);
     // A plan has so few stages and edges that these are fewer turns.
     let _known = graph.stages();
-    graph
 }
 
 /// A flag for each stage that there may ever be.

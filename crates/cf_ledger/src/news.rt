@@ -103,6 +103,7 @@ impl News {
     #[inline(always)]
     pub fn note_claim(&mut self, graph: &mut Graph, who: u8, stage: u16) -> Claimed
         requires there { stage < length graph.old.state.plan.stages }
+        requires all_stages { length graph.old.state.stages ≡ length graph.old.state.plan.stages }
         requires worked_out { graph.old.left ≡ None }
         requires free { 0 < self.old.free }
         requires more { 0 < self.old.more }
@@ -112,10 +113,7 @@ impl News {
         ensures more { self.old.more ≤ self.new.more + 1 }
         ensures worked_out { graph.new.left ≡ None }
     {
-        // There is a state for each stage, before and after.
-        let _known_before = graph.stages();
         let told = graph.claim_telling(who, stage, &mut self.all);
-        let _known_after = graph.stages();
         let end = self.all.len();
         self.ends.push_reserved(end);
         told

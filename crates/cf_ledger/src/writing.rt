@@ -1,16 +1,16 @@
-//! How the parts of a ledger do an event, and write its word.
+//! The book of a ledger: how it does an event, and writes its word.
 //!
-//! Room for the word and for the stages that it changes was found before, so nothing here is refused. If memory was
+//! Places for the word and for the stages that it changes were found before, so nothing here is refused. If memory was
 //! found for words to come, it is that of one word less then.
-ghost use Rattle.std.specs.Prelude.{◌≡◌, ◌+◌, ◌<◌, ◌≤◌, Some, length, vec_capacity};
-ghost use Rattle.cf_forms.specs.Plans.{with_room};
+ghost use Rattle.std.specs.Prelude.{◌≡◌, ◌<◌, ◌≤◌, Some, length};
 ghost use Rattle.cf_model.specs.declared.events.Event.TheVariants.{Claim as Claims, Finish as FinishesAs};
 ghost use Rattle.cf_model.specs.declared.events.Reply.TheVariants.{Claim as ToldClaim, Finish as ToldFinish};
-ghost use Rattle.cf_model.specs.Events.{answered, claiming, finishing};
+ghost use Rattle.cf_model.specs.Events.{claiming, finishing};
 ghost use Rattle.cf_model.specs.States.{claim_at};
 ghost use Rattle.cf_event.specs.Words.{word_of};
 ghost use Rattle.cf_event.specs.Decoding.{event_of};
-ghost use Rattle.cf_ledger.specs.Ledgers.{Does, HavePlaces, IsKept, IsTaken, opened_with};
+ghost use Rattle.cf_ledger.specs.Books.{HasPlaces, IsBook, ledger_in};
+ghost use Rattle.cf_ledger.specs.Ledgers.{Does, IsTaken};
 ghost use Rattle.cf_ledger.specs.Steps.{Finishes, Takes};
 
 use crate::news::News;
@@ -22,219 +22,120 @@ use cf_forms::Answer;
 use cf_model::{Claimed, Event, Finished, Reply};
 use cf_plan::Plan;
 
-/// Does an event that is taken, and writes its word behind the others with the stages that it changed.
-#[inline(always)]
-pub(crate) fn write(
-    plan: &Plan,
-    room: u16,
-    graph: &mut Graph,
-    words: &mut Vec<u64>,
-    changed: &mut BitSet,
-    news: &mut News,
-    free: &mut usize,
-    event: &Event,
-    word: u64,
-) -> Reply
-    requires kept { IsKept (with_room plan.now room) words.old.items graph.old changed.old news.old.lists }
-    requires read { event_of word ≡ Some event.now }
-    requires named { word_of event.now ≡ word }
-    requires taken { IsTaken graph.old.state event.now }
-    requires place { length words.old.items < vec_capacity words.old }
-    requires places { HavePlaces free.old (length changed.old) words.old news.old }
-    requires row { length changed.old ≤ news.old.free }
-    requires more { 0 < news.old.more }
-    ensures kept { IsKept (with_room plan.now room) words.new.items graph.new changed.new news.new.lists }
-    ensures does { Does word (opened_with plan.now room words.old.items free.old)
-        result (opened_with plan.now room words.new.items free.new) }
-    ensures places { HavePlaces free.new (length changed.new) words.new news.new }
-    ensures told { (result, graph.new.state) ≡ answered graph.old.state event.now }
-    ensures one { length words.new.items ≡ length words.old.items + 1 }
-    ensures place { vec_capacity words.new ≡ vec_capacity words.old }
-    ensures row { news.old.free ≤ news.new.free + length changed.old }
-    ensures more { news.old.more ≤ news.new.more + 1 }
-    ensures flags { length changed.new ≡ length changed.old }
-{
-    // There is a state for each stage, before and after.
-    let _known_before = graph.stages();
-    *free = free.saturating_sub(1);
-    let reply = news.note(graph, event, changed);
-    let _known_after = graph.stages();
-    words.push_reserved(word);
-    reply
+/// A graph, with the words of all that was done to it and the stages that each word changed.
+///
+/// A flag of `changed` is set only while a tick is done. `free` is for how many words more memory was found.
+#[derive(Drop)]
+pub(crate) struct Book {
+    pub plan: Plan,
+    pub room: u16,
+    pub graph: Graph,
+    pub words: Vec<u64>,
+    pub changed: BitSet,
+    pub news: News,
+    pub free: usize,
 }
 
-/// The same of a claim, whose word this is.
-#[inline(always)]
-pub(crate) fn write_claim(
-    plan: &Plan,
-    room: u16,
-    graph: &mut Graph,
-    words: &mut Vec<u64>,
-    changed: &BitSet,
-    news: &mut News,
-    free: &mut usize,
-    who: u8,
-    stage: u16,
-    word: u64,
-) -> Claimed
-    requires kept { IsKept (with_room plan.now room) words.old.items graph.old changed.now news.old.lists }
-    requires read { event_of word ≡ Some (Claims who stage) }
-    requires named { word_of (Claims who stage) ≡ word }
-    requires there { stage < length graph.old.state.plan.stages }
-    requires place { length words.old.items < vec_capacity words.old }
-    requires places { HavePlaces free.old (length changed.now) words.old news.old }
-    requires row { length changed.now ≤ news.old.free }
-    requires more { 0 < news.old.more }
-    ensures kept { IsKept (with_room plan.now room) words.new.items graph.new changed.now news.new.lists }
-    ensures does { Does word (opened_with plan.now room words.old.items free.old)
-        (ToldClaim result) (opened_with plan.now room words.new.items free.new) }
-    ensures places { HavePlaces free.new (length changed.now) words.new news.new }
-    ensures told { (result, graph.new.state) ≡ claiming graph.old.state who stage }
-    ensures one { length words.new.items ≡ length words.old.items + 1 }
-    ensures place { vec_capacity words.new ≡ vec_capacity words.old }
-{
-    let _changed = changed;
-    *free = free.saturating_sub(1);
-    let told = news.note_claim(graph, who, stage);
-    words.push_reserved(word);
-    told
-}
-
-/// The same of a finish, whose word this is.
-#[inline(always)]
-pub(crate) fn write_finish(
-    plan: &Plan,
-    room: u16,
-    graph: &mut Graph,
-    words: &mut Vec<u64>,
-    changed: &BitSet,
-    news: &mut News,
-    free: &mut usize,
-    who: u8,
-    stage: u16,
-    answer: Answer,
-    word: u64,
-) -> Finished
-    requires kept { IsKept (with_room plan.now room) words.old.items graph.old changed.now news.old.lists }
-    requires read { event_of word ≡ Some (FinishesAs who stage answer) }
-    requires named { word_of (FinishesAs who stage answer) ≡ word }
-    requires there { stage < length graph.old.state.plan.stages }
-    requires place { length words.old.items < vec_capacity words.old }
-    requires places { HavePlaces free.old (length changed.now) words.old news.old }
-    requires row { length changed.now ≤ news.old.free }
-    requires more { 0 < news.old.more }
-    ensures kept { IsKept (with_room plan.now room) words.new.items graph.new changed.now news.new.lists }
-    ensures does { Does word (opened_with plan.now room words.old.items free.old)
-        (ToldFinish result) (opened_with plan.now room words.new.items free.new) }
-    ensures places { HavePlaces free.new (length changed.now) words.new news.new }
-    ensures told { (result, graph.new.state) ≡ finishing graph.old.state who stage answer }
-    ensures one { length words.new.items ≡ length words.old.items + 1 }
-    ensures place { vec_capacity words.new ≡ vec_capacity words.old }
-    ensures row { news.old.free ≤ news.new.free + length changed.now }
-    ensures more { news.old.more ≤ news.new.more + 1 }
-{
-    let _changed = changed;
-    *free = free.saturating_sub(1);
-    let told = news.note_finish(graph, who, stage, answer);
-    words.push_reserved(word);
-    told
-}
-
-/// Finishes a stage that the caller has claimed.
-pub(crate) fn finish(
-    plan: &Plan,
-    room: u16,
-    graph: &mut Graph,
-    words: &mut Vec<u64>,
-    changed: &BitSet,
-    news: &mut News,
-    free: &mut usize,
-    who: u8,
-    held: Held,
-) -> Finish
-    requires kept { IsKept (with_room plan.now room) words.old.items graph.old changed.now news.old.lists }
-    requires caller { who ≤ 63 }
-    requires there { held.stage < length graph.old.state.plan.stages }
-    requires held { claim_at graph.old.state held.stage ≡ Some who }
-    requires place { length words.old.items < vec_capacity words.old }
-    requires places { HavePlaces free.old (length changed.now) words.old news.old }
-    requires row { length changed.now ≤ news.old.free }
-    requires more { 0 < news.old.more }
-    ensures kept { IsKept (with_room plan.now room) words.new.items graph.new changed.now news.new.lists }
-    ensures does { Finishes who (Some held) (opened_with plan.now room words.old.items free.old)
-        (Some result) (opened_with plan.now room words.new.items free.new) }
-    ensures places { HavePlaces free.new (length changed.now) words.new news.new }
-    ensures one { length words.new.items ≡ length words.old.items + 1 }
-    ensures place { vec_capacity words.new ≡ vec_capacity words.old }
-    ensures row { news.old.free ≤ news.new.free + length changed.now }
-    ensures more { news.old.more ≤ news.new.more + 1 }
-{
-    // No stage's number is above 4,095.
-    let _known = graph.stages();
-    let word = encode(&Event::Finish {
-        who,
-        stage: held.stage,
-        answer: held.answer,
-    });
-    let told = write_finish(
-        plan,
-        room,
-        graph,
-        words,
-        changed,
-        news,
-        free,
-        who,
-        held.stage,
-        held.answer,
-        word,
-    );
-    match told {
-        Finished::Won => Finish { late: false, word },
-        Finished::Late => Finish { late: true, word },
-        Finished::NotYours => unreachable!(),
+impl Book {
+    /// Does an event that is taken, and writes its word behind the others with the stages that it changed.
+    #[inline(always)]
+    pub fn write(&mut self, event: &Event, word: u64) -> Reply
+        requires kept { IsBook self.old }
+        requires read { event_of word ≡ Some event.now }
+        requires named { word_of event.now ≡ word }
+        requires taken { IsTaken self.old.graph.state event.now }
+        requires place { HasPlaces 1 self.old }
+        ensures kept { IsBook self.new }
+        ensures does { Does word (ledger_in self.old) result (ledger_in self.new) }
+    {
+        self.free = self.free.saturating_sub(1);
+        let reply = self.news.note(&mut self.graph, event, &mut self.changed);
+        self.words.push_reserved(word);
+        reply
     }
-}
 
-/// Claims the lowest ready stage from a number on, if there is one.
-pub(crate) fn take(
-    plan: &Plan,
-    room: u16,
-    graph: &mut Graph,
-    words: &mut Vec<u64>,
-    changed: &BitSet,
-    news: &mut News,
-    free: &mut usize,
-    who: u8,
-    from: u16,
-) -> Option<Taken>
-    requires kept { IsKept (with_room plan.now room) words.old.items graph.old changed.now news.old.lists }
-    requires caller { who ≤ 63 }
-    requires place { length words.old.items < vec_capacity words.old }
-    requires places { HavePlaces free.old (length changed.now) words.old news.old }
-    requires row { length changed.now ≤ news.old.free }
-    requires more { 0 < news.old.more }
-    ensures kept { IsKept (with_room plan.now room) words.new.items graph.new changed.now news.new.lists }
-    ensures does { Takes who from (opened_with plan.now room words.old.items free.old)
-        result (opened_with plan.now room words.new.items free.new) }
-    ensures places { HavePlaces free.new (length changed.now) words.new news.new }
-{
-    // No stage's number is above 4,095.
-    let _known = graph.stages();
-    let Some(stage) = graph.next_ready(from) else {
-        return None;
-    };
-    let function = graph.function(stage);
-    let word = encode(&Event::Claim { who, stage });
-    match write_claim(
-        plan, room, graph, words, changed, news, free, who, stage, word,
-    ) {
-        Claimed::Granted(args) => Some(Taken {
-            stage,
-            function,
-            args,
-            word,
-        }),
-        _ => unreachable!(),
+    /// The same of a claim, whose word this is.
+    #[inline(always)]
+    pub fn claim(&mut self, who: u8, stage: u16, word: u64) -> Claimed
+        requires kept { IsBook self.old }
+        requires read { event_of word ≡ Some (Claims who stage) }
+        requires named { word_of (Claims who stage) ≡ word }
+        requires there { stage < length self.old.graph.state.plan.stages }
+        requires place { HasPlaces 1 self.old }
+        ensures kept { IsBook self.new }
+        ensures does { Does word (ledger_in self.old) (ToldClaim result) (ledger_in self.new) }
+        ensures told { (result, self.new.graph.state) ≡ claiming self.old.graph.state who stage }
+    {
+        self.free = self.free.saturating_sub(1);
+        let told = self.news.note_claim(&mut self.graph, who, stage);
+        self.words.push_reserved(word);
+        told
+    }
+
+    /// The same of a finish, whose word this is. Where there are places for two words, it leaves one.
+    #[inline(always)]
+    pub fn finish(&mut self, who: u8, stage: u16, answer: Answer, word: u64) -> Finished
+        requires kept { IsBook self.old }
+        requires read { event_of word ≡ Some (FinishesAs who stage answer) }
+        requires named { word_of (FinishesAs who stage answer) ≡ word }
+        requires there { stage < length self.old.graph.state.plan.stages }
+        requires place { HasPlaces 1 self.old }
+        ensures kept { IsBook self.new }
+        ensures does { Does word (ledger_in self.old) (ToldFinish result) (ledger_in self.new) }
+        ensures told { (result, self.new.graph.state) ≡ finishing self.old.graph.state who stage answer }
+        ensures place { HasPlaces 2 self.old → HasPlaces 1 self.new }
+    {
+        self.free = self.free.saturating_sub(1);
+        let told = self.news.note_finish(&mut self.graph, who, stage, answer);
+        self.words.push_reserved(word);
+        told
+    }
+
+    /// Finishes a stage that the caller has claimed, where there are places for two words, and leaves one.
+    #[tactic(auto, using(crate::proofs::Reserving::one_of_two))]
+    pub fn finish_held(&mut self, who: u8, held: Held) -> Finish
+        requires kept { IsBook self.old }
+        requires caller { who ≤ 63 }
+        requires there { held.stage < length self.old.graph.state.plan.stages }
+        requires held { claim_at self.old.graph.state held.stage ≡ Some who }
+        requires places { HasPlaces 2 self.old }
+        ensures kept { IsBook self.new }
+        ensures does { Finishes who (Some held) (ledger_in self.old) (Some result) (ledger_in self.new) }
+        ensures place { HasPlaces 1 self.new }
+    {
+        let word = encode(&Event::Finish {
+            who,
+            stage: held.stage,
+            answer: held.answer,
+        });
+        match self.finish(who, held.stage, held.answer, word) {
+            Finished::Won => Finish { late: false, word },
+            Finished::Late => Finish { late: true, word },
+            Finished::NotYours => unreachable!(),
+        }
+    }
+
+    /// Claims the lowest ready stage from a number on, if there is one.
+    pub fn take(&mut self, who: u8, from: u16) -> Option<Taken>
+        requires kept { IsBook self.old }
+        requires caller { who ≤ 63 }
+        requires place { HasPlaces 1 self.old }
+        ensures kept { IsBook self.new }
+        ensures does { Takes who from (ledger_in self.old) result (ledger_in self.new) }
+    {
+        let Some(stage) = self.graph.next_ready(from) else {
+            return None;
+        };
+        let function = self.graph.function(stage);
+        let word = encode(&Event::Claim { who, stage });
+        match self.claim(who, stage, word) {
+            Claimed::Granted(args) => Some(Taken {
+                stage,
+                function,
+                args,
+                word,
+            }),
+            _ => unreachable!(),
+        }
     }
 }

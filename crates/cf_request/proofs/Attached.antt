@@ -20,11 +20,11 @@ use Rattle.cf_model.specs.States.{State, appended, flowed, new_states, next_of, 
 use Rattle.cf_model.proofs.Closed.{reached_closed, reached_length}
 use Rattle.cf_event.specs.Decoding.{event_of}
 use Rattle.cf_event.specs.Words.{word_of}
-use Rattle.cf_ledger.specs.Ledgers.{HasRoomFor, IsShort, Ledger, LedgerRefuses, state_of}
+use Rattle.cf_ledger.specs.Ledgers.{HasRoomFor, IsShort, Ledger, LedgerRefuses, stages_of, state_of}
 use Rattle.cf_ledger.specs.declared.faults.LedgerFault.{LedgerFault}
 use Rattle.cf_ledger.specs.declared.faults.LedgerFault.TheVariants.{NoMemory, NoEvent, NoStage, NoRoom}
 use Rattle.cf_request.specs.Attaching.{TellsAttach, TellsAttaches}
-use Rattle.cf_request.specs.Machines.{AppliesWord, IsMachine, Machine, free_in, state_in, waiting_in}
+use Rattle.cf_request.specs.Machines.{AppliesWord, IsMachine, Machine, free_in, stages_in, state_in, waiting_in}
 use Rattle.cf_request.specs.Ready.{with_lane}
 use Rattle.cf_request.specs.Relays.{AreRelays, AreThere, IsRelayDue, NoneBehind, waiting_of}
 use Rattle.cf_request.specs.Rows.{AreCalls, IsCall, nothing}
@@ -57,7 +57,7 @@ answers : (s : State) (who : ℕ) (form : Form) (of : Of) (function : Option ℕ
 answers s who form of function l = let p = attached_stage form of function in ap (λ (x : Attached × State). (ToldAttach x.0, x.1)) (attached_now s.plan.room s p l)
 
 pub tells_attach : (who : ℕ) (form : Form) (of : Of) (function : Option ℕ) (lane word : ℕ) (old new : Teller) (reply : Reply) → word ≡ word_of (Attaches who form of function) → event_of word ≡ Some (Attaches who form of function) → 0 < (state_of old.ledger).plan.room →
-    Tells word old reply new → new.lanes ≡ with_lane (length (state_of new.ledger).plan.stages) lane old.lanes → TellsAttach lane (Attaches who form of function) old new
+    Tells word old reply new → new.lanes ≡ with_lane (stages_of new.ledger) lane old.lanes → TellsAttach lane (Attaches who form of function) old new
 tells_attach who form of function lane word old new reply is read room tells lanes =
     let e = Attaches who form of function in
     let s = state_of old.ledger in
@@ -80,7 +80,7 @@ state_attached who form of function lane old new room h =
 
 -- there is one stage more, and room and memory for one less
 pub record AttachesOne (old new : Teller) : Type 0 where
-  pub count : length (state_of new.ledger).plan.stages ≡ length (state_of old.ledger).plan.stages + 1
+  pub count : stages_of new.ledger ≡ stages_of old.ledger + 1
   pub room : (state_of new.ledger).plan.room + 1 ≡ (state_of old.ledger).plan.room
   pub free : new.ledger.free ≡ old.ledger.free - 1
 
@@ -123,7 +123,7 @@ stages_attached who form of function lane old new room h =
 outcome_front : (xs ys : List Stage) (i : ℕ) → i < length xs → outcome_in (xs ++ ys) i ≡ outcome_in xs i
 outcome_front xs ys i l = ap (option_and_then outcome_of) (slice_get-front xs ys i l)
 
-pub outcome_stays : (who : ℕ) (form : Form) (of : Of) (function : Option ℕ) (lane : ℕ) (old new : Teller) (i : ℕ) → 0 < (state_of old.ledger).plan.room → TellsAttach lane (Attaches who form of function) old new → i < length (state_of old.ledger).plan.stages →
+pub outcome_stays : (who : ℕ) (form : Form) (of : Of) (function : Option ℕ) (lane : ℕ) (old new : Teller) (i : ℕ) → 0 < (state_of old.ledger).plan.room → TellsAttach lane (Attaches who form of function) old new → i < stages_of old.ledger →
     outcome_in (state_of new.ledger).stages i ≡ outcome_in (state_of old.ledger).stages i
 outcome_stays who form of function lane old new i room h l =
     let s = state_of old.ledger in
@@ -139,9 +139,9 @@ AreAttaches (e ∷ events) = (who : ℕ) × (form : Form) × (of : Of) × (funct
 
 -- what a row of them does: nothing but that
 pub record AttachesRow (events : List Event) (old new : Teller) : Type 0 where
-  pub count : length (state_of new.ledger).plan.stages ≡ length (state_of old.ledger).plan.stages + length events
+  pub count : stages_of new.ledger ≡ stages_of old.ledger + length events
   pub free : old.ledger.free ≤ new.ledger.free + length events
-  pub stays : (i : ℕ) → i < length (state_of old.ledger).plan.stages → outcome_in (state_of new.ledger).stages i ≡ outcome_in (state_of old.ledger).stages i
+  pub stays : (i : ℕ) → i < stages_of old.ledger → outcome_in (state_of new.ledger).stages i ≡ outcome_in (state_of old.ledger).stages i
   pub settled : StaySettled (state_of old.ledger).stages (state_of new.ledger).stages
   pub events_are : new.ledger.events ≡ old.ledger.events ++ events
 
@@ -165,7 +165,7 @@ row_of lane (e ∷ events) old new (who, form, of, function, is, are) room (betw
       count = omega (arith, now, then);
       free = omega (arith, spent, free);
       stays = λ i l. more.stays i (omega (arith, l, now)) ∙ outcome_stays who form of function lane old between i some done l;
-      settled = λ i h. more.settled i (stay_word old between (word_of e) (ToldAttach (At (length (state_of old.ledger).plan.stages))) first.tells i h);
+      settled = λ i h. more.settled i (stay_word old between (word_of e) (ToldAttach (At (stages_of old.ledger))) first.tells i h);
       events_are = more.events_are ∙ ap (λ (l : Ledger). l.events ++ events) first.tells.does.written ∙ ap (λ (x : Event). (old.ledger.events ++ x ∷ []) ++ events) same ∙ append_assoc old.ledger.events (e ∷ []) events;
     }
 
@@ -186,7 +186,7 @@ pub kept_attach : (words : ℕ) (a r b : Teller) (events : List Event) (follows 
 kept_attach words a r b events follows deadlines own flags waiting found row machine none relays =
     let was = kept_memory words a r follows deadlines own found machine in
     let count = row.count in
-    let more : length (state_of r.ledger).plan.stages ≤ length (state_of b.ledger).plan.stages = omega (arith, count) in
+    let more : stages_of r.ledger ≤ stages_of b.ledger = omega (arith, count) in
     let none_open : NoneBehind follows (state_of r.ledger).stages = subst (λ (t : Teller). NoneBehind follows (state_of t.ledger).stages) (sym found) none in (
       record { relays = follows_word r.ledger b.ledger follows more was.relays; limits = limits_word r.ledger b.ledger deadlines more was.limits; caller = was.caller },
       none_row follows events r b row was.relays none_open,
@@ -201,7 +201,7 @@ found_none t words l = sym (ap (λ (n : ℕ). let x : Teller = record t { ledger
 
 -- a stage is attached as by its word alone
 applies_attach : (who : ℕ) (form : Form) (of : Of) (function : Option ℕ) (lane : ℕ) (m : Machine) (between : Teller) → TellsAttach lane (Attaches who form of function) m.teller between → waiting_in m ≤ free_in m → NoneBehind m.follows (state_of between.ledger).stages →
-    AppliesWord (word_of (Attaches who form of function)) lane m (ToldAttach (At (length (state_in m).plan.stages))) (record m { teller = between })
+    AppliesWord (word_of (Attaches who form of function)) lane m (ToldAttach (At (stages_in m))) (record m { teller = between })
 applies_attach who form of function lane m between done enough none =
     let few = few_relays (state_in m).stages m.follows in
     record {
@@ -232,7 +232,7 @@ calls_row lane (e ∷ events) m end (who, form, of, function, is, are) room enou
     let none_open = none_row m.follows (e ∷ []) m.teller between row there none in
     let fewer = waiting_less m.follows m.teller between row.settled in
     let next : Machine = record m { teller = between } in
-    let call : IsCall m nothing next = applies (word_of (Attaches who form of function)) lane (ToldAttach (At (length (state_in m).plan.stages))) refl (applies_attach who form of function lane m between done (omega (arith, enough)) none_open) in
+    let call : IsCall m nothing next = applies (word_of (Attaches who form of function)) lane (ToldAttach (At (stages_in m))) refl (applies_attach who form of function lane m between done (omega (arith, enough)) none_open) in
     (next, call, calls_row lane events next end are (omega (arith, room, left)) (omega (arith, enough, spent, fewer)) (follows_word m.teller.ledger between.ledger m.follows (omega (arith, now)) there) none_open rest)
 
 -- a call that finds memory

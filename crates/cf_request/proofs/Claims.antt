@@ -1,5 +1,5 @@
 -- A claim changes one stage at most, which is settled neither before nor after.
-use Rattle.std.proofs.Common.{◌≡◌, ◌≢◌, ℕ, zero, suc, ◌+◌, ◌<◌, ◌≤◌, Option, Some, true, false, List, [], ◌∷◌, length, set, refl, ap, sym, ◌∙◌, arith, subst, inl, inr, append-nil, drop}
+use Rattle.std.proofs.Common.{◌≡◌, ◌≢◌, ℕ, zero, suc, Option, Some, true, false, List, [], ◌∷◌, length, set, refl, ap, sym, ◌∙◌, arith, subst, inl, inr, append-nil, drop}
 use Rattle.std.specs.Prelude.{is_some, option_and_then, unwrap_or}
 use Rattle.std.proofs.lemmas.Bool.{cases_eq}
 use Rattle.std.proofs.lemmas.List.Elements.{All-nil}
@@ -11,11 +11,11 @@ use Rattle.cf_model.specs.declared.events.Event.TheVariants.{Claim as Claims}
 use Rattle.cf_model.specs.declared.events.Reply.{Reply}
 use Rattle.cf_model.specs.Events.{answered, claimed_by, claiming}
 use Rattle.cf_model.specs.Graphs.{stage_in}
-use Rattle.cf_model.specs.States.{State, is_ready, outcome_of}
+use Rattle.cf_model.specs.States.{State, outcome_of}
 use Rattle.cf_model.proofs.StateLemmas.{slice_get-set_other}
 use Rattle.cf_event.specs.Decoding.{event_of}
-use Rattle.cf_ledger.specs.Ledgers.{Does, Ledger, state_of}
-use Rattle.cf_request.specs.Ready.{AreFitBut, FitState, IsFit, Lanes, ReadySets, lane_of, lanes_of}
+use Rattle.cf_ledger.specs.Ledgers.{Does, Ledger, stages_of, state_of}
+use Rattle.cf_request.specs.Ready.{AreFitBut, FitState, Lanes, ReadySets, lanes_of}
 use Rattle.cf_request.specs.Telling.{AreFresh, AreSettled, IsKept, Tells, is_settled_in}
 use Rattle.cf_request.proofs.Sets.{fit_others, fit_reached_all}
 use Rattle.cf_request.proofs.Telling.{next_is, same_most, settled_more, view_of}
@@ -75,7 +75,7 @@ tells_claim old new word who i reply order count before after does is =
     record { does = does; fresh = []; are = fresh_claim old new word who i reply does is; told = sym (append-nil (drop count order)); taken = refl }
 
 -- the stage alone is left
-pub left_claim : (old new : Ledger) (word who i stages : ℕ) (reply : Reply) (r : ReadySets) → Does word old reply new → event_of word ≡ Some (Claims who i) → length (state_of old).stages ≡ length (state_of old).plan.stages → FitState (state_of old) r →
+pub left_claim : (old new : Ledger) (word who i stages : ℕ) (reply : Reply) (r : ReadySets) → Does word old reply new → event_of word ≡ Some (Claims who i) → length (state_of old).stages ≡ stages_of old → FitState (state_of old) r →
     AreFitBut (λ j. j ≡ i) (state_of new).stages (record r { of = lanes_of stages 0 r.of })
 left_claim old new word who i stages reply r does is size h =
     let s = state_of old in

@@ -1,5 +1,5 @@
 -- Composes with their relays.
-use Rattle.std.proofs.Common.{◌≡◌, ℕ, ◌+◌, ◌<◌, ◌≤◌, ◌∙◌, Bool, true, false, Option, Some, None, List, [], ◌∷◌, length, not, refl, ap, sym, arith, subst}
+use Rattle.std.proofs.Common.{◌≡◌, ℕ, ◌+◌, ◌<◌, ◌≤◌, ◌∙◌, true, false, Option, Some, None, List, [], ◌∷◌, length, not, refl, ap, sym, arith, subst}
 use Rattle.std.specs.Prelude.{Err, IfOk, Ok, OnOk, Result}
 use Rattle.std.proofs.lemmas.List.Elements.{All-cons, All-nil}
 use Rattle.cf_outcome.specs.declared.outcome.Cause.{Cause}
@@ -16,16 +16,16 @@ use Rattle.cf_model.specs.Ranges.{EventFits}
 use Rattle.cf_model.specs.States.{State, claim_at, outcome_at}
 use Rattle.cf_model.proofs.OpenClaims.{same_claim}
 use Rattle.cf_event.specs.Words.{IsEvent}
-use Rattle.cf_ledger.specs.Ledgers.{state_of}
+use Rattle.cf_ledger.specs.Ledgers.{stages_of, state_of}
 use Rattle.cf_ledger.specs.Steps.{finished_as}
 use Rattle.cf_ledger.specs.declared.step.Finish.{Finish}
 use Rattle.cf_ledger.specs.declared.step.Held.{Held}
 use Rattle.cf_request.specs.Attaching.{TellsAttaches}
 use Rattle.cf_request.specs.Composing.{FinishesClaimed, Links, HaveWords, attaches_compose, attaches_relay, composes, form_of}
 use Rattle.cf_request.specs.Lanes.{FinishesStage}
-use Rattle.cf_request.specs.Machines.{CatchesUp, IsMachine, Machine, SetsFollow, free_in, state_in, waiting_in}
+use Rattle.cf_request.specs.Machines.{CatchesUp, IsMachine, Machine, SetsFollow, free_in, stages_in, state_in, waiting_in}
 use Rattle.cf_request.specs.Ready.{HasLanes}
-use Rattle.cf_request.specs.Relays.{AreRelays, IsRelayDue, NoneBehind, waiting_of}
+use Rattle.cf_request.specs.Relays.{AreRelays, IsRelayDue, MayCatchUp, NoneBehind, open_relays, waiting_of}
 use Rattle.cf_request.specs.Rows.{AreCalls, IsCall, nothing}
 use Rattle.cf_request.specs.Rows.IsCall.{applies, sets_follow}
 use Rattle.cf_request.specs.Settling.{AreSettledInTurn, fault_event, settle_event}
@@ -35,10 +35,11 @@ use Rattle.cf_request.specs.declared.composing.Composing.{Composing}
 use Rattle.cf_request.specs.declared.composing.Composing.TheVariants.{Compose, ExceptionallyCompose}
 use Rattle.cf_request.specs.declared.deadlines.Deadline.{Deadline}
 use Rattle.cf_request.specs.declared.relays.Follow.{Follow}
+use Rattle.cf_request.specs.declared.relays.Relays.{Relays}
 use Rattle.cf_request.specs.declared.settling.Due.{Due}
 use Rattle.cf_request.proofs.Attached.{AreAttaches, AttachesRow, call_found, found_none, row_of}
 use Rattle.cf_request.proofs.Behind.{looked_held, looked_none}
-use Rattle.cf_request.proofs.Machines.{MayCatchUp, filter_push, free_found, keeps_held, kept_by, relays_later}
+use Rattle.cf_request.proofs.Machines.{filter_push, free_found, keeps_held, kept_by, relays_later}
 use Rattle.cf_request.proofs.Memory.{few_relays, relays_fewer, relays_stay, spends_held, spends_settle}
 use Rattle.cf_request.proofs.Turns.{after_event, keeps_dues}
 use Rattle.cf_request.proofs.Words.{same_lanes}
@@ -108,7 +109,7 @@ turns_spend follows who (d ∷ dues) a b (between, waits, due, did, rest) =
 -- what is as it was, and what memory is left
 pub record LeavesClaims (old new : Machine) : Type 0 where
   pub claims : (i : ℕ) → claim_at (state_in new) i ≡ claim_at (state_in old) i
-  pub count : length (state_in new).plan.stages ≡ length (state_in old).plan.stages
+  pub count : stages_in new ≡ stages_in old
   pub memory : 2 + waiting_in old ≤ free_in old → 1 + waiting_in new ≤ free_in new
 
 pub leaves_claims : (relay stage : ℕ) (old new : Machine) → SetsFollow relay stage old new → LeavesClaims old new
@@ -126,29 +127,31 @@ leaves_claims relay stage old new h =
     subst (λ (l : List Follow). length (waiting_of stages l) ≤ length (waiting_of stages old.follows) + 1) (sym h.set) (filter_push (λ (g : Follow). not (is_settled_in stages g.relay)) old.follows f) in
     record {
       claims = λ i. same_claim i (state_in old).claims (state_in new).claims claims;
-      count = keeps.count ∙ ap (λ (t : Teller). length (state_of t.ledger).plan.stages) h.finds.is;
+      count = keeps.count ∙ ap (λ (t : Teller). stages_of t.ledger) h.finds.is;
       memory = λ enough. omega (arith, enough, spent, more, waits, push);
     }
 
 -- ---- the compose is finished
 
 -- what is to hold where relays are settled
-pub may_claimed : (a b : Teller) (who : ℕ) (held : Held) (f : Finish) (row follows : List Follow) (deadlines : List Deadline) (own : ℕ) (flags : List Bool) (waiting seen : ℕ) → row ≡ follows → IsMachine a follows deadlines own →
-    NoneBehind follows (state_of a.ledger).stages → AreRelays (state_of a.ledger).stages follows flags waiting → seen ≡ length a.told → 1 + length (waiting_of (state_of a.ledger).stages follows) ≤ a.ledger.free →
-    FinishesStage who held a f b → MayCatchUp b row flags waiting seen 0
-may_claimed a b who held f row follows deadlines own flags waiting seen rows machine none relays at enough done =
+pub may_claimed : (a b : Teller) (who : ℕ) (held : Held) (f : Finish) (w : Relays) (deadlines : List Deadline) (own seen : ℕ) → IsMachine a w.follows.items deadlines own → NoneBehind w.follows.items (state_of a.ledger).stages →
+    AreRelays (state_of a.ledger).stages w.follows.items w.followed w.waiting → seen ≡ length a.told → 1 + open_relays a w ≤ a.ledger.free → FinishesStage who held a f b → MayCatchUp b w seen
+may_claimed a b who held f w deadlines own seen machine none relays at enough done =
+    let follows = w.follows.items in
     let keeps = keeps_held who (Some held) a (Some f) b done in
-    let last = relays_later (state_of a.ledger).stages (state_of b.ledger).stages follows flags waiting keeps.settled relays in
+    let last = relays_later (state_of a.ledger).stages (state_of b.ledger).stages follows w.followed w.waiting keeps.settled relays in
     let most = last.most in
     let fewer = relays_stay follows (state_of a.ledger).stages (state_of b.ledger).stages keeps.settled in
     let one = spends_held who (Some held) a (Some f) b done in
-    subst (λ (l : List Follow). MayCatchUp b l flags waiting seen 0) (sym rows) (record {
-      there = (kept_by a b follows deadlines own keeps machine).relays;
+    record {
+      settle = record {
+        there = (kept_by a b follows deadlines own keeps machine).relays;
+        counted = most;
+        memory = omega (arith, fewer, one, enough);
+      };
       marked = relays.marked;
-      seen_is = looked_held seen follows who (Some held) a (Some f) b done (looked_none seen a.told follows (state_of a.ledger).stages at none);
-      open_few = most;
-      memory = omega (arith, fewer, one, enough);
-    })
+      looked_at = looked_held seen follows who (Some held) a (Some f) b done (looked_none seen a.told follows (state_of a.ledger).stages at none);
+    }
 
 -- it is as by its word alone
 pub finishes_claimed : (who : ℕ) (composed : Composed) (m : Machine) (f : Finish) (b d : Teller) → HasLanes (state_in m) m.teller.lanes.of → FinishesStage who (record { stage = composed.stage; answer = Link composed.relay }) m.teller f b →
@@ -164,7 +167,7 @@ finishes_claimed who composed m f b d all done caught enough =
         finds = record { words = waiting_in m; enough = omega arith; few = omega (arith, few); is = found_none m.teller (waiting_in m) enough };
         between = b;
         tells = subst (λ (w : ℕ). Tells w m.teller (ToldFinish (finished_as f.late)) b) (sym done.word) done.done.tells;
-        lanes = done.done.lanes ∙ sym (same_lanes (length (state_of b.ledger).plan.stages) 0 m.teller.lanes (omega (arith, all, count)));
+        lanes = done.done.lanes ∙ sym (same_lanes (stages_of b.ledger) 0 m.teller.lanes (omega (arith, all, count)));
         catches_up = caught;
         same = refl;
       };

@@ -23,13 +23,13 @@ use Rattle.cf_model.specs.Ranges.{EventFits}
 use Rattle.cf_model.specs.States.{State, due_state, next_of, outcome_in, outcome_of}
 use Rattle.cf_model.proofs.Closed.{reached_length}
 use Rattle.cf_event.specs.Words.{IsEvent}
-use Rattle.cf_ledger.specs.Ledgers.{state_of}
+use Rattle.cf_ledger.specs.Ledgers.{stages_of, state_of}
 use Rattle.cf_request.specs.Attaching.{TellsAttach, TellsAttaches}
 use Rattle.cf_request.specs.Gathering.{GathersAsOne, GathersAtOnce, attaches, first_two, form_of, gathered, gathers, joined, joins, stages_for}
 use Rattle.cf_request.specs.Telling.{Teller, with_memory}
 use Rattle.cf_request.specs.declared.gathering.Gathering.{Gathering}
 use Rattle.cf_request.specs.declared.gathering.Gathering.TheVariants.{AllOf, AnyOf}
-use Rattle.cf_request.specs.Machines.{Machine, state_in, waiting_in}
+use Rattle.cf_request.specs.Machines.{Machine, stages_in, state_in, waiting_in}
 use Rattle.cf_request.specs.Relays.{AreThere, NoneBehind}
 use Rattle.cf_request.specs.Rows.{AreCalls, nothing}
 use Rattle.cf_request.proofs.Attached.{AreAttaches, AttachesRow, attaches_one, calls_attach, outcome_stays, row_of, stages_attached}
@@ -121,10 +121,10 @@ row_gathers who how next sources old new room tells =
 
 -- memory is found, and then each stage is attached by a call
 pub calls_gather : (who : ℕ) (how : Gathering) (sources : List ℕ) (old : Machine) (found end : Teller) (words : ℕ) → found ≡ with_memory words old.teller → stages_for sources + waiting_in old ≤ found.ledger.free → stages_for sources ≤ (state_in old).plan.room →
-    AreThere (state_in old) old.follows → NoneBehind old.follows (state_in old).stages → TellsAttaches 0 (gathers who how (length (state_in old).plan.stages) sources) found end →
+    AreThere (state_in old) old.follows → NoneBehind old.follows (state_in old).stages → TellsAttaches 0 (gathers who how (stages_in old) sources) found end →
     AreCalls old (nothing ∷ replicate (stages_for sources) nothing) (record old { teller = end })
 calls_gather who how sources old found end words is enough room there none tells =
-    let n = length (state_in old).plan.stages in
+    let n = stages_in old in
     let count = gathers_count who how n sources in
     subst (λ (k : ℕ). AreCalls old (nothing ∷ replicate k nothing) (record old { teller = end })) count
     (calls_attach 0 (gathers who how n sources) old found end words (gathers_are who how n sources) is (omega (arith, count, enough)) (omega (arith, count, room)) there none tells)
@@ -199,7 +199,7 @@ outcome_last : (xs : List Stage) (y : Stage) (n : ℕ) → length xs ≡ n → o
 outcome_last xs y n is = subst (λ (k : ℕ). outcome_in (xs ++ y ∷ []) k ≡ outcome_of y) is (ap (option_and_then outcome_of) (slice_get-seam xs y []))
 
 new_outcome : (who : ℕ) (how : Gathering) (of : Of) (old new : Teller) → 0 < (state_of old.ledger).plan.room → TellsAttach 0 (attaches who how of) old new →
-    outcome_in (state_of new.ledger).stages (length (state_of old.ledger).plan.stages) ≡ gathered how (map (outcome_in (state_of old.ledger).stages) (sources_of of))
+    outcome_in (state_of new.ledger).stages (stages_of old.ledger) ≡ gathered how (map (outcome_in (state_of old.ledger).stages) (sources_of of))
 new_outcome who how of old new room h =
     let s = state_of old.ledger in
     let y = next_of s.stages (form_of how) (sources_of of) Pending in
@@ -208,7 +208,7 @@ new_outcome who how of old new room h =
 
 -- the sources have now what they had at first
 record SameFirst (first : List Stage) (count : ℕ) (t : Teller) : Type 0 where
-  few : count ≤ length (state_of t.ledger).plan.stages
+  few : count ≤ stages_of t.ledger
   same : (i : ℕ) → i < count → outcome_in (state_of t.ledger).stages i ≡ outcome_in first i
 
 first_attach : (who : ℕ) (how : Gathering) (of : Of) (first : List Stage) (count : ℕ) (old new : Teller) → 0 < (state_of old.ledger).plan.room → TellsAttach 0 (attaches who how of) old new → SameFirst first count old → SameFirst first count new
@@ -220,11 +220,11 @@ first_attach who how of first count old new room h f =
       same = λ i l. outcome_stays who (form_of how) of None 0 old new i room h (omega (arith, l, few)) ∙ f.same i l;
     }
 
-join_has : (who : ℕ) (how : Gathering) (next before : ℕ) (sources : List ℕ) (first : List Stage) (count root : ℕ) (v : Option Outcome) (a end : Teller) → next ≡ length (state_of a.ledger).plan.stages → before + 1 ≡ next →
+join_has : (who : ℕ) (how : Gathering) (next before : ℕ) (sources : List ℕ) (first : List Stage) (count root : ℕ) (v : Option Outcome) (a end : Teller) → next ≡ stages_of a.ledger → before + 1 ≡ next →
     outcome_in (state_of a.ledger).stages before ≡ v → All (λ i. i < count) sources → SameFirst first count a → length sources ≤ (state_of a.ledger).plan.room → TellsAttaches 0 (joins who how next before sources) a end →
-    root + 1 ≡ length (state_of end.ledger).plan.stages → outcome_in (state_of end.ledger).stages root ≡ joined how v (map (outcome_in first) sources)
+    root + 1 ≡ stages_of end.ledger → outcome_in (state_of end.ledger).stages root ≡ joined how v (map (outcome_in first) sources)
 join_has who how next before [] first count root v a end at last has there f room same is =
-    let now = ap (λ (t : Teller). length (state_of t.ledger).plan.stages) same in
+    let now = ap (λ (t : Teller). stages_of t.ledger) same in
     let here : root ≡ before = omega (arith, now, at, last, is) in
     ap (λ (t : Teller). outcome_in (state_of t.ledger).stages root) same ∙ ap (outcome_in (state_of a.ledger).stages) here ∙ has
 join_has who how next before (x ∷ sources) first count root v a end at last has there f room (between, done, rest) is =
@@ -270,11 +270,11 @@ gathers_at_once who how sources root old new h =
     let more = one.count in
     let left = one.room in
     let size = length-drop 2 sources in
-    let there = rest_there sources 2 (length (state_in old).plan.stages) (length (state_in old).plan.stages) (omega arith) may.there in
-    let begin : SameFirst first (length (state_in old).plan.stages) a = record { few = omega (arith, count); same = λ i l. ap (λ (xs : List Stage). outcome_in xs i) stages } in
-    let value : outcome_in (state_of between.ledger).stages (length (state_in old).plan.stages) ≡ gathered how (take 2 (map f sources)) =
+    let there = rest_there sources 2 (stages_in old) (stages_in old) (omega arith) may.there in
+    let begin : SameFirst first (stages_in old) a = record { few = omega (arith, count); same = λ i l. ap (λ (xs : List Stage). outcome_in xs i) stages } in
+    let value : outcome_in (state_of between.ledger).stages (stages_in old) ≡ gathered how (take 2 (map f sources)) =
     ap (outcome_in (state_of between.ledger).stages) (sym count) ∙ new_outcome who how (first_two sources) a between some done
     ∙ ap (λ (xs : List Stage). gathered how (map (outcome_in xs) (sources_of (first_two sources)))) stages ∙ ap (gathered how) (two_of f sources) in
-    join_has who how (length (state_in old).plan.stages + 1) (length (state_in old).plan.stages) (drop 2 sources) first (length (state_in old).plan.stages) root (gathered how (take 2 (map f sources))) between new.teller
-    (omega (arith, more, count)) refl value there (first_attach who how (first_two sources) first (length (state_in old).plan.stages) a between some done begin) (omega (arith, room, place, left, size)) tells.2 h.is_root
+    join_has who how (stages_in old + 1) (stages_in old) (drop 2 sources) first (stages_in old) root (gathered how (take 2 (map f sources))) between new.teller
+    (omega (arith, more, count)) refl value there (first_attach who how (first_two sources) first (stages_in old) a between some done begin) (omega (arith, room, place, left, size)) tells.2 h.is_root
     ∙ ap (joined how (gathered how (take 2 (map f sources)))) (rest_of f sources) ∙ gathers_as_one how (map f sources)

@@ -16,7 +16,7 @@ use Rattle.cf_model.specs.Graphs.{stage_in}
 use Rattle.cf_model.specs.States.{State, is_ready, outcome_in, outcome_of, stage_at}
 use Rattle.cf_model.specs.declared.stage.Stage.{Stage}
 use Rattle.cf_model.specs.declared.stage.Stage.TheVariants.{Pending, Ready, Claimed, Linked, Settled}
-use Rattle.cf_ledger.specs.Ledgers.{IsShort, LedgerRefuses, state_of}
+use Rattle.cf_ledger.specs.Ledgers.{IsShort, LedgerRefuses, stages_of, state_of}
 use Rattle.cf_ledger.specs.declared.faults.LedgerFault.{LedgerFault}
 use Rattle.cf_ledger.specs.declared.faults.LedgerFault.TheVariants.{NoMemory, NoEvent, NoStage, NoRoom}
 use Rattle.cf_ledger.specs.Steps.{finished_as}
@@ -24,16 +24,17 @@ use Rattle.cf_ledger.specs.declared.step.Finish.{Finish}
 use Rattle.cf_ledger.specs.declared.step.Held.{Held}
 use Rattle.cf_ledger.specs.declared.step.Taken.{Taken}
 use Rattle.cf_request.specs.Deadlines.{Forgets, Sets}
-use Rattle.cf_request.specs.Lanes.{FinishesHeld, IsIdle, NoneReadyIn, TakesIn, ready_below}
-use Rattle.cf_request.specs.Machines.{CancelsAll, CatchesUp, GoesOn, IsMachine, IsNoWord, Machine, Refuses, open_in, state_in}
+use Rattle.cf_request.specs.Lanes.{FinishesHeld, IsIdle, NoneReadyIn, NothingIsReady, TakesIn, ready_below}
+use Rattle.cf_request.specs.Machines.{CancelsAll, CatchesUp, GoesOn, IsMachine, IsNoWord, Machine, Refuses, open_in}
 use Rattle.cf_request.specs.Ready.{Lanes, lane_of}
 use Rattle.cf_request.specs.Refusals.{AllSettled, IsCancelled, IsRefused}
-use Rattle.cf_request.specs.Relays.{AreBehindBy, AreLookedAt, AreMarked, AreRelays, AreThere, IsRelayDue, IsRelayOr, NoneBehind, is_in_flags, waiting_of}
+use Rattle.cf_request.specs.Relays.{AreBehindBy, AreMarked, AreRelays, IsRelayDue, IsRelayOr, MayCatchUp, MayCatchUpWith, NoneBehind, is_in_flags, open_relays, waiting_of}
 use Rattle.cf_request.specs.Settling.{SettlesDue}
 use Rattle.cf_request.specs.Telling.{Teller, Tells, TellsEvent, is_settled_in, with_memory}
 use Rattle.cf_request.specs.declared.deadlines.Deadline.{Deadline}
 use Rattle.cf_request.specs.declared.machine.Next.{Next}
 use Rattle.cf_request.specs.declared.relays.Follow.{Follow}
+use Rattle.cf_request.specs.declared.relays.Relays.{Relays}
 use Rattle.cf_request.specs.declared.settling.Due.{Due}
 use Rattle.cf_request.proofs.Lists.{weigh}
 use Rattle.cf_request.proofs.Memory.{relays_stay, spends_held, spends_word}
@@ -90,31 +91,28 @@ relays_later old new follows flags waiting stay h = record {
   few = h.few;
 }
 
--- what is to hold where relays are settled
-pub record MayCatchUp (t : Teller) (follows : List Follow) (flags : List Bool) (waiting seen words : ℕ) : Type 0 where
-  pub there : AreThere (state_of t.ledger) follows
-  pub marked : AreMarked flags follows
-  pub seen_is : AreLookedAt seen t.told follows (state_of t.ledger).stages
-  pub open_few : length (waiting_of (state_of t.ledger).stages follows) ≤ waiting
-  pub memory : words + length (waiting_of (state_of t.ledger).stages follows) ≤ t.ledger.free
-
-none_found : (words : ℕ) (a r : Teller) (follows : List Follow) → r ≡ with_memory words a → NoneBehind follows (state_of a.ledger).stages → NoneBehind follows (state_of r.ledger).stages
+pub none_found : (words : ℕ) (a r : Teller) (follows : List Follow) → r ≡ with_memory words a → NoneBehind follows (state_of a.ledger).stages → NoneBehind follows (state_of r.ledger).stages
 none_found words a r follows is h = subst (λ (t : Teller). NoneBehind follows (state_of t.ledger).stages) (sym is) h
 
-pub may_word : (words : ℕ) (a r b : Teller) (word : ℕ) (reply : Reply) (row follows : List Follow) (deadlines : List Deadline) (own : ℕ) (flags : List Bool) (waiting seen : ℕ) → row ≡ follows → IsMachine a follows deadlines own →
-    NoneBehind follows (state_of a.ledger).stages → AreRelays (state_of a.ledger).stages follows flags waiting → r ≡ with_memory words a → seen ≡ length r.told → waiting ≤ r.ledger.free - 1 → Tells word r reply b → MayCatchUp b row flags waiting seen 0
-may_word words a r b word reply row follows deadlines own flags waiting seen rows machine none relays found at enough tells =
+pub may_word : (words : ℕ) (a r b : Teller) (word : ℕ) (reply : Reply) (w : Relays) (deadlines : List Deadline) (own seen : ℕ) → IsMachine a w.follows.items deadlines own → NoneBehind w.follows.items (state_of a.ledger).stages →
+    AreRelays (state_of a.ledger).stages w.follows.items w.followed w.waiting → r ≡ with_memory words a → seen ≡ length r.told → w.waiting ≤ r.ledger.free - 1 → Tells word r reply b → MayCatchUp b w seen
+may_word words a r b word reply w deadlines own seen machine none relays found at enough tells =
+    let follows = w.follows.items in
+    let flags = w.followed in
+    let waiting = w.waiting in
     let first = relays_later (state_of a.ledger).stages (state_of r.ledger).stages follows flags waiting (keeps_memory words a r found).settled relays in
     let last = relays_later (state_of r.ledger).stages (state_of b.ledger).stages follows flags waiting (stay_word r b word reply tells) first in
     let most = last.most in
     let one = spends_word word r b reply tells in
-    subst (λ (l : List Follow). MayCatchUp b l flags waiting seen 0) (sym rows) (record {
-      there = (kept_word words a r b word reply follows deadlines own machine found tells).relays;
+    record {
+      settle = record {
+        there = (kept_word words a r b word reply follows deadlines own machine found tells).relays;
+        counted = most;
+        memory = omega (arith, most, one, enough);
+      };
       marked = relays.marked;
-      seen_is = looked_word seen follows r b word reply tells (looked_none seen r.told follows (state_of r.ledger).stages at (none_found words a r follows found none));
-      open_few = most;
-      memory = omega (arith, most, one, enough);
-    })
+      looked_at = looked_word seen follows r b word reply tells (looked_none seen r.told follows (state_of r.ledger).stages at (none_found words a r follows found none));
+    }
 
 pub free_found : (words : ℕ) (a r : Teller) → r ≡ with_memory words a → a.ledger.free ≤ r.ledger.free
 free_found words a r is = let same = ap (λ (t : Teller). t.ledger.free) is in let more = le-max_left a.ledger.free words in omega (arith, same, more)
@@ -127,38 +125,31 @@ no_word words word m r NoStage is refused short = subst (λ (t : Teller). Ledger
 no_word words word m r NoRoom is refused short = subst (λ (t : Teller). LedgerRefuses (state_of t.ledger) word NoRoom) is refused
 
 -- what is kept, once relays are settled
-pub kept_all : (P : State → Due → Type 0) (who : ℕ) (a b : Teller) (row follows : List Follow) (deadlines : List Deadline) (own : ℕ) (flags : List Bool) (waiting now : ℕ) (stages : List Stage) → row ≡ follows → SettlesDue P who a b →
-    IsMachine a follows deadlines own → AreRelays stages follows flags waiting → NoneBehind row (state_of b.ledger).stages → length (waiting_of (state_of b.ledger).stages row) ≤ now → now ≤ waiting →
-    IsMachine b follows deadlines own × NoneBehind follows (state_of b.ledger).stages × AreRelays (state_of b.ledger).stages follows flags now
-kept_all P who a b row follows deadlines own flags waiting now stages rows h m relays none most fewer =
+pub kept_all : (own : ℕ) (a b : Teller) (w : Relays) (deadlines : List Deadline) (now : ℕ) (stages : List Stage) → CatchesUp own w.follows.items a b → IsMachine a w.follows.items deadlines own →
+    AreRelays stages w.follows.items w.followed w.waiting → open_relays b w ≤ now → now ≤ w.waiting →
+    IsMachine b w.follows.items deadlines own × NoneBehind w.follows.items (state_of b.ledger).stages × AreRelays (state_of b.ledger).stages w.follows.items w.followed now
+kept_all own a b w deadlines now stages h m relays most fewer =
     let few = relays.few in (
-      kept_dues P who a b follows deadlines own h m,
-      subst (λ (l : List Follow). NoneBehind l (state_of b.ledger).stages) rows none,
-      record { flags = relays.flags; marked = relays.marked; most = subst (λ (l : List Follow). length (waiting_of (state_of b.ledger).stages l) ≤ now) rows most; few = omega (arith, few, fewer) },
+      kept_dues (IsRelayDue w.follows.items) own a b w.follows.items deadlines own h.settles m,
+      h.none,
+      record { flags = relays.flags; marked = relays.marked; most = most; few = omega (arith, few, fewer) },
     )
 
-pub kept_rest : (P : State → Due → Type 0) (who words : ℕ) (a r b : Teller) (row follows : List Follow) (deadlines : List Deadline) (own : ℕ) (flags : List Bool) (waiting : ℕ) → row ≡ follows → r ≡ with_memory words a → SettlesDue P who r b →
-    IsMachine a follows deadlines own → AreRelays (state_of a.ledger).stages follows flags waiting → NoneBehind row (state_of b.ledger).stages →
-    IsMachine b follows deadlines own × NoneBehind follows (state_of b.ledger).stages × AreRelays (state_of b.ledger).stages follows flags waiting
-kept_rest P who words a r b row follows deadlines own flags waiting rows found h m relays none = (
-  kept_dues P who r b follows deadlines own h (kept_memory words a r follows deadlines own found m),
-  subst (λ (l : List Follow). NoneBehind l (state_of b.ledger).stages) rows none,
-  relays_later (state_of a.ledger).stages (state_of b.ledger).stages follows flags waiting (keeps_then a r b (keeps_memory words a r found) (keeps_dues P who r b h)).settled relays,
+pub kept_rest : (P : State → Due → Type 0) (who words : ℕ) (a r b : Teller) (w : Relays) (deadlines : List Deadline) (own : ℕ) → r ≡ with_memory words a → SettlesDue P who r b →
+    IsMachine a w.follows.items deadlines own → AreRelays (state_of a.ledger).stages w.follows.items w.followed w.waiting → NoneBehind w.follows.items (state_of b.ledger).stages →
+    IsMachine b w.follows.items deadlines own × NoneBehind w.follows.items (state_of b.ledger).stages × AreRelays (state_of b.ledger).stages w.follows.items w.followed w.waiting
+kept_rest P who words a r b w deadlines own found h m relays none = (
+  kept_dues P who r b w.follows.items deadlines own h (kept_memory words a r w.follows.items deadlines own found m),
+  none,
+  relays_later (state_of a.ledger).stages (state_of b.ledger).stages w.follows.items w.followed w.waiting (keeps_then a r b (keeps_memory words a r found) (keeps_dues P who r b h)).settled relays,
 )
-
--- what is to hold where stages are settled that are due
-pub marked_row : (row follows : List Follow) (flags : List Bool) → row ≡ follows → AreMarked flags follows → AreMarked flags row
-marked_row row follows flags rows h = subst (λ (l : List Follow). AreMarked flags l) (sym rows) h
-
-pub none_row : (words : ℕ) (a r : Teller) (row follows : List Follow) → row ≡ follows → r ≡ with_memory words a → NoneBehind follows (state_of a.ledger).stages → NoneBehind row (state_of r.ledger).stages
-none_row words a r row follows rows found h = subst (λ (l : List Follow). NoneBehind l (state_of r.ledger).stages) (sym rows) (none_found words a r follows found h)
 
 -- ---- one more relay
 
-pub kept_follow : (t : Teller) (follows : List Follow) (deadlines : List Deadline) (own : ℕ) (f : Follow) → IsMachine t follows deadlines own → f.relay < length (state_of t.ledger).plan.stages →
-    f.stage < length (state_of t.ledger).plan.stages → IsMachine t (follows ++ f ∷ []) deadlines own
+pub kept_follow : (t : Teller) (follows : List Follow) (deadlines : List Deadline) (own : ℕ) (f : Follow) → IsMachine t follows deadlines own → f.relay < stages_of t.ledger →
+    f.stage < stages_of t.ledger → IsMachine t (follows ++ f ∷ []) deadlines own
 kept_follow t follows deadlines own f h relay stage = record {
-  relays = All-push (λ (f : Follow). (f.relay < length (state_of t.ledger).plan.stages) × (f.stage < length (state_of t.ledger).plan.stages)) follows f h.relays (relay, stage);
+  relays = All-push (λ (f : Follow). (f.relay < stages_of t.ledger) × (f.stage < stages_of t.ledger)) follows f h.relays (relay, stage);
   limits = h.limits;
   caller = h.caller;
 }
@@ -189,25 +180,44 @@ relays_push stages follows flags now waiting f h l is =
     }
 
 -- what is to hold where a stage has just got a follower
-pub record MayFollow (t : Teller) (follows : List Follow) (flags : List Bool) (waiting stage : ℕ) (deadlines : List Deadline) (own : ℕ) : Type 0 where
+record MayFollowRow (t : Teller) (follows : List Follow) (flags : List Bool) (waiting stage : ℕ) (deadlines : List Deadline) (own : ℕ) : Type 0 where
   pub machine : IsMachine t follows deadlines own
   pub seen_is : AreBehindBy (stage ∷ []) follows (state_of t.ledger).stages
   pub relays : AreRelays (state_of t.ledger).stages follows flags waiting
   pub memory : length (waiting_of (state_of t.ledger).stages follows) ≤ t.ledger.free
 
-pub may_follow : (words : ℕ) (a r : Teller) (row follows : List Follow) (deadlines : List Deadline) (own : ℕ) (flags now : List Bool) (waiting : ℕ) (f : Follow) → row ≡ follows ++ f ∷ [] → IsMachine a follows deadlines own →
-    NoneBehind follows (state_of a.ledger).stages → AreRelays (state_of a.ledger).stages follows flags waiting → r ≡ with_memory words a → 1 + waiting ≤ r.ledger.free → now ≡ set flags f.stage true → f.relay < length (state_of r.ledger).plan.stages →
-    f.stage < length (state_of r.ledger).plan.stages → f.stage < length flags → MayFollow r row now (waiting + 1) f.stage deadlines own
-may_follow words a r row follows deadlines own flags now waiting f rows machine none relays found enough is relay stage flag =
+pub record MayFollow (t : Teller) (w : Relays) (stage : ℕ) (deadlines : List Deadline) (own : ℕ) : Type 0 where
+  pub machine : IsMachine t w.follows.items deadlines own
+  pub relays : AreRelays (state_of t.ledger).stages w.follows.items w.followed w.waiting
+  pub may : MayCatchUpWith t w stage
+
+may_follow_row : (words : ℕ) (a r : Teller) (follows : List Follow) (deadlines : List Deadline) (own : ℕ) (flags now : List Bool) (waiting : ℕ) (f : Follow) → IsMachine a follows deadlines own →
+    NoneBehind follows (state_of a.ledger).stages → AreRelays (state_of a.ledger).stages follows flags waiting → r ≡ with_memory words a → 1 + waiting ≤ r.ledger.free → now ≡ set flags f.stage true → f.relay < stages_of r.ledger →
+    f.stage < stages_of r.ledger → f.stage < length flags → MayFollowRow r (follows ++ f ∷ []) now (waiting + 1) f.stage deadlines own
+may_follow_row words a r follows deadlines own flags now waiting f machine none relays found enough is relay stage flag =
     let first = relays_later (state_of a.ledger).stages (state_of r.ledger).stages follows flags waiting (keeps_memory words a r found).settled relays in
     let last = relays_push (state_of r.ledger).stages follows flags now waiting f first flag is in
     let most = last.most in
-    subst (λ (l : List Follow). MayFollow r l now (waiting + 1) f.stage deadlines own) (sym rows) (record {
+    record {
       machine = kept_follow r follows deadlines own f (kept_memory words a r follows deadlines own found machine) relay stage;
       seen_is = behind_more follows f (state_of r.ledger).stages (none_found words a r follows found none);
       relays = last;
       memory = omega (arith, most, enough);
-    })
+    }
+
+-- where so many were counted, one more is
+pub may_follow : (words : ℕ) (a r : Teller) (old w : Relays) (deadlines : List Deadline) (own : ℕ) (f : Follow) → w.follows.items ≡ old.follows.items ++ f ∷ [] → w.followed ≡ set old.followed f.stage true → w.waiting ≡ old.waiting + 1 →
+    IsMachine a old.follows.items deadlines own → NoneBehind old.follows.items (state_of a.ledger).stages → AreRelays (state_of a.ledger).stages old.follows.items old.followed old.waiting → r ≡ with_memory words a →
+    1 + old.waiting ≤ r.ledger.free → f.relay < stages_of r.ledger → f.stage < stages_of r.ledger → f.stage < length old.followed → MayFollow r w f.stage deadlines own
+may_follow words a r old w deadlines own f rows marks count machine none relays found enough relay stage flag =
+    let row = subst (λ (l : List Follow). MayFollowRow r l w.followed (old.waiting + 1) f.stage deadlines own) (sym rows)
+    (may_follow_row words a r old.follows.items deadlines own old.followed w.followed old.waiting f machine none relays found enough marks relay stage flag) in
+    let most = row.relays.most in
+    record {
+      machine = row.machine;
+      relays = subst (λ (n : ℕ). AreRelays (state_of r.ledger).stages w.follows.items w.followed n) (sym count) row.relays;
+      may = record { settle = record { there = row.machine.relays; counted = omega (arith, most, count); memory = row.memory }; behind = row.seen_is };
+    }
 
 -- ---- a step of a caller
 
@@ -227,21 +237,28 @@ pub kept_finish : (words : ℕ) (a r b : Teller) (who : ℕ) (held : Option Held
 kept_finish words a r b who held finish follows deadlines own h found done =
     kept_by r b follows deadlines own (keeps_held who held r finish b done) (kept_memory words a r follows deadlines own found h)
 
-pub may_held : (words : ℕ) (a r b : Teller) (who : ℕ) (held : Option Held) (finish : Option Finish) (row follows : List Follow) (deadlines : List Deadline) (own : ℕ) (flags : List Bool) (waiting seen : ℕ) → row ≡ follows →
-    IsMachine a follows deadlines own → NoneBehind follows (state_of a.ledger).stages → AreRelays (state_of a.ledger).stages follows flags waiting → r ≡ with_memory words a → seen ≡ length r.told → 2 + waiting ≤ r.ledger.free →
-    FinishesHeld who held r finish b → MayCatchUp b row flags waiting seen 1
-may_held words a r b who held finish row follows deadlines own flags waiting seen rows machine none relays found at enough done =
+pub may_held : (words : ℕ) (a r b : Teller) (who : ℕ) (held : Option Held) (finish : Option Finish) (w : Relays) (deadlines : List Deadline) (own seen : ℕ) → IsMachine a w.follows.items deadlines own →
+    NoneBehind w.follows.items (state_of a.ledger).stages → AreRelays (state_of a.ledger).stages w.follows.items w.followed w.waiting → r ≡ with_memory words a → seen ≡ length r.told → 2 + w.waiting ≤ r.ledger.free →
+    FinishesHeld who held r finish b → MayCatchUp b w seen × (1 + open_relays b w ≤ b.ledger.free)
+may_held words a r b who held finish w deadlines own seen machine none relays found at enough done =
+    let follows = w.follows.items in
+    let flags = w.followed in
+    let waiting = w.waiting in
     let first = relays_later (state_of a.ledger).stages (state_of r.ledger).stages follows flags waiting (keeps_memory words a r found).settled relays in
     let last = relays_later (state_of r.ledger).stages (state_of b.ledger).stages follows flags waiting (keeps_held who held r finish b done).settled first in
     let most = last.most in
-    let one = spends_held who held r finish b done in
-    subst (λ (l : List Follow). MayCatchUp b l flags waiting seen 1) (sym rows) (record {
-      there = (kept_finish words a r b who held finish follows deadlines own machine found done).relays;
-      marked = relays.marked;
-      seen_is = looked_held seen follows who held r finish b done (looked_none seen r.told follows (state_of r.ledger).stages at (none_found words a r follows found none));
-      open_few = most;
-      memory = omega (arith, most, one, enough);
-    })
+    let one = spends_held who held r finish b done in (
+      record {
+        settle = record {
+          there = (kept_finish words a r b who held finish follows deadlines own machine found done).relays;
+          counted = most;
+          memory = omega (arith, most, one, enough);
+        };
+        marked = relays.marked;
+        looked_at = looked_held seen follows who held r finish b done (looked_none seen r.told follows (state_of r.ledger).stages at (none_found words a r follows found none));
+      },
+      omega (arith, most, one, enough),
+    )
 
 -- ---- no relay is behind
 
@@ -276,20 +293,9 @@ none_takes follows who lane old None new h none = subst (λ (t : Teller). NoneBe
 none_takes follows who lane old (Some t) new h none =
     none_same follows (state_of old.ledger).stages (state_of new.ledger).stages (claim_same who t.stage old new (ToldClaim (Granted t.args)) h.done) none
 
--- ---- relays are settled at last
-
-pub caught_up : (own : ℕ) (row follows : List Follow) (old new : Teller) → row ≡ follows → SettlesDue (IsRelayDue row) own old new → NoneBehind row (state_of new.ledger).stages → CatchesUp own follows old new
-caught_up own row follows old new is settles none =
-    subst (λ (l : List Follow). CatchesUp own l old new) is (record { settles = settles; none = none })
-
-pub kept_none : (P : State → Due → Type 0) (who : ℕ) (a b : Teller) (row follows : List Follow) (deadlines : List Deadline) (own : ℕ) → SettlesDue P who a b → IsMachine a follows deadlines own → row ≡ follows →
-    NoneBehind row (state_of b.ledger).stages → IsMachine b follows deadlines own × NoneBehind follows (state_of b.ledger).stages
-kept_none P who a b row follows deadlines own h m is none =
-    (kept_dues P who a b follows deadlines own h m, subst (λ (l : List Follow). NoneBehind l (state_of b.ledger).stages) is none)
-
 -- ---- what is set
 
-pub kept_set : (t : Teller) (follows : List Follow) (old new : List Deadline) (own : ℕ) (d : Deadline) → IsMachine t follows old own → d.stage < length (state_of t.ledger).plan.stages →
+pub kept_set : (t : Teller) (follows : List Follow) (old new : List Deadline) (own : ℕ) (d : Deadline) → IsMachine t follows old own → d.stage < stages_of t.ledger →
     Sets (state_of t.ledger).stages d old new → IsMachine t follows new own
 kept_set t follows old new own d h l sets = record {
   relays = h.relays;
@@ -307,24 +313,22 @@ kept_left t follows old new own h forgets = record {
 
 -- ---- stages that end at once
 
-pub refuses_is : (m : Machine) (b e : Teller) (follows : List Follow) (lane code words : ℕ) → follows ≡ m.follows → words ≡ open_in m → b ≡ with_memory words m.teller → NoneBehind follows (state_of e.ledger).stages →
-    NoneReadyIn (state_of e.ledger) e.lanes.of lane (length (state_of e.ledger).plan.stages) → SettlesDue (IsRelayOr follows (IsRefused b.lanes.of lane code)) m.own b e → Refuses lane code m (record m { teller = e })
-refuses_is m b e follows lane code words rows enough found behind none settles =
+pub refuses_is : (m : Machine) (b e : Teller) (lane code words : ℕ) → words ≡ open_in m → b ≡ with_memory words m.teller → NoneBehind m.follows (state_of e.ledger).stages →
+    NothingIsReady e lane → SettlesDue (IsRelayOr m.follows (IsRefused b.lanes.of lane code)) m.own b e → Refuses lane code m (record m { teller = e })
+refuses_is m b e lane code words enough found behind none settles =
     let there = found ∙ ap (λ (n : ℕ). with_memory n m.teller) enough in
     let lanes = settles.lanes ∙ ap (λ (t : Teller). t.lanes) there in
     record {
-      settles = subst (λ (t : Teller). SettlesDue (IsRelayOr m.follows (IsRefused t.lanes.of lane code)) m.own t e) there
-          (subst (λ (l : List Follow). SettlesDue (IsRelayOr l (IsRefused b.lanes.of lane code)) m.own b e) rows settles);
-      none = (subst (λ (l : List Follow). NoneBehind l (state_of e.ledger).stages) rows behind, subst (λ (l : Lanes). NoneReadyIn (state_of e.ledger) l.of lane (length (state_of e.ledger).plan.stages)) lanes none);
+      settles = subst (λ (t : Teller). SettlesDue (IsRelayOr m.follows (IsRefused t.lanes.of lane code)) m.own t e) there settles;
+      none = (behind, subst (λ (l : Lanes). NoneReadyIn (state_of e.ledger) l.of lane (stages_of e.ledger)) lanes none);
       same = refl;
     }
 
-pub cancels_is : (m : Machine) (b e : Teller) (follows : List Follow) (who words : ℕ) → follows ≡ m.follows → words ≡ open_in m → b ≡ with_memory words m.teller → who ≤ 63 → AllSettled (state_of e.ledger) →
-    SettlesDue (IsRelayOr follows IsCancelled) who b e → CancelsAll who m (record m { teller = e })
-cancels_is m b e follows who words rows enough found caller none settles = record {
+pub cancels_is : (m : Machine) (b e : Teller) (who words : ℕ) → words ≡ open_in m → b ≡ with_memory words m.teller → who ≤ 63 → AllSettled (state_of e.ledger) →
+    SettlesDue (IsRelayOr m.follows IsCancelled) who b e → CancelsAll who m (record m { teller = e })
+cancels_is m b e who words enough found caller none settles = record {
   caller = caller;
-  settles = subst (λ (t : Teller). SettlesDue (IsRelayOr m.follows IsCancelled) who t e) (found ∙ ap (λ (n : ℕ). with_memory n m.teller) enough)
-      (subst (λ (l : List Follow). SettlesDue (IsRelayOr l IsCancelled) who b e) rows settles);
+  settles = subst (λ (t : Teller). SettlesDue (IsRelayOr m.follows IsCancelled) who t e) (found ∙ ap (λ (n : ℕ). with_memory n m.teller) enough) settles;
   none = none;
   same = refl;
 }
@@ -346,8 +350,8 @@ ready_none s lanes lane (suc n) h k l on same = elim (cases_lt k n) [
       absurd (omega (arith, h, one)))
 ]
 
-pub none_idle : (lane : ℕ) (held : Option Held) (t : Teller) → IsIdle lane held t → NoneReadyIn (state_of t.ledger) t.lanes.of lane (length (state_of t.ledger).plan.stages)
-none_idle lane None t h = ready_none (state_of t.ledger) t.lanes.of lane (length (state_of t.ledger).plan.stages) h
+pub none_idle : (lane : ℕ) (held : Option Held) (t : Teller) → IsIdle lane held t → NothingIsReady t lane
+none_idle lane None t h = ready_none (state_of t.ledger) t.lanes.of lane (stages_of t.ledger) h
 none_idle lane (Some g) t h = absurd h
 
 pub goes_idle : (who lane : ℕ) (held : Option Held) (m : Machine) → IsIdle lane held m.teller → NoneBehind m.follows (state_of m.teller.ledger).stages → GoesOn who lane held m (record { finish = None; taken = None }) m
@@ -363,12 +367,12 @@ goes_idle who lane None m idle none = record {
 }
 goes_idle who lane (Some g) m idle none = absurd idle
 
-none_by : (who lane : ℕ) (t : Teller) (taken : Option Taken) (e : Teller) → TakesIn who lane t taken e → IfNone taken (NoneReadyIn (state_of e.ledger) e.lanes.of lane (length (state_of e.ledger).plan.stages))
-none_by who lane t None e h = subst (λ (x : Teller). NoneReadyIn (state_of x.ledger) x.lanes.of lane (length (state_of x.ledger).plan.stages)) (sym h.1) h.0
+none_by : (who lane : ℕ) (t : Teller) (taken : Option Taken) (e : Teller) → TakesIn who lane t taken e → IfNone taken (NothingIsReady e lane)
+none_by who lane t None e h = subst (λ (x : Teller). NothingIsReady x lane) (sym h.1) h.0
 none_by who lane t (Some g) e h = tt
 
 -- where none is told, none is ready
-pub none_left : (who lane : ℕ) (held : Option Held) (old new : Machine) (next : Next) → GoesOn who lane held old next new → IfNone next.taken (NoneReadyIn (state_in new) new.teller.lanes.of lane (length (state_in new).plan.stages))
+pub none_left : (who lane : ℕ) (held : Option Held) (old new : Machine) (next : Next) → GoesOn who lane held old next new → IfNone next.taken (NothingIsReady new.teller lane)
 none_left who lane held old new next h = none_by who lane h.between next.taken new.teller h.takes
 
 pub ok_then : {A E : Type 0} (r : Result A E) (P Q : A → Type 0) → IfOk r P → ((a : A) → P a → Q a) → IfOk r Q

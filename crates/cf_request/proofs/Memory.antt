@@ -1,5 +1,5 @@
 -- How many words may follow.
-use Rattle.std.proofs.Common.{◌≡◌, ℕ, zero, suc, ◌+◌, ◌-◌, ◌<◌, ◌≤◌, Bool, true, false, cond, not, Option, Some, None, List, [], ◌∷◌, ◌++◌, All, Contains, drop, take, take-append-drop, get_or, ◌⊎◌, length, refl, ap, ◌∙◌, arith, subst, sym, inl, inr}
+use Rattle.std.proofs.Common.{◌≡◌, ℕ, zero, suc, ◌+◌, ◌-◌, ◌<◌, ◌≤◌, Bool, true, false, cond, not, Option, Some, None, List, [], ◌∷◌, All, Contains, drop, take, take-append-drop, get_or, ◌⊎◌, length, refl, ap, ◌∙◌, arith, subst, sym, inl, inr}
 use Rattle.std.specs.Prelude.{is_some}
 use Rattle.std.specs.List.{filter}
 use Rattle.std.proofs.lemmas.Bool.{cases_lt}
@@ -12,7 +12,7 @@ use Rattle.cf_model.specs.declared.events.Reply.TheVariants.{Finish as ToldFinis
 use Rattle.cf_model.specs.declared.stage.Stage.{Stage}
 use Rattle.cf_model.specs.States.{State}
 use Rattle.cf_event.specs.Words.{word_of}
-use Rattle.cf_ledger.specs.Ledgers.{Ledger, state_of}
+use Rattle.cf_ledger.specs.Ledgers.{Ledger, stages_of, state_of}
 use Rattle.cf_ledger.specs.Steps.{finished_as}
 use Rattle.cf_ledger.specs.declared.step.Finish.{Finish}
 use Rattle.cf_ledger.specs.declared.step.Held.{Held}
@@ -229,5 +229,5 @@ stages_fewer who d old new waits h =
     let keeps = keeps_settle who d old new h in
     let before = (state_of old.ledger).stages in
     let after = (state_of new.ledger).stages in
-    let n = length (state_of old.ledger).plan.stages in
+    let n = stages_of old.ledger in
     subst (λ (m : ℕ). open_below after m < open_below before n) (sym keeps.count) (open_fewer before after keeps.settled n d.stage waits.0 waits.1 (ap is_some h.ends))

@@ -6,12 +6,12 @@ use Rattle.cf_forms.specs.Plans.{PlannedStage}
 use Rattle.cf_model.specs.declared.events.Event.{Event}
 use Rattle.cf_model.specs.States.{start}
 use Rattle.cf_model.proofs.Shape.{state_after-grows}
-use Rattle.cf_ledger.specs.Ledgers.{Ledger, state_of}
+use Rattle.cf_ledger.specs.Ledgers.{Ledger, stages_of, state_of}
 use Rattle.cf_request.specs.Ready.{FitState, HasLanes, IsFit, ReadySets, none_ready}
 use Rattle.cf_request.specs.Telling.{AreFresh, AreSettledBy, IsKept, most_stages}
 
 -- the stages of a plan stay, and with the room there are as many as ever
-pub stages_stay : (l : Ledger) → length l.plan.stages ≤ length (state_of l).plan.stages
+pub stages_stay : (l : Ledger) → length l.plan.stages ≤ stages_of l
 stages_stay l =
     let grows = state_after-grows (start l.plan) l.events in
     let stages = ap (λ (xs : List PlannedStage). length xs) grows.stages ∙ length-append l.plan.stages grows.more in
@@ -25,8 +25,8 @@ most_of l =
     omega (arith, stages, room)
 
 -- a ledger that starts again has the stages of its plan
-pub stages_again : (old new : Ledger) → new ≡ (record old { events = [] }) → length (state_of new).plan.stages ≡ length old.plan.stages
-stages_again old new is = ap (λ (l : Ledger). length (state_of l).plan.stages) is
+pub stages_again : (old new : Ledger) → new ≡ (record old { events = [] }) → stages_of new ≡ length old.plan.stages
+stages_again old new is = ap (λ (l : Ledger). stages_of l) is
 
 pub most_again : (old new : Ledger) → new ≡ (record old { events = [] }) → most_stages (state_of new) ≡ most_stages (state_of old)
 most_again old new is =
@@ -60,7 +60,7 @@ fit_again old new r r' h is places all fit =
     }
 
 -- and how many lanes of stages there are
-pub lanes_left : (old new : Ledger) (r r' : ReadySets) (n : ℕ) → new ≡ (record old { events = [] }) → HasLanes (state_of old) r.of → n ≡ length (state_of new).plan.stages → r' ≡ none_ready (take n r.of) (length r.sets) r.places → length r'.of ≡ n
+pub lanes_left : (old new : Ledger) (r r' : ReadySets) (n : ℕ) → new ≡ (record old { events = [] }) → HasLanes (state_of old) r.of → n ≡ stages_of new → r' ≡ none_ready (take n r.of) (length r.sets) r.places → length r'.of ≡ n
 lanes_left old new r r' n is all count first =
     let stages = stages_again old new is in
     let less = stages_stay old in

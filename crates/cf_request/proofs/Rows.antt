@@ -13,7 +13,7 @@ use Rattle.cf_model.specs.Claims.{is_claimable}
 use Rattle.cf_model.specs.Events.{answered}
 use Rattle.cf_model.specs.States.{State, stage_at, start}
 use Rattle.cf_event.specs.Words.{word_of}
-use Rattle.cf_ledger.specs.Ledgers.{Ledger, state_of, with_more}
+use Rattle.cf_ledger.specs.Ledgers.{Ledger, stages_of, state_of, with_more}
 use Rattle.cf_ledger.specs.Steps.{finished_as}
 use Rattle.cf_ledger.specs.declared.step.Finish.{Finish}
 use Rattle.cf_ledger.specs.declared.step.Held.{Held}
@@ -253,7 +253,7 @@ onward_to_claim who lane held old new next h =
 effect : (old new : Machine) (out : Out) → IsCall old out new → Effect old.teller out new.teller
 effect old new out (applies word lane reply none h) =
     let found = h.found in
-    let n = length (state_of h.between.ledger).plan.stages in
+    let n = stages_of h.between.ledger in
     let lanes = lanes_word n lane found.lanes h.between.lanes (h.lanes ∙ ap (λ (t : Teller). with_lane n lane t.lanes) (sym h.finds.is)) in
     quiet old.teller new.teller out none
     (onward_then old.teller found new.teller (onward_found (waiting_in old) (1 + length old.follows) old.teller found h.finds)

@@ -16,7 +16,7 @@ use Rattle.cf_model.specs.Graphs.{AreNews, stage_in}
 use Rattle.cf_model.specs.declared.events.Reply.{Reply}
 use Rattle.cf_model.specs.Events.{answered}
 use Rattle.cf_model.specs.States.{State, is_ready}
-use Rattle.cf_ledger.specs.Ledgers.{Does, Ledger, state_at, state_of}
+use Rattle.cf_ledger.specs.Ledgers.{Does, Ledger, stages_of, state_at, state_of}
 use Rattle.cf_request.specs.Lanes.{IsLowestIn, NoneReadyIn, ready_below}
 use Rattle.cf_request.specs.Ready.{AreFitBut, AreSets, FitState, HasLanes, IsFit, Lanes, ReadySets, count_of, is_in, lane_of, lanes_of, none_ready, with_lane}
 use Rattle.cf_request.proofs.Lists.{contains_cases}
@@ -232,7 +232,7 @@ lanes_count_by true stages lane lanes is low high =
     omega (arith, less, size, low, high)
 lanes_count_by false stages lane lanes is low high = let less = ltb-false (length lanes) stages is in omega (arith, less, low, high)
 
-pub lanes_reached : (old new : Ledger) (word stages lane : ℕ) (reply : Reply) (r : ReadySets) → Does word old reply new → stages ≡ length (state_of new).plan.stages → FitState (state_of old) r → HasLanes (state_of new) (lanes_of stages lane r.of)
+pub lanes_reached : (old new : Ledger) (word stages lane : ℕ) (reply : Reply) (r : ReadySets) → Does word old reply new → stages ≡ stages_of new → FitState (state_of old) r → HasLanes (state_of new) (lanes_of stages lane r.of)
 lanes_reached old new word stages lane reply r does is h =
     let less = none_lost old new word reply does in
     let more = at_most_one old new word reply does in
@@ -241,7 +241,7 @@ lanes_reached old new word stages lane reply r does is h =
 
 -- what is left, once a word is done
 pub left_by : (old new : Ledger) (word place stages lane : ℕ) (reply : Reply) (news : List ℕ) (r : ReadySets) → (does : Does word old reply new) → place ≡ length new.events - 1 → AreNews (state_at new place).stages (state_at new (place + 1)).stages news →
-    length (state_of old).stages ≡ length (state_of old).plan.stages → FitState (state_of old) r → AreFitBut (Contains news) (state_of new).stages (record r { of = lanes_of stages lane r.of })
+    length (state_of old).stages ≡ stages_of old → FitState (state_of old) r → AreFitBut (Contains news) (state_of new).stages (record r { of = lanes_of stages lane r.of })
 left_by old new word place stages lane reply news r does is are size h =
     let r' : ReadySets = record r { of = lanes_of stages lane r.of } in
     subst (λ (s : State). AreFitBut (Contains news) s.stages r') (sym (next_is old new word reply does))
@@ -249,7 +249,7 @@ left_by old new word place stages lane reply news r does is are size h =
     (fit_reached_all (state_of old) stages lane r h size))
 
 -- and once all is written
-pub fit_state : (old new : Ledger) (word stages lane : ℕ) (reply : Reply) (r r' : ReadySets) → Does word old reply new → stages ≡ length (state_of new).plan.stages → FitState (state_of old) r → r' ≡ (record r { of = lanes_of stages lane r.of; sets = r'.sets }) →
+pub fit_state : (old new : Ledger) (word stages lane : ℕ) (reply : Reply) (r r' : ReadySets) → Does word old reply new → stages ≡ stages_of new → FitState (state_of old) r → r' ≡ (record r { of = lanes_of stages lane r.of; sets = r'.sets }) →
     ((i : ℕ) → IsFit (state_of new).stages r' i) → FitState (state_of new) r'
 fit_state old new word stages lane reply r r' does is h same fit =
     let most = same_most old new word reply does in
@@ -396,7 +396,7 @@ lanes_first r r' of lanes places is same count =
 pub fit_first : (ledger : Ledger) (plan : Planned) (more : ℕ) (of : List ℕ) (lanes : ℕ) (r r' : ReadySets) → ledger ≡ (record { plan = with_room plan more; events = []; free = 0 }) → length of ≡ length plan.stages → r ≡ none_ready of lanes (length of + more) →
     r' ≡ (record r { sets = r'.sets }) → ((i : ℕ) → IsFit (state_of ledger).stages r' i) → FitState (state_of ledger) r'
 fit_first ledger plan more of lanes r r' is all first same fit =
-    let stages : length (state_of ledger).plan.stages ≡ length plan.stages = ap (λ (l : Ledger). length (state_of l).plan.stages) is in
+    let stages : stages_of ledger ≡ length plan.stages = ap (λ (l : Ledger). stages_of l) is in
     let room : (state_of ledger).plan.room ≡ more = ap (λ (l : Ledger). (state_of l).plan.room) is in
     let size = ap (λ (x : ReadySets). length x.of) same ∙ ap (λ (x : ReadySets). length x.of) first in
     let places = ap (λ (x : ReadySets). x.places) same ∙ ap (λ (x : ReadySets). x.places) first in

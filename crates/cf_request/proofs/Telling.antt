@@ -18,7 +18,7 @@ use Rattle.cf_model.specs.States.{State, outcome_in, outcome_of, start}
 use Rattle.cf_model.proofs.Histories.{state_after-append}
 use Rattle.cf_model.proofs.Moves.{keeps_outcomes}
 use Rattle.cf_model.proofs.Shape.{answered-grows}
-use Rattle.cf_ledger.specs.Ledgers.{Does, Ledger, and_event, state_at, state_of}
+use Rattle.cf_ledger.specs.Ledgers.{Does, Ledger, and_event, stages_of, state_at, state_of}
 use Rattle.cf_request.specs.Ready.{Lanes}
 use Rattle.cf_request.specs.Telling.{AreFresh, AreSettled, AreSettledBelow, AreSettledBy, IsKept, IsOnce, Teller, Tells, is_settled_in, most_stages}
 use Rattle.cf_request.proofs.Lists.{apart_append, apart_climbing, climbing_filter, climbing_push, contains_filter, few_apart}
@@ -266,7 +266,7 @@ news_there old new news less h = All-weaker (λ i. stage_in new i ≢ stage_in o
 
 -- the news of a word are stages that are there
 pub news_fit : (old new : Ledger) (word place : ℕ) (reply : Reply) (news : List ℕ) → (does : Does word old reply new) → place ≡ length new.events - 1 → AreNews (state_at new place).stages (state_at new (place + 1)).stages news →
-    length (state_of old).stages ≡ length (state_of old).plan.stages → length (state_of new).stages ≡ length (state_of new).plan.stages → All (λ i. i < length (state_of new).plan.stages) news
+    length (state_of old).stages ≡ stages_of old → length (state_of new).stages ≡ stages_of new → All (λ i. i < stages_of new) news
 news_fit old new word place reply news does is are before after =
     let next = next_is old new word reply does in
     let s = state_of old in
@@ -278,7 +278,7 @@ news_fit old new word place reply news does is are before after =
 
 -- and there are places for those that are settled
 pub news_room : (old new : Ledger) (word place : ℕ) (reply : Reply) (order news : List ℕ) (places count : ℕ) → IsKept old order places count → (does : Does word old reply new) → place ≡ length new.events - 1 →
-    AreNews (state_at new place).stages (state_at new (place + 1)).stages news → length (state_of new).stages ≡ length (state_of new).plan.stages →
+    AreNews (state_at new place).stages (state_at new (place + 1)).stages news → length (state_of new).stages ≡ stages_of new →
     length order + length (filter (is_settled_in (state_of new).stages) news) ≤ places
 news_room old new word place reply order news places count h does is are after =
     let stages = (state_of new).stages in
@@ -290,18 +290,18 @@ news_room old new word place reply order news places count h does is are after =
     let same = same_most old new word reply does in
     omega (arith, few, size, room, same, after)
 
-pub kept_new : (ledger : Ledger) (order : List ℕ) → ledger.events ≡ [] → length (state_of ledger).stages ≡ length (state_of ledger).plan.stages →
-    AreSettledBelow (length (state_of ledger).plan.stages) (state_of ledger).stages order → AreFresh [] (start ledger.plan).stages order
+pub kept_new : (ledger : Ledger) (order : List ℕ) → ledger.events ≡ [] → length (state_of ledger).stages ≡ stages_of ledger →
+    AreSettledBelow (stages_of ledger) (state_of ledger).stages order → AreFresh [] (start ledger.plan).stages order
 kept_new ledger order none size h =
     let first : state_of ledger ≡ start ledger.plan = ap (state_after (start ledger.plan)) none in
-    subst (λ (s : State). AreFresh [] s.stages order) first (fresh_all (length (state_of ledger).plan.stages) (state_of ledger).stages order size h)
+    subst (λ (s : State). AreFresh [] s.stages order) first (fresh_all (stages_of ledger) (state_of ledger).stages order size h)
 
 pub kept_first : (ledger : Ledger) (plan : Planned) (more : ℕ) (order : List ℕ) (places : ℕ) → ledger ≡ (record { plan = with_room plan more; events = []; free = 0 }) → has_place plan.stages more ≡ true →
-    length (state_of ledger).plan.stages + more ≤ places → AreFresh [] (start ledger.plan).stages order → IsKept ledger order places 0
+    stages_of ledger + more ≤ places → AreFresh [] (start ledger.plan).stages order → IsKept ledger order places 0
 kept_first ledger plan more order places is place room h =
     let none : ledger.events ≡ [] = ap (λ (l : Ledger). l.events) is in
     let most : most_stages (state_of ledger) ≡ length plan.stages + more = ap (λ (l : Ledger). most_stages (state_of l)) is in
-    let stages : length (state_of ledger).plan.stages ≡ length plan.stages = ap (λ (l : Ledger). length (state_of l).plan.stages) is in
+    let stages : stages_of ledger ≡ length plan.stages = ap (λ (l : Ledger). stages_of l) is in
     let few = (place_is plan.stages more place).0 in
     record {
       settled = record { opening = order; later = []; is = sym (append-nil order); first = h; rest = subst (λ (events : List Event). AreSettledBy (start ledger.plan) events []) (sym none) refl };

@@ -17,7 +17,7 @@ use Rattle.cf_model.specs.States.{State, after, is_ready, outcome_at, outcome_in
 use Rattle.cf_model.proofs.Closed.{reached_length}
 use Rattle.cf_model.proofs.Moves.{new_states-settled}
 use Rattle.cf_model.proofs.StateLemmas.{after-unsettled}
-use Rattle.cf_ledger.specs.Ledgers.{Ledger, state_of}
+use Rattle.cf_ledger.specs.Ledgers.{Ledger, stages_of, state_of}
 use Rattle.cf_request.specs.Deadlines.{AreSet}
 use Rattle.cf_request.specs.Ready.{Lanes}
 use Rattle.cf_request.specs.Relays.{AreThere}
@@ -103,7 +103,7 @@ StaySettled old new = (i : ℕ) → is_settled_in old i ≡ true → is_settled_
 -- what is settled stays so, and there are as many stages
 pub record Keeps (old new : Teller) : Type 0 where
   pub settled : StaySettled (state_of old.ledger).stages (state_of new.ledger).stages
-  pub count : length (state_of new.ledger).plan.stages ≡ length (state_of old.ledger).plan.stages
+  pub count : stages_of new.ledger ≡ stages_of old.ledger
   pub lanes : new.lanes ≡ old.lanes
 
 pub keeps_same : (old new : Teller) → new ≡ old → Keeps old new
@@ -147,14 +147,14 @@ pub lane_kept : (a b : Teller) (lane : ℕ) → Keeps a b → lane < a.lanes.cou
 lane_kept a b lane keeps h = subst (λ (l : Lanes). lane < l.count) (sym keeps.lanes) h
 
 -- a word leaves what is named there
-pub follows_word : (a b : Ledger) (follows : List Follow) → length (state_of a).plan.stages ≤ length (state_of b).plan.stages → AreThere (state_of a) follows → AreThere (state_of b) follows
+pub follows_word : (a b : Ledger) (follows : List Follow) → stages_of a ≤ stages_of b → AreThere (state_of a) follows → AreThere (state_of b) follows
 follows_word a b follows l there =
-    All-weaker (λ (f : Follow). (f.relay < length (state_of a).plan.stages) × (f.stage < length (state_of a).plan.stages)) (λ (f : Follow). (f.relay < length (state_of b).plan.stages) × (f.stage < length (state_of b).plan.stages))
+    All-weaker (λ (f : Follow). (f.relay < stages_of a) × (f.stage < stages_of a)) (λ (f : Follow). (f.relay < stages_of b) × (f.stage < stages_of b))
     (λ f k. (let x = k.0 in omega (arith, x, l), let y = k.1 in omega (arith, y, l))) follows there
 
-pub limits_word : (a b : Ledger) (ds : List Deadline) → length (state_of a).plan.stages ≤ length (state_of b).plan.stages → AreSet (state_of a) ds → AreSet (state_of b) ds
+pub limits_word : (a b : Ledger) (ds : List Deadline) → stages_of a ≤ stages_of b → AreSet (state_of a) ds → AreSet (state_of b) ds
 limits_word a b ds l h = record {
-  there = All-weaker (λ (d : Deadline). d.stage < length (state_of a).plan.stages) (λ (d : Deadline). d.stage < length (state_of b).plan.stages) (λ d k. omega (arith, k, l)) ds h.there;
+  there = All-weaker (λ (d : Deadline). d.stage < stages_of a) (λ (d : Deadline). d.stage < stages_of b) (λ d k. omega (arith, k, l)) ds h.there;
   in_order = h.in_order;
 }
 

@@ -11,7 +11,7 @@ use Rattle.cf_model.specs.States.{State}
 use Rattle.cf_model.proofs.Shape.{answered-grows, answered-shape}
 use Rattle.cf_event.specs.Decoding.{event_of}
 use Rattle.cf_event.specs.Words.{word_of}
-use Rattle.cf_ledger.specs.Ledgers.{Does, Ledger, state_of}
+use Rattle.cf_ledger.specs.Ledgers.{Does, Ledger, stages_of, state_of}
 use Rattle.cf_request.specs.Ready.{HasLanes, Lanes, with_lane}
 use Rattle.cf_request.specs.Telling.{Teller, Tells, TellsEvent}
 use Rattle.cf_request.proofs.Telling.{next_is}
@@ -30,12 +30,12 @@ pub same_lanes : (stages lane : ℕ) (lanes : Lanes) → length lanes.of ≡ sta
 same_lanes stages lane lanes same = same_lanes_by (nat_lt (length lanes.of) stages) stages lane lanes refl same
 
 pub event_told : (e : Event) (old new : Teller) (reply : Reply) → event_of (word_of e) ≡ Some e → is_attach e ≡ false → HasLanes (state_of old.ledger) old.lanes.of → Tells (word_of e) old reply new →
-    new.lanes ≡ with_lane (length (state_of new.ledger).plan.stages) 0 old.lanes → TellsEvent e old reply new
+    new.lanes ≡ with_lane (stages_of new.ledger) 0 old.lanes → TellsEvent e old reply new
 event_told e old new reply is isnt all h lanes =
     let same : h.does.event ≡ e = (let read = h.does.read in cc) in
     let now = ap (λ (s : State). length s.plan.stages) (next_is old.ledger new.ledger (word_of e) reply h.does) in
     let count = ap (λ (d : Event). length ((answered (state_of old.ledger) d).1.plan.stages)) same ∙ same_count e (state_of old.ledger) isnt in
-    record { read = is; tells = h; answered = h.does.told ∙ ap (answered (state_of old.ledger)) same; lanes = lanes ∙ same_lanes (length (state_of new.ledger).plan.stages) 0 old.lanes (omega (arith, all, now, count)) }
+    record { read = is; tells = h; answered = h.does.told ∙ ap (answered (state_of old.ledger)) same; lanes = lanes ∙ same_lanes (stages_of new.ledger) 0 old.lanes (omega (arith, all, now, count)) }
 
 one_more : (room : ℕ) (s : State) (new : PlannedStage) → length ((attached_by room s new).1.plan.stages) ≤ length s.plan.stages + 1
 one_more zero s new = omega arith
@@ -55,7 +55,7 @@ few_more (Ticks who now) s = same_few (Ticks who now) s refl
 few_more (Attaches who form of function) s = one_more s.plan.room s (attached_stage form of function)
 
 -- a word leaves all stages there
-pub none_lost : (old new : Ledger) (word : ℕ) (reply : Reply) → Does word old reply new → length (state_of old).plan.stages ≤ length (state_of new).plan.stages
+pub none_lost : (old new : Ledger) (word : ℕ) (reply : Reply) → Does word old reply new → stages_of old ≤ stages_of new
 none_lost old new word reply does =
     let grows = answered-grows (state_of old) does.event in
     let more = ap (λ (l : List PlannedStage). length l) grows.stages ∙ length-append (state_of old).plan.stages grows.more in
@@ -63,7 +63,7 @@ none_lost old new word reply does =
     omega (arith, more, now)
 
 -- and attaches at most one
-pub at_most_one : (old new : Ledger) (word : ℕ) (reply : Reply) → Does word old reply new → length (state_of new).plan.stages ≤ length (state_of old).plan.stages + 1
+pub at_most_one : (old new : Ledger) (word : ℕ) (reply : Reply) → Does word old reply new → stages_of new ≤ stages_of old + 1
 at_most_one old new word reply does =
     let few = few_more does.event (state_of old) in
     let now = ap (λ (s : State). length s.plan.stages) (next_is old new word reply does) in

@@ -1,19 +1,19 @@
 -- Stages that are attached by words of a caller.
-use Rattle.std.specs.Prelude.{◌≡◌, ℕ, Some, List, [], ◌∷◌, length}
+use Rattle.std.specs.Prelude.{◌≡◌, ℕ, Some, List, [], ◌∷◌}
 use Rattle.cf_model.specs.declared.events.Event.{Event}
 use Rattle.cf_model.specs.declared.events.Reply.TheVariants.{Attach as ToldAttach}
 use Rattle.cf_model.specs.declared.replies.Attached.TheVariants.{At}
 use Rattle.cf_event.specs.Decoding.{event_of}
 use Rattle.cf_event.specs.Words.{word_of}
-use Rattle.cf_ledger.specs.Ledgers.{state_of}
+use Rattle.cf_ledger.specs.Ledgers.{stages_of}
 use Rattle.cf_request.specs.Ready.{with_lane}
 use Rattle.cf_request.specs.Telling.{Teller, Tells}
 
 -- an event is done by its word, which is read as this event, and attaches the next stage, in a lane
 pub record TellsAttach (lane : ℕ) (event : Event) (old new : Teller) : Type 0 where
   pub read : event_of (word_of event) ≡ Some event
-  pub tells : Tells (word_of event) old (ToldAttach (At (length (state_of old.ledger).plan.stages))) new
-  pub lanes : new.lanes ≡ with_lane (length (state_of new.ledger).plan.stages) lane old.lanes
+  pub tells : Tells (word_of event) old (ToldAttach (At (stages_of old.ledger))) new
+  pub lanes : new.lanes ≡ with_lane (stages_of new.ledger) lane old.lanes
 
 -- these are done so, one after another
 abbrev pub TellsAttaches : ℕ → List Event → Teller → Teller → Type 0

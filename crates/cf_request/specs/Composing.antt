@@ -16,7 +16,7 @@ use Rattle.cf_ledger.specs.declared.faults.StepFault.{StepFault}
 use Rattle.cf_ledger.specs.declared.faults.StepFault.TheVariants as steps
 use Rattle.cf_ledger.specs.declared.step.Finish.{Finish}
 use Rattle.cf_request.specs.Attaching.{TellsAttaches}
-use Rattle.cf_request.specs.Machines.{AppliesWord, Finds, Machine, NoRelayFits, SetsFollow, free_in, state_in, waiting_in}
+use Rattle.cf_request.specs.Machines.{AppliesWord, FindsFor, IsShortFor, Machine, NoRelayFits, OnlyTeller, SetsFollow, stages_in, state_in}
 use Rattle.cf_request.specs.Telling.{Teller}
 use Rattle.cf_request.specs.declared.composing.Composed.{Composed}
 use Rattle.cf_request.specs.declared.composing.Composing.{Composing}
@@ -43,11 +43,11 @@ composes who how source function = attaches_relay who ∷ attaches_compose who h
 -- memory is found for both and for each relay that is open; both are attached in a lane, the relay first, and nothing else is done
 pub record Composes (who : ℕ) (how : Composing) (source function lane : ℕ) (old : Machine) (composed : Composed) (new : Machine) : Type 0 where
   pub found : Teller
-  pub finds : Finds (2 + waiting_in old) (2 + length old.follows) old.teller found
+  pub finds : FindsFor 2 old found
   pub tells : TellsAttaches lane (composes who how source function) found new.teller
-  pub relay : composed.relay ≡ length (state_in old).plan.stages
-  pub stage : composed.stage ≡ length (state_in old).plan.stages + 1
-  pub same : new ≡ record old { teller = new.teller }
+  pub relay : composed.relay ≡ stages_in old
+  pub stage : composed.stage ≡ stages_in old + 1
+  pub same : OnlyTeller old new
 
 -- the caller and the function have words
 abbrev pub HaveWords : ℕ → ℕ → Type 0
@@ -68,7 +68,7 @@ MayNotCompose who source function s NoRoom = HaveWords who function × (source <
 
 -- and want of memory is the last
 abbrev pub IsNoCompose : ℕ → ℕ → ℕ → Machine → LedgerFault → Type 0
-IsNoCompose who source function m NoMemory = MayCompose who source function (state_in m) × (free_in m < 2 + length m.follows)
+IsNoCompose who source function m NoMemory = MayCompose who source function (state_in m) × IsShortFor 2 m
 IsNoCompose who source function m fault = MayNotCompose who source function (state_in m) fault
 
 -- ---- a compose that is finished with any stage
@@ -87,7 +87,7 @@ pub record LinksFound (who : ℕ) (composed : Composed) (stage : ℕ) (old : Mac
 -- and before that memory is found for both words and for each relay that is open
 pub record Links (who : ℕ) (composed : Composed) (stage : ℕ) (old : Machine) (finish : Finish) (new : Machine) : Type 0 where
   pub found : Teller
-  pub finds : Finds (2 + waiting_in old) (2 + length old.follows) old.teller found
+  pub finds : FindsFor 2 old found
   pub linked : LinksFound who composed stage (record old { teller = found }) finish new
 
 -- the relay is below the compose, and both and the stage are there
@@ -109,7 +109,7 @@ MayNotLink who composed stage s steps.NotHeld = (who ≤ 63) × AreStages compos
 
 -- too little memory was found for the words, or there is no place for the relay
 abbrev pub IsShortToLink : Machine → Type 0
-IsShortToLink m = (free_in m < 2 + length m.follows) ⊎ NoRelayFits m
+IsShortToLink m = IsShortFor 2 m ⊎ NoRelayFits m
 
 -- and want of memory is the last
 abbrev pub IsNoLink : ℕ → Composed → ℕ → Machine → StepFault → Type 0

@@ -12,7 +12,7 @@ use Rattle.cf_model.specs.States.{State, due_state, outcome_in, outcome_of}
 use Rattle.cf_ledger.specs.declared.faults.LedgerFault.{LedgerFault}
 use Rattle.cf_ledger.specs.declared.faults.LedgerFault.TheVariants.{NoMemory, NoEvent, NoStage, NoRoom}
 use Rattle.cf_request.specs.Attaching.{TellsAttaches}
-use Rattle.cf_request.specs.Machines.{Finds, Machine, free_in, state_in, waiting_in}
+use Rattle.cf_request.specs.Machines.{FindsFor, IsShortFor, Machine, OnlyTeller, stages_in, state_in}
 use Rattle.cf_request.specs.Telling.{Teller}
 use Rattle.cf_request.specs.declared.gathering.Gathering.{Gathering}
 use Rattle.cf_request.specs.declared.gathering.Gathering.TheVariants.{AllOf, AnyOf}
@@ -59,10 +59,10 @@ pub record MayGather (who : ℕ) (sources : List ℕ) (s : State) : Type 0 where
 pub record Gathers (who : ℕ) (how : Gathering) (sources : List ℕ) (old : Machine) (root : ℕ) (new : Machine) : Type 0 where
   pub may : MayGather who sources (state_in old)
   pub found : Teller
-  pub finds : Finds (stages_for sources + waiting_in old) (stages_for sources + length old.follows) old.teller found
-  pub tells : TellsAttaches 0 (gathers who how (length (state_in old).plan.stages) sources) found new.teller
-  pub is_root : root + 1 ≡ length (state_in new).plan.stages
-  pub same : new ≡ record old { teller = new.teller }
+  pub finds : FindsFor (stages_for sources) old found
+  pub tells : TellsAttaches 0 (gathers who how (stages_in old) sources) found new.teller
+  pub is_root : root + 1 ≡ stages_in new
+  pub same : OnlyTeller old new
 
 -- ---- why nothing is gathered
 
@@ -75,7 +75,7 @@ MayNotGather who sources s NoRoom = (who ≤ 63) × All (λ i. i < length s.plan
 
 -- and want of memory is the last
 abbrev pub IsNoGather : ℕ → List ℕ → Machine → LedgerFault → Type 0
-IsNoGather who sources m NoMemory = MayGather who sources (state_in m) × (free_in m < stages_for sources + length m.follows)
+IsNoGather who sources m NoMemory = MayGather who sources (state_in m) × IsShortFor (stages_for sources) m
 IsNoGather who sources m fault = MayNotGather who sources (state_in m) fault
 
 -- ---- what the root has

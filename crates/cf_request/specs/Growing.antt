@@ -1,8 +1,8 @@
 -- Room for more stages.
-use Rattle.std.specs.Prelude.{◌≡◌, ◌⊎◌, ℕ, ◌+◌, ◌<◌, ◌≤◌, true, length, max}
+use Rattle.std.specs.Prelude.{◌≡◌, ◌⊎◌, ℕ, ◌+◌, ◌<◌, ◌≤◌, true, max}
 use Rattle.cf_forms.specs.Plans.{has_place}
 use Rattle.cf_model.specs.States.{start}
-use Rattle.cf_ledger.specs.Ledgers.{AreTaken, Ledger, roomier, state_of, with_more}
+use Rattle.cf_ledger.specs.Ledgers.{AreTaken, Ledger, roomier, stages_of, with_more}
 use Rattle.cf_request.specs.Machines.{Machine, state_in}
 use Rattle.cf_request.specs.declared.faults.MachineFault.{MachineFault}
 use Rattle.cf_request.specs.declared.faults.MachineFault.TheVariants.{NoMemory, NoStage, Past, Full}
@@ -15,7 +15,7 @@ HasPlaceFor l more = has_place l.plan.stages (l.plan.room + more) ≡ true
 
 -- as many stages more as there are, and at least 16
 abbrev pub wanted_in : Ledger → ℕ
-wanted_in l = max (length (state_of l).plan.stages) 16
+wanted_in l = max (stages_of l) 16
 
 -- so many, or, where the plan has no place for these, as many as it has place for
 pub record IsGrowth (l : Ledger) (more : ℕ) : Type 0 where

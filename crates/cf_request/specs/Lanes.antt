@@ -7,7 +7,7 @@ use Rattle.cf_model.specs.declared.replies.Claimed.TheVariants.{Granted}
 use Rattle.cf_model.specs.Graphs.{stage_in}
 use Rattle.cf_model.specs.States.{State, is_ready}
 use Rattle.cf_event.specs.Words.{word_of}
-use Rattle.cf_ledger.specs.Ledgers.{state_of}
+use Rattle.cf_ledger.specs.Ledgers.{stages_of, state_of}
 use Rattle.cf_ledger.specs.Steps.{IsNoStep, finished_as}
 use Rattle.cf_ledger.specs.declared.faults.StepFault.{StepFault}
 use Rattle.cf_ledger.specs.declared.faults.StepFault.TheVariants.{NoMemory}
@@ -28,15 +28,23 @@ pub record IsLowestIn (s : State) (lanes : List ℕ) (lane i : ℕ) : Type 0 whe
   pub its_lane : lane_of lanes i ≡ lane
   pub first : NoneReadyIn s lanes lane i
 
+-- no stage of a lane is ready
+abbrev pub NothingIsReady : Teller → ℕ → Type 0
+NothingIsReady t lane = NoneReadyIn (state_of t.ledger) t.lanes.of lane (stages_of t.ledger)
+
 -- how many stages below a number are ready in a lane
 abbrev pub ready_below : State → List ℕ → ℕ → ℕ → ℕ
 ready_below s lanes lane zero = 0
 ready_below s lanes lane (suc k) =
     cond (is_ready (stage_in s.stages k) && (lane_of lanes k == lane)) 1 0 + ready_below s lanes lane k
 
+-- how many stages of a lane are ready
+abbrev pub ready_in : Teller → ℕ → ℕ
+ready_in t lane = ready_below (state_of t.ledger) t.lanes.of lane (stages_of t.ledger)
+
 -- nothing is held, and no stage of the lane is ready
 abbrev pub IsIdle : ℕ → Option Held → Teller → Type 0
-IsIdle lane None t = ready_below (state_of t.ledger) t.lanes.of lane (length (state_of t.ledger).plan.stages) ≡ 0
+IsIdle lane None t = ready_in t lane ≡ 0
 IsIdle lane (Some h) t = ⊥
 
 -- why what is held can't be finished: the first of a step's reasons, without want of memory
@@ -64,5 +72,5 @@ pub record TakesStage (who lane : ℕ) (old : Teller) (t : Taken) (new : Teller)
 
 -- none is claimed just where none is ready, and then nothing is done
 abbrev pub TakesIn : ℕ → ℕ → Teller → Option Taken → Teller → Type 0
-TakesIn who lane old None new = NoneReadyIn (state_of old.ledger) old.lanes.of lane (length (state_of old.ledger).plan.stages) × (new ≡ old)
+TakesIn who lane old None new = NothingIsReady old lane × (new ≡ old)
 TakesIn who lane old (Some t) new = TakesStage who lane old t new

@@ -2,7 +2,7 @@
 use Rattle.std.specs.Prelude.{◌≡◌, ℕ, ◌+◌, ◌<◌, ◌≤◌, Option, List, [], ◌∷◌, ◌++◌, length, max, take, ◌⊎◌}
 use Rattle.cf_model.specs.declared.events.Reply.{Reply}
 use Rattle.cf_model.specs.States.{State, start}
-use Rattle.cf_ledger.specs.Ledgers.{LedgerRefuses, state_of}
+use Rattle.cf_ledger.specs.Ledgers.{LedgerRefuses, stages_of, state_of}
 use Rattle.cf_ledger.specs.Steps.{IsNoStep}
 use Rattle.cf_ledger.specs.declared.faults.LedgerFault.{LedgerFault}
 use Rattle.cf_ledger.specs.declared.faults.LedgerFault.TheVariants.{NoMemory as NoMemoryForIt}
@@ -37,6 +37,10 @@ pub record Machine : Type 0 where
 abbrev pub state_in : Machine → State
 state_in m = state_of m.teller.ledger
 
+-- how many stages it has
+abbrev pub stages_in : Machine → ℕ
+stages_in m = stages_of m.teller.ledger
+
 -- for how many words memory was found
 abbrev pub free_in : Machine → ℕ
 free_in m = m.teller.ledger.free
@@ -49,7 +53,7 @@ pub record IsMachine (teller : Teller) (follows : List Follow) (deadlines : List
 
 -- how many stages are open
 abbrev pub open_in : Machine → ℕ
-open_in m = open_below (state_in m).stages (length (state_in m).plan.stages)
+open_in m = open_below (state_in m).stages (stages_in m)
 
 -- no call finds memory for more words: one for each relay, each deadline, each open stage and each that may be attached, and two more
 abbrev pub most_words : Machine → ℕ
@@ -77,31 +81,55 @@ pub record CatchesUp (own : ℕ) (follows : List Follow) (old new : Teller) : Ty
   pub settles : SettlesDue (IsRelayDue follows) own old new
   pub none : NoneBehind follows (state_of new.ledger).stages
 
+-- the teller changes, and nothing else
+abbrev pub OnlyTeller : Machine → Machine → Type 0
+OnlyTeller old new = new ≡ record old { teller = new.teller }
+
+-- ---- for how many words a call finds memory
+
+-- for so many, and for one of each relay that is open, but for no more relays than were set
+abbrev pub FindsFor : ℕ → Machine → Teller → Type 0
+FindsFor count m found = Finds (count + waiting_in m) (count + length m.follows) m.teller found
+
+-- for one of each relay that is open; where none can be open, the word finds its own
+abbrev pub FindsForWord : Machine → Teller → Type 0
+FindsForWord m found = Finds (waiting_in m) (1 + length m.follows) m.teller found
+
+-- for two, but for none where nothing is held and no stage of the lane is ready
+abbrev pub FindsForStep : ℕ → Option Held → Machine → Teller → Type 0
+FindsForStep lane held m found = (IsIdle lane held m.teller × (found ≡ m.teller)) ⊎ ((¬ IsIdle lane held m.teller) × FindsFor 2 m found)
+
+-- for one of each relay that is open, and of each of so many deadlines whose stage is open
+abbrev pub words_to_pass : ℕ → Machine → ℕ
+words_to_pass come m = waiting_in m + length (open_of (state_in m).stages (take come m.deadlines))
+
+abbrev pub FindsForMoment : ℕ → Machine → Teller → Type 0
+FindsForMoment come m found = Finds (words_to_pass come m) (length m.follows + come) m.teller found
+
+-- too little was found before for so many words and one of each relay
+abbrev pub IsShortFor : ℕ → Machine → Type 0
+IsShortFor count m = free_in m < count + length m.follows
+
 -- ---- words
 
--- memory is found for each relay that is open, a word is done, then relays are settled; a stage that it attached has the lane
+-- memory is found, a word is done, and relays are settled; a stage that the word attached has the lane
 pub record AppliesWord (word lane : ℕ) (old : Machine) (reply : Reply) (new : Machine) : Type 0 where
   pub found : Teller
-  pub finds : Finds (waiting_in old) (1 + length old.follows) old.teller found
+  pub finds : FindsForWord old found
   pub between : Teller
   pub tells : Tells word found reply between
-  pub lanes : between.lanes ≡ with_lane (length (state_of between.ledger).plan.stages) lane old.teller.lanes
+  pub lanes : between.lanes ≡ with_lane (stages_of between.ledger) lane old.teller.lanes
   pub catches_up : CatchesUp old.own old.follows between new.teller
-  pub same : new ≡ record old { teller = new.teller }
+  pub same : OnlyTeller old new
 
 -- why a word isn't done: too little memory was found before, or else the first of a ledger's reasons
 abbrev pub IsNoWord : ℕ → Machine → LedgerFault → Type 0
-IsNoWord word m NoMemoryForIt = free_in m < 1 + length m.follows
+IsNoWord word m NoMemoryForIt = IsShortFor 1 m
 IsNoWord word m fault = LedgerRefuses (state_in m) word fault
 
 -- ---- a caller's step
 
--- where nothing is held and no stage of the lane is ready, no memory is found; else it is found for two words, and for each relay that is open
-abbrev pub FindsForStep : ℕ → Option Held → Machine → Teller → Type 0
-FindsForStep lane held m found =
-    (IsIdle lane held m.teller × (found ≡ m.teller)) ⊎ ((¬ IsIdle lane held m.teller) × Finds (2 + waiting_in m) (2 + length m.follows) m.teller found)
-
--- what is held is finished, relays are settled, and the next stage of the lane is claimed
+-- memory is found, what is held is finished, relays are settled, and the next stage of the lane is claimed
 pub record GoesOn (who lane : ℕ) (held : Option Held) (old : Machine) (next : Next) (new : Machine) : Type 0 where
   pub found : Teller
   pub finds : FindsForStep lane held old found
@@ -110,23 +138,27 @@ pub record GoesOn (who lane : ℕ) (held : Option Held) (old : Machine) (next : 
   pub between : Teller
   pub catches_up : CatchesUp old.own old.follows finished between
   pub takes : TakesIn who lane between next.taken new.teller
-  pub same : new ≡ record old { teller = new.teller }
+  pub same : OnlyTeller old new
 
 -- why nothing is done: something is held or ready and too little memory was found before, or else the first of a step's reasons
 abbrev pub IsNoNext : ℕ → ℕ → Option Held → Machine → StepFault → Type 0
-IsNoNext who lane held m NoMemoryForStep = (¬ IsIdle lane held m.teller) × (free_in m < 2 + length m.follows)
+IsNoNext who lane held m NoMemoryForStep = (¬ IsIdle lane held m.teller) × IsShortFor 2 m
 IsNoNext who lane held m fault = IsNoStep who held (state_in m) fault
 
 -- ---- relays
 
--- a stage follows another, behind those that do already, and relays are settled
+-- a relay and the stage that it is to follow are there
+abbrev pub AreBothThere : ℕ → ℕ → Machine → Type 0
+AreBothThere relay stage m = (relay < stages_in m) × (stage < stages_in m)
+
+-- memory is found, the relay follows the stage, behind those that were set before, and relays are settled
 pub record SetsFollow (relay stage : ℕ) (old new : Machine) : Type 0 where
-  pub there : (relay < length (state_in old).plan.stages) × (stage < length (state_in old).plan.stages)
+  pub there : AreBothThere relay stage old
   pub set : new.follows ≡ old.follows ++ (record { relay = relay; stage = stage }) ∷ []
   pub fits : length new.follows ≤ new.relay_places
   pub places : old.relay_places ≤ new.relay_places
   pub found : Teller
-  pub finds : Finds (1 + waiting_in old) (1 + length old.follows) old.teller found
+  pub finds : FindsFor 1 old found
   pub catches_up : CatchesUp old.own new.follows found new.teller
   pub same : new ≡ record old { teller = new.teller; follows = new.follows; relay_places = new.relay_places }
 
@@ -137,8 +169,8 @@ NoRelayFits m = m.relay_places ≤ length m.follows
 -- why no stage follows another: too little memory was found for the words, a stage isn't there, or there is no place for the relay
 abbrev pub IsNoFollow : ℕ → ℕ → Machine → MachineFault → Type 0
 IsNoFollow relay stage m NoMemory =
-    (free_in m < 1 + length m.follows) ⊎ ((relay < length (state_in m).plan.stages) × (stage < length (state_in m).plan.stages) × NoRelayFits m)
-IsNoFollow relay stage m NoStage = ¬ ((relay < length (state_in m).plan.stages) × (stage < length (state_in m).plan.stages))
+    IsShortFor 1 m ⊎ ((relay < stages_in m) × (stage < stages_in m) × NoRelayFits m)
+IsNoFollow relay stage m NoStage = ¬ AreBothThere relay stage m
 IsNoFollow relay stage m Past = ⊥
 IsNoFollow relay stage m Full = ⊥
 
@@ -146,7 +178,7 @@ IsNoFollow relay stage m Full = ⊥
 
 -- a deadline is set in its place
 pub record SetsDeadline (d : Deadline) (old new : Machine) : Type 0 where
-  pub there : d.stage < length (state_in old).plan.stages
+  pub there : d.stage < stages_in old
   pub sets : Sets (state_in old).stages d old.deadlines new.deadlines
   pub fits : length new.deadlines ≤ new.deadline_places
   pub places : old.deadline_places ≤ new.deadline_places
@@ -158,18 +190,18 @@ NoDeadlineFits m = (m.deadline_places ≤ length m.deadlines) × AllOpen m.deadl
 
 -- why no deadline is set: its stage isn't there, or else there is no place for it
 abbrev pub IsNoDeadline : Deadline → Machine → MachineFault → Type 0
-IsNoDeadline d m NoMemory = (d.stage < length (state_in m).plan.stages) × NoDeadlineFits m
-IsNoDeadline d m NoStage = length (state_in m).plan.stages ≤ d.stage
+IsNoDeadline d m NoMemory = (d.stage < stages_in m) × NoDeadlineFits m
+IsNoDeadline d m NoStage = stages_in m ≤ d.stage
 IsNoDeadline d m Past = ⊥
 IsNoDeadline d m Full = ⊥
 
--- stages whose moment had come are settled, and relays before them, until none is left
+-- memory is found, stages whose moment had come are settled, and relays before them, until none is left
 pub record Passes (moment : ℕ) (old new : Machine) : Type 0 where
   pub onward : old.moment ≤ moment
   pub come : ℕ
   pub are_come : AreCome moment old.deadlines come
   pub found : Teller
-  pub finds : Finds (waiting_in old + length (open_of (state_in old).stages (take come old.deadlines))) (length old.follows + come) old.teller found
+  pub finds : FindsForMoment come old found
   pub settles : SettlesDue (IsRelayOr old.follows (IsOverdue moment old.deadlines)) old.own found new.teller
   pub none : NoneLeft old.follows moment old.deadlines (state_in new).stages
   pub forgets : Forgets (state_in new).stages old.deadlines new.deadlines
@@ -179,7 +211,7 @@ pub record Passes (moment : ℕ) (old new : Machine) : Type 0 where
 pub record FindsToPass (moment : ℕ) (old new : Machine) : Type 0 where
   pub come : ℕ
   pub are_come : AreCome moment old.deadlines come
-  pub enough : waiting_in old + length (open_of (state_in old).stages (take come old.deadlines)) ≤ free_in new
+  pub enough : words_to_pass come old ≤ free_in new
 
 -- why time doesn't pass: too little memory was found before, or else the moment is before the last one
 abbrev pub IsNoPass : ℕ → Machine → MachineFault → Type 0
@@ -194,14 +226,14 @@ IsNoPass moment m Past = moment < m.moment
 pub record Refuses (lane code : ℕ) (old new : Machine) : Type 0 where
   pub settles : SettlesDue (IsRelayOr old.follows (IsRefused old.teller.lanes.of lane code)) old.own (with_memory (open_in old) old.teller) new.teller
   pub none : NoneToRefuse old.follows old.teller.lanes.of lane (state_in new)
-  pub same : new ≡ record old { teller = new.teller }
+  pub same : OnlyTeller old new
 
 -- all open stages are cancelled by a caller, and relays before them are settled in its name
 pub record CancelsAll (who : ℕ) (old new : Machine) : Type 0 where
   pub caller : who ≤ 63
   pub settles : SettlesDue (IsRelayOr old.follows IsCancelled) who (with_memory (open_in old) old.teller) new.teller
   pub none : AllSettled (state_in new)
-  pub same : new ≡ record old { teller = new.teller }
+  pub same : OnlyTeller old new
 
 -- why nothing is cancelled: too little memory was found before, or else there is no such caller
 abbrev pub IsNoCancel : ℕ → Machine → StepFault → Type 0

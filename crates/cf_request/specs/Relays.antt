@@ -1,10 +1,12 @@
 -- Stages that follow another stage of the same request.
-use Rattle.std.specs.Prelude.{◌≡◌, ◌⊎◌, ℕ, ◌<◌, ◌≤◌, Bool, true, false, Some, List, ◌∷◌, ◌++◌, All, Contains, drop, length, not, slice_index_or}
+use Rattle.std.specs.Prelude.{◌≡◌, ◌⊎◌, ℕ, ◌<◌, ◌≤◌, Bool, true, false, Some, List, [], ◌∷◌, ◌++◌, All, Contains, drop, length, not, slice_index_or}
 use Rattle.std.specs.List.{filter}
 use Rattle.cf_model.specs.declared.stage.Stage.{Stage}
 use Rattle.cf_model.specs.States.{State, outcome_in}
-use Rattle.cf_request.specs.Telling.{is_settled_in}
+use Rattle.cf_ledger.specs.Ledgers.{state_of}
+use Rattle.cf_request.specs.Telling.{Teller, is_settled_in}
 use Rattle.cf_request.specs.declared.relays.Follow.{Follow}
+use Rattle.cf_request.specs.declared.relays.Relays.{Relays}
 use Rattle.cf_request.specs.declared.settling.Due.{Due}
 
 -- the stages that they name are there
@@ -62,3 +64,26 @@ AreBehindBy news follows stages = All (λ f. is_settled_in stages f.stage ≡ tr
 pub record AreLookedAt (seen : ℕ) (told : List ℕ) (follows : List Follow) (stages : List Stage) : Type 0 where
   pub within : seen ≤ length told
   pub rest : AreBehindBy (drop seen told) follows stages
+
+-- ---- before relays are settled
+
+-- how many relays are open
+abbrev pub open_relays : Teller → Relays → ℕ
+open_relays t r = length (waiting_of (state_of t.ledger).stages r.follows.items)
+
+-- their stages are there, no more are open than are counted, and there is memory for a word of each that is
+pub record MaySettle (t : Teller) (r : Relays) : Type 0 where
+  pub there : AreThere (state_of t.ledger) r.follows.items
+  pub counted : open_relays t r ≤ r.waiting
+  pub memory : open_relays t r ≤ t.ledger.free
+
+-- a relay is behind only because of a stage that is told behind so many
+pub record MayCatchUp (t : Teller) (r : Relays) (seen : ℕ) : Type 0 where
+  pub settle : MaySettle t r
+  pub marked : AreMarked r.followed r.follows.items
+  pub looked_at : AreLookedAt seen t.told r.follows.items (state_of t.ledger).stages
+
+-- or because of one stage
+pub record MayCatchUpWith (t : Teller) (r : Relays) (stage : ℕ) : Type 0 where
+  pub settle : MaySettle t r
+  pub behind : AreBehindBy (stage ∷ []) r.follows.items (state_of t.ledger).stages

@@ -18,7 +18,7 @@ use Rattle.cf_ledger.specs.declared.step.Held.{Held}
 use Rattle.cf_ledger.specs.declared.step.Taken.{Taken}
 use Rattle.cf_request.specs.Deadlines.{Forgets}
 use Rattle.cf_request.specs.Growing.{Grows}
-use Rattle.cf_request.specs.Machines.{AppliesWord, CancelsAll, GoesOn, Machine, OnlyFinds, Passes, Refuses, Restarts, SetsDeadline, SetsFollow, state_in}
+use Rattle.cf_request.specs.Machines.{AppliesWord, CancelsAll, GoesOn, Machine, OnlyFinds, OnlyTeller, Passes, Refuses, Restarts, SetsDeadline, SetsFollow, state_in}
 use Rattle.cf_request.specs.Ready.{HasLanes, Lanes}
 use Rattle.cf_request.specs.Telling.{AreFresh, AreSettled, IsApart, IsOnce, with_memory}
 use Rattle.cf_request.specs.declared.deadlines.Deadline.{Deadline}
@@ -49,7 +49,7 @@ pub record Took (count : ℕ) (old new : Machine) : Type 0 where
   pub taken : new.teller.taken ≡ old.teller.taken ++ take count old.teller.told
   pub told : new.teller.told ≡ drop count old.teller.told
   pub lanes : new.teller.lanes ≡ old.teller.lanes
-  pub rest : new ≡ record old { teller = new.teller }
+  pub rest : OnlyTeller old new
 
 -- one call, and what it hands out
 pub data IsCall (old : Machine) (out : Out) (new : Machine) : Type 0 where

@@ -1,7 +1,7 @@
 //! Stages that are attached by words of a caller.
-ghost use Rattle.std.specs.Prelude.{◌≡◌, ◌+◌, ◌<◌, length};
+ghost use Rattle.std.specs.Prelude.{◌≡◌, ◌+◌, ◌<◌};
 ghost use Rattle.cf_event.specs.Words.{IsEvent};
-ghost use Rattle.cf_ledger.specs.Ledgers.{state_of};
+ghost use Rattle.cf_ledger.specs.Ledgers.{stages_of, state_of};
 ghost use Rattle.cf_model.specs.Ranges.{EventFits};
 ghost use Rattle.cf_request.specs.Attaching.{TellsAttach};
 
@@ -20,13 +20,13 @@ pub(crate) fn attach(
     lane: u8,
 ) -> u16
     requires is { IsEvent (Event.Attach who form of function) }
-    requires fits { EventFits (length (state_of teller.old.ledger).plan.stages) (Event.Attach who form of function) }
+    requires fits { EventFits (stages_of teller.old.ledger) (Event.Attach who form of function) }
     requires lane { lane < teller.old.lanes.count }
     requires room { 0 < (state_of teller.old.ledger).plan.room }
     requires memory { 0 < teller.old.ledger.free }
     ensures tells { TellsAttach lane (Event.Attach who form of function) teller.old teller.new }
-    ensures at { result ≡ length (state_of teller.old.ledger).plan.stages }
-    ensures next { length (state_of teller.new.ledger).plan.stages ≡ result + 1 }
+    ensures at { result ≡ stages_of teller.old.ledger }
+    ensures next { stages_of teller.new.ledger ≡ result + 1 }
     ensures room { (state_of teller.new.ledger).plan.room + 1 ≡ (state_of teller.old.ledger).plan.room }
     ensures memory { teller.new.ledger.free + 1 ≡ teller.old.ledger.free }
     ensures lanes { teller.new.lanes.count ≡ teller.old.lanes.count }

@@ -3,10 +3,10 @@
 //! A finish links a compose to a lower stage only. So a compose is attached with a source right below it, its relay. If
 //! its function answers a stage that is higher, the relay follows that stage, and the compose is finished with a link
 //! to the relay.
-ghost use Rattle.std.specs.Prelude.{◌≡◌, ◌↔◌, ◌+◌, ◌<◌, ◌≤◌, IfErr, IsTrue, OnOk, length};
-ghost use Rattle.cf_ledger.specs.Ledgers.{state_of};
+ghost use Rattle.std.specs.Prelude.{◌≡◌, ◌↔◌, ◌+◌, ◌<◌, ◌≤◌, IfErr, IsTrue, OnOk};
+ghost use Rattle.cf_ledger.specs.Ledgers.{stages_of, state_of};
 ghost use Rattle.cf_request.specs.Attaching.{TellsAttach, TellsAttaches};
-ghost use Rattle.cf_request.specs.Composing.{AreStages, HaveWords, MayCompose, MayLink, MayNotCompose, MayNotLink, attaches_compose, attaches_relay, composes, form_of};
+ghost use Rattle.cf_request.specs.Composing.{HaveWords, MayCompose, MayLink, MayNotCompose, MayNotLink, attaches_compose, attaches_relay, composes, form_of};
 
 use crate::attaching::attach;
 use crate::teller::Teller;
@@ -73,8 +73,8 @@ pub(crate) fn compose(
     requires lane { lane < teller.old.lanes.count }
     requires memory { 2 ≤ teller.old.ledger.free }
     ensures tells { TellsAttaches lane (composes who how source function) teller.old teller.new }
-    ensures relay { result.relay ≡ length (state_of teller.old.ledger).plan.stages }
-    ensures stage { result.stage ≡ length (state_of teller.old.ledger).plan.stages + 1 }
+    ensures relay { result.relay ≡ stages_of teller.old.ledger }
+    ensures stage { result.stage ≡ stages_of teller.old.ledger + 1 }
 {
     let relay = attach_relay(teller, who, lane);
     let stage = attach_compose(teller, who, how, source, function, lane);
@@ -88,8 +88,8 @@ fn attach_relay(teller: &mut Teller, who: u8, lane: u8) -> u16
     requires room { 0 < (state_of teller.old.ledger).plan.room }
     requires memory { 0 < teller.old.ledger.free }
     ensures tells { TellsAttach lane (attaches_relay who) teller.old teller.new }
-    ensures at { result ≡ length (state_of teller.old.ledger).plan.stages }
-    ensures next { length (state_of teller.new.ledger).plan.stages ≡ result + 1 }
+    ensures at { result ≡ stages_of teller.old.ledger }
+    ensures next { stages_of teller.new.ledger ≡ result + 1 }
     ensures room { (state_of teller.new.ledger).plan.room + 1 ≡ (state_of teller.old.ledger).plan.room }
     ensures memory { teller.new.ledger.free + 1 ≡ teller.old.ledger.free }
     ensures lanes { teller.new.lanes.count ≡ teller.old.lanes.count }
@@ -107,12 +107,12 @@ fn attach_compose(
     lane: u8,
 ) -> u16
     requires words { HaveWords who function }
-    requires there { source < length (state_of teller.old.ledger).plan.stages }
+    requires there { source < stages_of teller.old.ledger }
     requires lane { lane < teller.old.lanes.count }
     requires room { 0 < (state_of teller.old.ledger).plan.room }
     requires memory { 0 < teller.old.ledger.free }
     ensures tells { TellsAttach lane (attaches_compose who how source function) teller.old teller.new }
-    ensures at { result ≡ length (state_of teller.old.ledger).plan.stages }
+    ensures at { result ≡ stages_of teller.old.ledger }
 {
     // No stage's number is above 4,095.
     let _known = teller.stages();

@@ -4,7 +4,7 @@
 //! so far.
 ghost use Rattle.std.specs.Prelude.{◌≡◌, ◌↔◌, ◌+◌, ◌-◌, ◌<◌, ◌≤◌, All, IfErr, IfOk, IsTrue, length};
 ghost use Rattle.cf_forms.specs.Plans.{sources_of};
-ghost use Rattle.cf_ledger.specs.Ledgers.{state_of};
+ghost use Rattle.cf_ledger.specs.Ledgers.{stages_of, state_of};
 ghost use Rattle.cf_request.specs.Attaching.{TellsAttach, TellsAttaches};
 ghost use Rattle.cf_request.specs.Gathering.{MayGather, MayNotGather, attaches, first_two, form_of, gathers, joins, stages_for};
 
@@ -66,8 +66,8 @@ pub(crate) fn gather(teller: &mut Teller, who: u8, how: Gathering, sources: &[u1
     requires may { MayGather who sources.now (state_of teller.old.ledger) }
     requires memory { stages_for sources.now ≤ teller.old.ledger.free }
     ensures tells { TellsAttaches 0
-        (gathers who how (length (state_of teller.old.ledger).plan.stages) sources.now) teller.old teller.new }
-    ensures root { result + 1 ≡ length (state_of teller.new.ledger).plan.stages }
+        (gathers who how (stages_of teller.old.ledger) sources.now) teller.old teller.new }
+    ensures root { result + 1 ≡ stages_of teller.new.ledger }
 {
     let first = attach(teller, who, how, first_two(sources));
     join(teller, who, how, first, &sources[sources.len().min(2)..])
@@ -89,13 +89,13 @@ fn first_two(sources: &[u16]) -> Of
 /// Attaches one stage more for each of these sources, which joins it with the stage before. It tells the last one.
 fn join(teller: &mut Teller, who: u8, how: Gathering, before: u16, sources: &[u16]) -> u16
     requires caller { who ≤ 63 }
-    requires before { before + 1 ≡ length (state_of teller.old.ledger).plan.stages }
-    requires there { All (λ i. i < length (state_of teller.old.ledger).plan.stages) sources.now }
+    requires before { before + 1 ≡ stages_of teller.old.ledger }
+    requires there { All (λ i. i < stages_of teller.old.ledger) sources.now }
     requires room { length sources.now ≤ (state_of teller.old.ledger).plan.room }
     requires memory { length sources.now ≤ teller.old.ledger.free }
     ensures tells { TellsAttaches 0
-        (joins who how (length (state_of teller.old.ledger).plan.stages) before sources.now) teller.old teller.new }
-    ensures root { result + 1 ≡ length (state_of teller.new.ledger).plan.stages }
+        (joins who how (stages_of teller.old.ledger) before sources.now) teller.old teller.new }
+    ensures root { result + 1 ≡ stages_of teller.new.ledger }
 {
     let mut root = before;
     for source in sources {
@@ -107,12 +107,12 @@ fn join(teller: &mut Teller, who: u8, how: Gathering, before: u16, sources: &[u1
 /// Attaches one stage over these, where memory was found for a word.
 fn attach(teller: &mut Teller, who: u8, how: Gathering, of: Of) -> u16
     requires caller { who ≤ 63 }
-    requires there { All (λ i. i < length (state_of teller.old.ledger).plan.stages) (sources_of of) }
+    requires there { All (λ i. i < stages_of teller.old.ledger) (sources_of of) }
     requires room { 0 < (state_of teller.old.ledger).plan.room }
     requires memory { 0 < teller.old.ledger.free }
     ensures tells { TellsAttach 0 (attaches who how of) teller.old teller.new }
-    ensures at { result ≡ length (state_of teller.old.ledger).plan.stages }
-    ensures next { length (state_of teller.new.ledger).plan.stages ≡ result + 1 }
+    ensures at { result ≡ stages_of teller.old.ledger }
+    ensures next { stages_of teller.new.ledger ≡ result + 1 }
     ensures room { (state_of teller.new.ledger).plan.room + 1 ≡ (state_of teller.old.ledger).plan.room }
     ensures memory { teller.new.ledger.free + 1 ≡ teller.old.ledger.free }
 {

@@ -1,8 +1,8 @@
 //! A caller's step: it finishes what it holds, and claims what its lane has.
-ghost use Rattle.std.specs.Prelude.{◌≡◌, ◌↔◌, ◌<◌, ◌≤◌, IfErr, IsTrue, OnOk, Some, length, true};
+ghost use Rattle.std.specs.Prelude.{◌≡◌, ◌↔◌, ◌<◌, ◌≤◌, IfErr, IsTrue, OnOk, Some, true};
 ghost use Rattle.cf_event.specs.Words.{word_of};
 ghost use Rattle.cf_forms.specs.Plans.{function_at};
-ghost use Rattle.cf_ledger.specs.Ledgers.{state_of};
+ghost use Rattle.cf_ledger.specs.Ledgers.{stages_of, state_of};
 ghost use Rattle.cf_ledger.specs.Steps.{IsHeld};
 ghost use Rattle.cf_model.specs.Graphs.{stage_in};
 ghost use Rattle.cf_model.specs.States.{claim_at, is_ready};
@@ -77,7 +77,7 @@ pub(crate) fn finish_held(teller: &mut Teller, who: u8, held: Option<Held>) -> O
 #[inline(always)]
 pub(crate) fn finish(teller: &mut Teller, who: u8, held: Held) -> Finish
     requires caller { who ≤ 63 }
-    requires there { held.stage < length (state_of teller.old.ledger).plan.stages }
+    requires there { held.stage < stages_of teller.old.ledger }
     requires held { claim_at (state_of teller.old.ledger) held.stage ≡ Some who }
     requires memory { 0 < teller.old.ledger.free }
     ensures { FinishesStage who held teller.old result teller.new }
@@ -114,7 +114,7 @@ pub(crate) fn take(teller: &mut Teller, who: u8, lane: u8) -> Option<Taken>
 #[inline(always)]
 fn claim(teller: &mut Teller, who: u8, stage: u16) -> Taken
     requires caller { who ≤ 63 }
-    requires there { stage < length (state_of teller.old.ledger).plan.stages }
+    requires there { stage < stages_of teller.old.ledger }
     requires ready { is_ready (stage_in (state_of teller.old.ledger).stages stage) ≡ true }
     requires memory { 0 < teller.old.ledger.free }
     ensures stage { result.stage ≡ stage }

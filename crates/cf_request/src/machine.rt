@@ -6,9 +6,9 @@ ghost use Rattle.cf_request.specs.Composing.{Composes, FinishesClaimed, Links, I
 ghost use Rattle.cf_request.specs.Deadlines.{AreInOrder, Forgets, IsNextDue, NoneOpen};
 ghost use Rattle.cf_request.specs.Gathering.{Gathers, IsNoGather, gathers, stages_for};
 ghost use Rattle.cf_request.specs.Growing.{Grows, IsNoGrowth};
-ghost use Rattle.cf_request.specs.Lanes.{IsIdle, NoneReadyIn, ready_below};
+ghost use Rattle.cf_request.specs.Lanes.{IsIdle, NothingIsReady, ready_in};
 ghost use Rattle.cf_request.specs.Ready.{IsLaneCount};
-ghost use Rattle.cf_request.specs.Machines.{AppliesWord, CancelsAll, Finds, FindsToPass, GoesOn, IsNoCancel, IsNoDeadline, IsNoFollow, IsNoNext, IsNoPass, IsNoWord, OnlyFinds, Passes, Refuses, Restarts, SetsDeadline, SetsFollow, free_in, open_in, state_in, waiting_in};
+ghost use Rattle.cf_request.specs.Machines.{AppliesWord, CancelsAll, FindsFor, FindsToPass, GoesOn, IsNoCancel, IsNoDeadline, IsNoFollow, IsNoNext, IsNoPass, IsNoWord, IsShortFor, OnlyFinds, OnlyTeller, Passes, Refuses, Restarts, SetsDeadline, SetsFollow, free_in, open_in, stages_in, state_in, waiting_in};
 ghost use Rattle.cf_request.specs.Relays.{NoneBehind};
 ghost use Rattle.cf_request.specs.Rows.{AreCalls, nothing, unclaimed};
 ghost use Rattle.cf_request.specs.Telling.{AreFresh, AreSettled, IsOnce, with_memory};
@@ -20,7 +20,7 @@ use crate::gathering::{Gathering, check_gathering, gather};
 use crate::growing::room_for;
 use crate::lanes::{check_held, finish, finish_held, is_idle, take};
 use crate::refusals::{Ending, end_all, open_stages};
-use crate::relays::{Follow, catch_up, catch_up_with};
+use crate::relays::{Follow, Relays, catch_up, catch_up_with};
 use crate::teller::Teller;
 use cf_bits::BitSet;
 use cf_event::LAST_CALLER;
@@ -49,17 +49,12 @@ const STAGES: u16 = 4096;
 /// the last moment, the caller by whose words the machine settles stages itself, and for how many relays and deadlines
 /// memory was found.
 ///
-/// It also keeps the set of the stages that are followed, so that a call that settles none of them looks at no relay,
-/// and how many relays are open at most, for each of which a call finds memory.
-///
 /// Deadlines of settled stages stay among the others until they come first or there is no place for a new one. So there
 /// are never more than eight and twice as many as there ever were of open stages at once.
 #[derive(Drop)]
 pub struct Machine {
     teller: Teller,
-    follows: Vec<Follow>,
-    followed: BitSet,
-    waiting: usize,
+    relays: Relays,
     deadlines: VecDeque<Deadline>,
     moment: u64,
     own: u8,
@@ -78,17 +73,17 @@ impl Model for Machine {
 
     ghost view = { λ m. record {
       teller = m.teller;
-      follows = m.follows.items;
+      follows = m.relays.follows.items;
       deadlines = m.deadlines.items;
       moment = m.moment;
       own = m.own;
-      relay_places = vec_capacity m.follows;
+      relay_places = vec_capacity m.relays.follows;
       deadline_places = deque_capacity m.deadlines;
     } };
 
-    ghost invariant = { λ m. IsMachine m.teller m.follows.items m.deadlines.items m.own
-        × NoneBehind m.follows.items (state_of m.teller.ledger).stages
-        × AreRelays (state_of m.teller.ledger).stages m.follows.items m.followed m.waiting };
+    ghost invariant = { λ m. IsMachine m.teller m.relays.follows.items m.deadlines.items m.own
+        × NoneBehind m.relays.follows.items (state_of m.teller.ledger).stages
+        × AreRelays (state_of m.teller.ledger).stages m.relays.follows.items m.relays.followed m.relays.waiting };
 }
 
 impl Machine {
@@ -122,9 +117,11 @@ impl Machine {
         let teller = Teller::new(alloc, plan, room, of, lanes)?;
         Ok(Machine {
             teller,
-            follows: Vec::new(alloc),
-            followed,
-            waiting: 0,
+            relays: Relays {
+                follows: Vec::new(alloc),
+                followed,
+                waiting: 0,
+            },
             deadlines: VecDeque::new(alloc),
             moment: 0,
             own,
@@ -151,17 +148,10 @@ impl Machine {
         ensures why { IfErr result (λ fault. IsNoWord word self.old fault) }
         ensures found { IfErr result (λ fault. fault ≢ LedgerFault.NoMemory → waiting_in self.old ≤ free_in self.new) }
     {
-        self.teller.reserve(words_beside(self.waiting))?;
+        self.teller.reserve(words_beside(self.relays.waiting))?;
         let seen = self.teller.told().len();
         let reply = self.teller.apply(word, lane)?;
-        catch_up(
-            &mut self.teller,
-            &self.follows,
-            &self.followed,
-            &mut self.waiting,
-            seen,
-            self.own,
-        );
+        self.relays.waiting = catch_up(&mut self.teller, &self.relays, seen, self.own);
         Ok(reply)
     }
 
@@ -172,14 +162,14 @@ impl Machine {
     pub fn gather(&mut self, who: u8, how: Gathering, sources: &[u16]) -> Result<u16, LedgerFault>
         ensures done { IfOk result (λ root. Gathers who how sources.now self.old root self.new) }
         ensures written { OnOk result (self.new.teller.ledger.events ≡ self.old.teller.ledger.events
-            ++ gathers who how (length (state_in self.old).plan.stages) sources.now) }
+            ++ gathers who how (stages_in self.old) sources.now) }
         ensures calls { OnOk result
             (AreCalls self.old (nothing ∷ replicate (stages_for sources.now) nothing) self.new) }
         ensures refused { OnErr result (self.new ≡ self.old) }
         ensures why { IfErr result (λ fault. IsNoGather who sources.now self.old fault) }
     {
         let count = check_gathering(&self.teller, who, sources)?;
-        self.teller.reserve(count + self.waiting)?;
+        self.teller.reserve(count + self.relays.waiting)?;
         Ok(gather(&mut self.teller, who, how, sources))
     }
 
@@ -203,7 +193,7 @@ impl Machine {
         ensures why { IfErr result (λ fault. IsNoCompose who source function self.old fault) }
     {
         check_composing(&self.teller, who, source, function)?;
-        self.teller.reserve(2 + self.waiting)?;
+        self.teller.reserve(2 + self.relays.waiting)?;
         Ok(compose(&mut self.teller, who, how, source, function, lane))
     }
 
@@ -225,14 +215,13 @@ impl Machine {
 
     /// Finds memory for two words, and for one of each relay that may be open.
     fn find_two(&mut self) -> Result<(), AllocError>
-        ensures finds { OnOk result
-            (Finds (2 + waiting_in self.old) (2 + length self.old.follows) self.old.teller self.new.teller) }
+        ensures finds { OnOk result (FindsFor 2 self.old self.new.teller) }
         ensures enough { OnOk result (2 + waiting_in self.new ≤ free_in self.new) }
-        ensures same { OnOk result (self.new ≡ record self.old { teller = self.new.teller }) }
+        ensures same { OnOk result (OnlyTeller self.old self.new) }
         ensures refused { OnErr result (self.new ≡ self.old) }
-        ensures short { OnErr result (free_in self.old < 2 + length self.old.follows) }
+        ensures short { OnErr result (IsShortFor 2 self.old) }
     {
-        self.teller.reserve(2 + self.waiting)?;
+        self.teller.reserve(2 + self.relays.waiting)?;
         Ok(())
     }
 
@@ -254,7 +243,7 @@ impl Machine {
     /// Finishes a compose that the caller has claimed with a link to its relay, where memory was found for a word.
     fn finish_claimed(&mut self, who: u8, composed: Composed) -> Finish
         requires caller { who ≤ 63 }
-        requires there { composed.stage < length (state_in self.old).plan.stages }
+        requires there { composed.stage < stages_in self.old }
         requires relay { composed.relay < composed.stage }
         requires held { claim_at (state_in self.old) composed.stage ≡ Some who }
         requires memory { 1 + waiting_in self.old ≤ free_in self.old }
@@ -268,14 +257,7 @@ impl Machine {
             answer: Answer::Link(composed.relay),
         };
         let finish = finish(&mut self.teller, who, held);
-        catch_up(
-            &mut self.teller,
-            &self.follows,
-            &self.followed,
-            &mut self.waiting,
-            seen,
-            self.own,
-        );
+        self.relays.waiting = catch_up(&mut self.teller, &self.relays, seen, self.own);
         finish
     }
 
@@ -289,8 +271,7 @@ impl Machine {
         requires { lane < self.old.teller.lanes.count }
         ensures done { IfOk result (λ next. GoesOn who lane held self.old next self.new) }
         ensures caller { OnOk result (who ≤ 63) }
-        ensures none { IfOk result (λ next. IfNone next.taken
-            (NoneReadyIn (state_in self.new) self.new.teller.lanes.of lane (length (state_in self.new).plan.stages))) }
+        ensures none { IfOk result (λ next. IfNone next.taken (NothingIsReady self.new.teller lane)) }
         ensures fewer { IfOk result (λ next. IfSome next.taken (λ t.
             unclaimed (state_in self.new) < unclaimed (state_in self.old))) }
         ensures refused { OnErr result (OnlyFinds self.old self.new) }
@@ -334,18 +315,11 @@ impl Machine {
         ensures refused { OnErr result (OnlyFinds self.old self.new) }
         ensures why { IfErr result (λ fault. IsNoNext who lane held self.old fault) }
     {
-        self.teller.reserve(2 + self.waiting)?;
+        self.teller.reserve(2 + self.relays.waiting)?;
         check_held(&self.teller, who, held)?;
         let seen = self.teller.told().len();
         let finish = finish_held(&mut self.teller, who, held);
-        catch_up(
-            &mut self.teller,
-            &self.follows,
-            &self.followed,
-            &mut self.waiting,
-            seen,
-            self.own,
-        );
+        self.relays.waiting = catch_up(&mut self.teller, &self.relays, seen, self.own);
         let taken = take(&mut self.teller, who, lane);
         Ok(Next { finish, taken })
     }
@@ -363,8 +337,7 @@ impl Machine {
     #[inline(always)]
     pub fn ready(&self, lane: u8) -> u16
         requires { lane < self.now.teller.lanes.count }
-        ensures { result ≡ ready_below (state_in self.now) self.now.teller.lanes.of lane
-            (length (state_in self.now).plan.stages) }
+        ensures { result ≡ ready_in self.now.teller lane }
     {
         self.teller.ready(lane)
     }
@@ -378,22 +351,16 @@ impl Machine {
         ensures found { IfErr result (λ fault.
             fault ≡ MachineFault.NoStage → 1 + waiting_in self.old ≤ free_in self.new) }
     {
-        self.teller.reserve(1 + self.waiting)?;
+        self.teller.reserve(1 + self.relays.waiting)?;
         let stages = self.teller.stages();
         if relay >= stages || stage >= stages {
             return Err(MachineFault::NoStage);
         }
-        self.follows.reserve(1)?;
-        self.follows.push_reserved(Follow { relay, stage });
-        self.followed.insert(stage);
-        self.waiting += 1;
-        catch_up_with(
-            &mut self.teller,
-            &self.follows,
-            &mut self.waiting,
-            stage,
-            self.own,
-        );
+        self.relays.follows.reserve(1)?;
+        self.relays.follows.push_reserved(Follow { relay, stage });
+        self.relays.followed.insert(stage);
+        self.relays.waiting += 1;
+        self.relays.waiting = catch_up_with(&mut self.teller, &self.relays, stage, self.own);
         Ok(())
     }
 
@@ -423,15 +390,14 @@ impl Machine {
         ensures found { IfErr result (λ fault. fault ≡ MachineFault.Past → FindsToPass moment self.old self.new) }
     {
         let come = come_by(&self.deadlines, moment);
-        self.teller.reserve(self.waiting + come)?;
+        self.teller.reserve(self.relays.waiting + come)?;
         if moment < self.moment {
             return Err(MachineFault::Past);
         }
         self.moment = moment;
         pass(
             &mut self.teller,
-            &self.follows,
-            &self.followed,
+            &self.relays,
             &mut self.deadlines,
             moment,
             come,
@@ -469,8 +435,7 @@ impl Machine {
         self.teller.reserve(open_stages(&self.teller) as usize)?;
         end_all(
             &mut self.teller,
-            &self.follows,
-            &self.followed,
+            &self.relays,
             Ending::OfLane { lane, code },
             self.own,
         );
@@ -490,13 +455,7 @@ impl Machine {
         if who > LAST_CALLER {
             return Err(StepFault::NoCaller);
         }
-        end_all(
-            &mut self.teller,
-            &self.follows,
-            &self.followed,
-            Ending::OfAll,
-            who,
-        );
+        end_all(&mut self.teller, &self.relays, Ending::OfAll, who);
         Ok(())
     }
 
@@ -520,9 +479,9 @@ impl Machine {
         ensures { Restarts self.old self.new }
     {
         self.teller.restart();
-        self.follows.clear();
-        self.followed.reset(STAGES);
-        self.waiting = 0;
+        self.relays.follows.clear();
+        self.relays.followed.reset(STAGES);
+        self.relays.waiting = 0;
         self.deadlines.clear();
         self.moment = 0;
     }
@@ -545,7 +504,7 @@ impl Machine {
         ensures taken { self.new.teller.taken ≡ self.old.teller.taken ++ take count self.old.teller.told }
         ensures told { self.new.teller.told ≡ drop count self.old.teller.told }
         ensures lanes { self.new.teller.lanes ≡ self.old.teller.lanes }
-        ensures rest { self.new ≡ record self.old { teller = self.new.teller } }
+        ensures rest { OnlyTeller self.old self.new }
     {
         self.teller.took(count);
     }

@@ -1,5 +1,5 @@
 //! The ready stages of each lane.
-ghost use Rattle.std.specs.Prelude.{◌≡◌, ◌+◌, ◌<◌, ◌≤◌, ◌∷◌, ◌++◌, [], All, IfOk, false, length, position, replicate, slice_index_or, slice_set, take, vec_capacity};
+ghost use Rattle.std.specs.Prelude.{◌≡◌, ◌+◌, ◌<◌, ◌≤◌, [], All, IfOk, false, length, position, replicate, slice_index_or, slice_set, take, vec_capacity};
 ghost use Rattle.cf_request.specs.Ready.{AreSets, IsLaneCount, count_of, lane_of, lanes_of, none_ready};
 
 use cf_bits::BitSet;
@@ -156,7 +156,8 @@ impl ReadySets {
     #[inline(always)]
     pub(crate) fn write(&mut self, i: u16, ready: bool)
         requires { i < length self.old.of }
-        ensures { self.new ≡ record self.old {
+        ensures sets { AreSets self.old }
+        ensures written { self.new ≡ record self.old {
           sets = slice_set self.old.sets (lane_of self.old.of i)
               (slice_set (slice_index_or self.old.sets (lane_of self.old.of i) []) i ready);
         } }

@@ -1,16 +1,14 @@
 //! Stages that end at once: those of a lane that nobody runs any more, or all.
-ghost use Rattle.std.specs.Prelude.{◌≡◌, ◌<◌, ◌≤◌, ℕ, IfNone, IfSome, length, true};
-ghost use Rattle.cf_ledger.specs.Ledgers.{state_of};
-ghost use Rattle.cf_request.specs.Lanes.{NoneReadyIn};
+ghost use Rattle.std.specs.Prelude.{◌≡◌, ◌<◌, ◌≤◌, IfNone, IfSome};
+ghost use Rattle.cf_ledger.specs.Ledgers.{stages_of, state_of};
+ghost use Rattle.cf_request.specs.Lanes.{NothingIsReady};
 ghost use Rattle.cf_request.specs.Refusals.{AllSettled, HasLane, IsCancelled, IsEnded, IsRefused, NoneToEnd, open_below};
 ghost use Rattle.cf_request.specs.Relays.{AreLookedAt, AreMarked, AreThere, IsRelayOr, NoneBehind};
 ghost use Rattle.cf_request.specs.Settling.{IsOpen, SettlesDue};
-ghost use Rattle.cf_request.specs.Telling.{is_settled_in};
 
-use crate::relays::{Follow, first_behind};
+use crate::relays::{Relays, first_behind};
 use crate::settling::{Due, settle};
 use crate::teller::Teller;
-use cf_bits::BitSet;
 use cf_outcome::{Cause, Outcome};
 
 /// Which stages end, and how.
@@ -24,26 +22,20 @@ pub(crate) enum Ending {
 
 /// Ends these stages, from the lowest on, and before each of them settles all relays whose stages are settled. Memory
 /// for a word has to be there for each open stage.
-pub(crate) fn end_all(
-    teller: &mut Teller,
-    follows: &[Follow],
-    followed: &BitSet,
-    ending: Ending,
-    who: u8,
-)
+pub(crate) fn end_all(teller: &mut Teller, relays: &Relays, ending: Ending, who: u8)
     requires caller { who ≤ 63 }
     requires lane { HasLane teller.old.lanes.count ending }
-    requires relays { AreThere (state_of teller.old.ledger) follows.now }
-    requires marked { AreMarked followed.now follows.now }
-    requires none_behind { NoneBehind follows.now (state_of teller.old.ledger).stages }
-    requires memory { open_below (state_of teller.old.ledger).stages (length (state_of teller.old.ledger).plan.stages)
+    requires relays { AreThere (state_of teller.old.ledger) relays.now.follows.items }
+    requires marked { AreMarked relays.now.followed relays.now.follows.items }
+    requires none_behind { NoneBehind relays.now.follows.items (state_of teller.old.ledger).stages }
+    requires memory { open_below (state_of teller.old.ledger).stages (stages_of teller.old.ledger)
         ≤ teller.old.ledger.free }
-    ensures behind { NoneBehind follows.now (state_of teller.new.ledger).stages }
+    ensures behind { NoneBehind relays.now.follows.items (state_of teller.new.ledger).stages }
     ensures none { NoneToEnd teller.new.lanes.of ending (state_of teller.new.ledger) }
-    ensures settles { SettlesDue (IsRelayOr follows.now (IsEnded teller.old.lanes.of ending)) who teller.old teller.new }
+    ensures settles { SettlesDue (IsRelayOr relays.now.follows.items (IsEnded teller.old.lanes.of ending)) who teller.old teller.new }
 {
     let mut seen = teller.told().len();
-    while let Some(due) = next_ended(teller, follows, followed, &mut seen, ending) {
+    while let Some(due) = next_ended(teller, relays, &mut seen, ending) {
         settle(teller, who, &due);
     }
 }
@@ -51,7 +43,7 @@ pub(crate) fn end_all(
 /// How many stages are open. It costs a look at each stage.
 pub(crate) fn open_stages(teller: &Teller) -> u16
     ensures { result
-        ≡ open_below (state_of teller.now.ledger).stages (length (state_of teller.now.ledger).plan.stages) }
+        ≡ open_below (state_of teller.now.ledger).stages (stages_of teller.now.ledger) }
 {
     let mut count: u16 = 0;
     for i in 0..teller.stages() {
@@ -64,25 +56,19 @@ pub(crate) fn open_stages(teller: &Teller) -> u16
 
 /// The first relay that is open though its stage is settled, or else the lowest stage that ends. Of what is told so many
 /// were looked at.
-fn next_ended(
-    teller: &Teller,
-    follows: &[Follow],
-    followed: &BitSet,
-    seen: &mut usize,
-    ending: Ending,
-) -> Option<Due>
+fn next_ended(teller: &Teller, relays: &Relays, seen: &mut usize, ending: Ending) -> Option<Due>
     requires lane { HasLane teller.now.lanes.count ending }
-    requires relays { AreThere (state_of teller.now.ledger) follows.now }
-    requires marked { AreMarked followed.now follows.now }
-    requires seen { AreLookedAt seen.old teller.now.told follows.now (state_of teller.now.ledger).stages }
+    requires relays { AreThere (state_of teller.now.ledger) relays.now.follows.items }
+    requires marked { AreMarked relays.now.followed relays.now.follows.items }
+    requires seen { AreLookedAt seen.old teller.now.told relays.now.follows.items (state_of teller.now.ledger).stages }
     ensures is_open { IfSome result (λ d. IsOpen (state_of teller.now.ledger) d.stage) }
     ensures due { IfSome result (λ d.
-        IsRelayOr follows.now (IsEnded teller.now.lanes.of ending) (state_of teller.now.ledger) d) }
-    ensures behind { IfNone result (NoneBehind follows.now (state_of teller.now.ledger).stages) }
-    ensures seen { AreLookedAt seen.new teller.now.told follows.now (state_of teller.now.ledger).stages }
+        IsRelayOr relays.now.follows.items (IsEnded teller.now.lanes.of ending) (state_of teller.now.ledger) d) }
+    ensures behind { IfNone result (NoneBehind relays.now.follows.items (state_of teller.now.ledger).stages) }
+    ensures seen { AreLookedAt seen.new teller.now.told relays.now.follows.items (state_of teller.now.ledger).stages }
     ensures none { IfNone result (NoneToEnd teller.now.lanes.of ending (state_of teller.now.ledger)) }
 {
-    if let Some(due) = first_behind(teller, follows, followed, *seen) {
+    if let Some(due) = first_behind(teller, relays, *seen) {
         return Some(due);
     }
     *seen = teller.told().len();
@@ -127,8 +113,7 @@ fn lowest_refused(teller: &Teller, lane: u8, code: u32) -> Option<Due>
     requires lane { lane < teller.now.lanes.count }
     ensures is_open { IfSome result (λ d. IsOpen (state_of teller.now.ledger) d.stage) }
     ensures due { IfSome result (λ d. IsRefused teller.now.lanes.of lane code (state_of teller.now.ledger) d) }
-    ensures none { IfNone result (NoneReadyIn (state_of teller.now.ledger) teller.now.lanes.of lane
-        (length (state_of teller.now.ledger).plan.stages)) }
+    ensures none { IfNone result (NothingIsReady teller.now lane) }
 {
     let Some(stage) = teller.lowest(lane) else {
         return None;

@@ -1,9 +1,10 @@
 //! Stages that follow another stage of the same request.
-ghost use Rattle.std.specs.Prelude.{◌≡◌, ◌+◌, ◌≤◌, ◌<◌, ◌∷◌, [], IfNone, IfSome, Some, false, length, true};
-ghost use Rattle.cf_ledger.specs.Ledgers.{state_of};
+ghost use Rattle.std.specs.Prelude.{◌≡◌, ◌+◌, ◌≤◌, ◌<◌, IfNone, IfSome, Some, false, true};
+ghost use Rattle.cf_ledger.specs.Ledgers.{stages_of, state_of};
 ghost use Rattle.cf_model.specs.States.{outcome_in};
-ghost use Rattle.cf_request.specs.Relays.{AreBehindBy, AreLookedAt, AreMarked, AreThere, IsRelayDue, NoneBehind, NoneFollowed, is_in_flags, waiting_of};
-ghost use Rattle.cf_request.specs.Settling.{IsOpen, SettlesDue};
+ghost use Rattle.cf_request.specs.Machines.{CatchesUp};
+ghost use Rattle.cf_request.specs.Relays.{AreLookedAt, AreMarked, AreThere, IsRelayDue, MayCatchUp, MayCatchUpWith, MaySettle, NoneBehind, NoneFollowed, is_in_flags, open_relays};
+ghost use Rattle.cf_request.specs.Settling.{IsOpen};
 ghost use Rattle.cf_request.specs.Telling.{is_settled_in};
 
 use crate::settling::{Due, settle};
@@ -17,104 +18,85 @@ pub struct Follow {
     pub stage: u16,
 }
 
+/// Which stages follow which.
+///
+/// The set of the stages that are followed is kept beside them, so that a call that settles none of them looks at no
+/// relay, and how many relays are open at most, for each of which a call finds memory.
+#[derive(Drop)]
+pub(crate) struct Relays {
+    pub follows: Vec<Follow>,
+    pub followed: BitSet,
+    pub waiting: usize,
+}
+
 /// Settles all relays whose stages are settled, and those that follow these. It looks at relays only if a stage is
-/// followed that is told behind so many that were looked at. Memory for a word has to be there for each relay that is
-/// open, and it takes no more.
+/// followed that is told behind so many that were looked at. It takes no memory but that of a word for each relay that
+/// is open, and tells how many are open at most then.
 #[inline(always)]
-pub(crate) fn catch_up(
-    teller: &mut Teller,
-    follows: &[Follow],
-    followed: &BitSet,
-    waiting: &mut usize,
-    seen: usize,
-    who: u8,
-)
+pub(crate) fn catch_up(teller: &mut Teller, relays: &Relays, seen: usize, who: u8) -> usize
     requires caller { who ≤ 63 }
-    requires there { AreThere (state_of teller.old.ledger) follows.now }
-    requires marked { AreMarked followed.now follows.now }
-    requires seen { AreLookedAt seen teller.old.told follows.now (state_of teller.old.ledger).stages }
-    requires waiting { length (waiting_of (state_of teller.old.ledger).stages follows.now) ≤ waiting.old }
-    requires memory { length (waiting_of (state_of teller.old.ledger).stages follows.now) ≤ teller.old.ledger.free }
-    ensures none { NoneBehind follows.now (state_of teller.new.ledger).stages }
-    ensures settles { SettlesDue (IsRelayDue follows.now) who teller.old teller.new }
-    ensures waiting { length (waiting_of (state_of teller.new.ledger).stages follows.now) ≤ waiting.new }
-    ensures fewer { waiting.new ≤ waiting.old }
-    ensures memory { teller.old.ledger.free
-        ≤ teller.new.ledger.free + length (waiting_of (state_of teller.old.ledger).stages follows.now) }
+    requires may { MayCatchUp teller.old relays.now seen }
+    ensures settled { CatchesUp who relays.now.follows.items teller.old teller.new }
+    ensures counted { open_relays teller.new relays.now ≤ result }
+    ensures fewer { result ≤ relays.now.waiting }
+    ensures memory { teller.old.ledger.free ≤ teller.new.ledger.free + open_relays teller.old relays.now }
 {
-    if *waiting == 0 {
-        return;
+    if relays.waiting == 0 {
+        return relays.waiting;
     }
-    if none_followed(followed, &teller.told()[seen..]) {
-        return;
+    if none_followed(&relays.followed, &teller.told()[seen..]) {
+        return relays.waiting;
     }
-    settle_behind(teller, follows, waiting, who);
+    settle_behind(teller, relays, who)
 }
 
 /// The same where a stage has just got a follower. It looks at relays only if that stage is settled.
-pub(crate) fn catch_up_with(
-    teller: &mut Teller,
-    follows: &[Follow],
-    waiting: &mut usize,
-    stage: u16,
-    who: u8,
-)
+pub(crate) fn catch_up_with(teller: &mut Teller, relays: &Relays, stage: u16, who: u8) -> usize
     requires caller { who ≤ 63 }
-    requires there { AreThere (state_of teller.old.ledger) follows.now }
-    requires stage { stage < length (state_of teller.old.ledger).plan.stages }
-    requires seen { AreBehindBy (stage ∷ []) follows.now (state_of teller.old.ledger).stages }
-    requires waiting { length (waiting_of (state_of teller.old.ledger).stages follows.now) ≤ waiting.old }
-    requires memory { length (waiting_of (state_of teller.old.ledger).stages follows.now) ≤ teller.old.ledger.free }
-    ensures none { NoneBehind follows.now (state_of teller.new.ledger).stages }
-    ensures settles { SettlesDue (IsRelayDue follows.now) who teller.old teller.new }
-    ensures waiting { length (waiting_of (state_of teller.new.ledger).stages follows.now) ≤ waiting.new }
-    ensures fewer { waiting.new ≤ waiting.old }
+    requires stage { stage < stages_of teller.old.ledger }
+    requires may { MayCatchUpWith teller.old relays.now stage }
+    ensures settled { CatchesUp who relays.now.follows.items teller.old teller.new }
+    ensures counted { open_relays teller.new relays.now ≤ result }
+    ensures fewer { result ≤ relays.now.waiting }
 {
     if teller.outcome(stage).is_none() {
-        return;
+        return relays.waiting;
     }
-    settle_behind(teller, follows, waiting, who);
+    settle_behind(teller, relays, who)
 }
 
 /// Settles all relays whose stages are settled, and those that follow these. It looks at all relays.
-fn settle_behind(teller: &mut Teller, follows: &[Follow], waiting: &mut usize, who: u8)
+fn settle_behind(teller: &mut Teller, relays: &Relays, who: u8) -> usize
     requires caller { who ≤ 63 }
-    requires there { AreThere (state_of teller.old.ledger) follows.now }
-    requires waiting { length (waiting_of (state_of teller.old.ledger).stages follows.now) ≤ waiting.old }
-    requires memory { length (waiting_of (state_of teller.old.ledger).stages follows.now) ≤ teller.old.ledger.free }
-    ensures none { NoneBehind follows.now (state_of teller.new.ledger).stages }
-    ensures settles { SettlesDue (IsRelayDue follows.now) who teller.old teller.new }
-    ensures waiting { length (waiting_of (state_of teller.new.ledger).stages follows.now) ≤ waiting.new }
-    ensures fewer { waiting.new ≤ waiting.old }
-    ensures memory { teller.old.ledger.free
-        ≤ teller.new.ledger.free + length (waiting_of (state_of teller.old.ledger).stages follows.now) }
+    requires may { MaySettle teller.old relays.now }
+    ensures settled { CatchesUp who relays.now.follows.items teller.old teller.new }
+    ensures counted { open_relays teller.new relays.now ≤ result }
+    ensures fewer { result ≤ relays.now.waiting }
+    ensures memory { teller.old.ledger.free ≤ teller.new.ledger.free + open_relays teller.old relays.now }
 {
-    while let Some(due) = first_of(teller, follows) {
+    let mut waiting = relays.waiting;
+    while let Some(due) = first_of(teller, relays) {
         settle(teller, who, &due);
-        *waiting = waiting.saturating_sub(1);
+        waiting = waiting.saturating_sub(1);
     }
+    waiting
 }
 
 /// The first relay that is open though its stage is settled. It looks at relays only if a stage is followed that is told
 /// behind so many that were looked at.
 #[inline(always)]
-pub(crate) fn first_behind(
-    teller: &Teller,
-    follows: &[Follow],
-    followed: &BitSet,
-    seen: usize,
-) -> Option<Due>
-    requires there { AreThere (state_of teller.now.ledger) follows.now }
-    requires marked { AreMarked followed.now follows.now }
-    requires seen { AreLookedAt seen teller.now.told follows.now (state_of teller.now.ledger).stages }
+pub(crate) fn first_behind(teller: &Teller, relays: &Relays, seen: usize) -> Option<Due>
+    requires there { AreThere (state_of teller.now.ledger) relays.now.follows.items }
+    requires marked { AreMarked relays.now.followed relays.now.follows.items }
+    requires seen { AreLookedAt seen teller.now.told relays.now.follows.items (state_of teller.now.ledger).stages }
     ensures is_open { IfSome result (λ d. IsOpen (state_of teller.now.ledger) d.stage) }
-    ensures due { IfSome result (λ d. IsRelayDue follows.now (state_of teller.now.ledger) d) }
-    ensures none { IfNone result (NoneBehind follows.now (state_of teller.now.ledger).stages) }
+    ensures due { IfSome result (λ d. IsRelayDue relays.now.follows.items (state_of teller.now.ledger) d) }
+    ensures none { IfNone result (NoneBehind relays.now.follows.items (state_of teller.now.ledger).stages) }
 {
-    if none_followed(followed, &teller.told()[seen..]) {
+    if none_followed(&relays.followed, &teller.told()[seen..]) {
         return None;
     }
-    first_of(teller, follows)
+    first_of(teller, relays)
 }
 
 /// Whether none of these stages is followed.
@@ -142,13 +124,13 @@ fn is_followed(followed: &BitSet, i: u16) -> bool
 }
 
 /// The first of these relays that is open though its stage is settled.
-fn first_of(teller: &Teller, follows: &[Follow]) -> Option<Due>
-    requires there { AreThere (state_of teller.now.ledger) follows.now }
+fn first_of(teller: &Teller, relays: &Relays) -> Option<Due>
+    requires there { AreThere (state_of teller.now.ledger) relays.now.follows.items }
     ensures is_open { IfSome result (λ d. IsOpen (state_of teller.now.ledger) d.stage) }
-    ensures due { IfSome result (λ d. IsRelayDue follows.now (state_of teller.now.ledger) d) }
-    ensures none { IfNone result (NoneBehind follows.now (state_of teller.now.ledger).stages) }
+    ensures due { IfSome result (λ d. IsRelayDue relays.now.follows.items (state_of teller.now.ledger) d) }
+    ensures none { IfNone result (NoneBehind relays.now.follows.items (state_of teller.now.ledger).stages) }
 {
-    for follow in follows {
+    for follow in &relays.follows {
         if let Some(due) = due_by(teller, follow) {
             return Some(due);
         }
@@ -158,10 +140,10 @@ fn first_of(teller: &Teller, follows: &[Follow]) -> Option<Due>
 
 /// A relay with its stage's outcome, if that is settled and the relay isn't.
 fn due_by(teller: &Teller, follow: &Follow) -> Option<Due>
-    requires relay { follow.now.relay < length (state_of teller.now.ledger).plan.stages }
-    requires stage { follow.now.stage < length (state_of teller.now.ledger).plan.stages }
+    requires relay { follow.now.relay < stages_of teller.now.ledger }
+    requires stage { follow.now.stage < stages_of teller.now.ledger }
     ensures relay { IfSome result (λ d. follow.now.relay ≡ d.stage) }
-    ensures there { IfSome result (λ d. d.stage < length (state_of teller.now.ledger).plan.stages) }
+    ensures there { IfSome result (λ d. d.stage < stages_of teller.now.ledger) }
     ensures settled { IfSome result (λ d.
         outcome_in (state_of teller.now.ledger).stages follow.now.stage ≡ Some d.outcome) }
     ensures waits { IfSome result (λ d. is_settled_in (state_of teller.now.ledger).stages d.stage ≡ false) }

@@ -7,9 +7,9 @@ ghost use Rattle.cf_model.specs.States.{is_ready, outcome_at, outcome_of, start}
 ghost use Rattle.cf_model.specs.Ranges.{EventFits};
 ghost use Rattle.cf_event.specs.Decoding.{event_of};
 ghost use Rattle.cf_event.specs.Words.{IsEvent, word_of};
-ghost use Rattle.cf_ledger.specs.Ledgers.{AreTaken, IsShort, LedgerRefuses, roomier, state_of, with_more};
-ghost use Rattle.cf_request.specs.Lanes.{IsLowestIn, NoneReadyIn, ready_below};
-ghost use Rattle.cf_request.specs.Ready.{AreFitBut, FitState, HasLanes, IsFit, IsLaneCount, none_ready, with_lane};
+ghost use Rattle.cf_ledger.specs.Ledgers.{AreTaken, IsShort, LedgerRefuses, roomier, stages_of, state_of, with_more};
+ghost use Rattle.cf_request.specs.Lanes.{IsLowestIn, NothingIsReady, ready_in};
+ghost use Rattle.cf_request.specs.Ready.{AreFitBut, FitState, HasLanes, IsFit, IsLaneCount, with_lane};
 ghost use Rattle.cf_request.specs.Telling.{AreFresh, AreSettled, AreSettledBelow, IsOnce, Tells, TellsEvent, is_settled_in, most_stages, with_memory};
 
 use crate::ready::ReadySets;
@@ -76,11 +76,12 @@ impl Teller {
         ensures told { IfOk result (λ t. AreFresh [] (start (with_room plan.now room)).stages t.told) }
         ensures lanes { IfOk result (λ t. t.lanes ≡ record { of = of.now; count = lanes }) }
     {
+        let places = plan.stages() as usize + room as usize;
+        let mut order: Vec<u16> = Vec::with_capacity(alloc, places)?;
+        let mut sets = ReadySets::new(alloc, of, room, lanes)?;
         let ledger = Ledger::new(alloc, plan, room)?;
         let stages = ledger.stages();
-        let mut order: Vec<u16> = Vec::with_capacity(alloc, stages as usize + room as usize)?;
         note_all(&ledger, stages, &mut order);
-        let mut sets = ReadySets::new(alloc, of, room, lanes)?;
         mark_all(&ledger, stages, &mut sets);
         Ok(Teller {
             ledger,
@@ -111,12 +112,11 @@ impl Teller {
         requires { lane < self.old.lanes.count }
         ensures done { IfOk result (λ reply. Tells word self.old reply self.new) }
         ensures lanes { OnOk result (self.new.lanes
-            ≡ with_lane (length (state_of self.new.ledger).plan.stages) lane self.old.lanes) }
+            ≡ with_lane (stages_of self.new.ledger) lane self.old.lanes) }
         ensures refused { OnErr result (self.new ≡ self.old) }
         ensures why { IfErr result (λ fault. LedgerRefuses (state_of self.old.ledger) word fault) }
         ensures short { IfErr result (λ fault. IsShort self.old.ledger.free fault) }
     {
-        let _known_before = self.ledger.stages();
         let reply = self.ledger.apply(word)?;
         let stages = self.ledger.stages();
         let place = self.ledger.len() - 1;
@@ -131,7 +131,7 @@ impl Teller {
     #[tactic(auto, using(crate::proofs::Words::event_told))]
     pub fn apply_event(&mut self, event: &Event) -> Reply
         requires is { IsEvent event.now }
-        requires fits { EventFits (length (state_of self.old.ledger).plan.stages) event.now }
+        requires fits { EventFits (stages_of self.old.ledger) event.now }
         requires attaches { is_attach event.now ≡ false }
         requires memory { 0 < self.old.ledger.free }
         ensures { TellsEvent event.now self.old result self.new }
@@ -150,7 +150,7 @@ impl Teller {
     pub fn claim(&mut self, who: u8, stage: u16, word: u64) -> Claimed
         requires read { event_of word ≡ Some (Event.Claim who stage) }
         requires named { word_of (Event.Claim who stage) ≡ word }
-        requires there { stage < length (state_of self.old.ledger).plan.stages }
+        requires there { stage < stages_of self.old.ledger }
         requires memory { 0 < self.old.ledger.free }
         ensures { TellsEvent (Event.Claim who stage) self.old (Reply.Claim result) self.new }
     {
@@ -167,20 +167,17 @@ impl Teller {
     fn claim_word(&mut self, who: u8, stage: u16, word: u64) -> Result<Claimed, LedgerFault>
         requires read { event_of word ≡ Some (Event.Claim who stage) }
         requires named { word_of (Event.Claim who stage) ≡ word }
-        requires there { stage < length (state_of self.old.ledger).plan.stages }
+        requires there { stage < stages_of self.old.ledger }
         ensures done { IfOk result (λ told. Tells word self.old (Reply.Claim told) self.new) }
         ensures lanes { OnOk result (self.new.lanes
-            ≡ with_lane (length (state_of self.new.ledger).plan.stages) 0 self.old.lanes) }
+            ≡ with_lane (stages_of self.new.ledger) 0 self.old.lanes) }
         ensures why { IfErr result (λ fault. LedgerRefuses (state_of self.old.ledger) word fault) }
         ensures short { IfErr result (λ fault. IsShort self.old.ledger.free fault) }
     {
-        let _known_before = self.ledger.stages();
         let _lanes = self.lanes.lanes();
         let told = self.ledger.claim(who, stage, word)?;
         let stages = self.ledger.stages();
         self.lanes.reach(stages, 0);
-        // The lane of each stage is there.
-        let _known = self.lanes.lanes();
         self.lanes.write(stage, is_ready(self.ledger.stage(stage)));
         Ok(told)
     }
@@ -191,7 +188,7 @@ impl Teller {
     pub fn finish(&mut self, who: u8, stage: u16, answer: Answer, word: u64) -> Finished
         requires read { event_of word ≡ Some (Event.Finish who stage answer) }
         requires named { word_of (Event.Finish who stage answer) ≡ word }
-        requires there { stage < length (state_of self.old.ledger).plan.stages }
+        requires there { stage < stages_of self.old.ledger }
         requires memory { 0 < self.old.ledger.free }
         ensures { TellsEvent (Event.Finish who stage answer) self.old (Reply.Finish result) self.new }
     {
@@ -216,11 +213,10 @@ impl Teller {
         requires named { word_of (Event.Finish who stage answer) ≡ word }
         ensures done { IfOk result (λ told. Tells word self.old (Reply.Finish told) self.new) }
         ensures lanes { OnOk result (self.new.lanes
-            ≡ with_lane (length (state_of self.new.ledger).plan.stages) 0 self.old.lanes) }
+            ≡ with_lane (stages_of self.new.ledger) 0 self.old.lanes) }
         ensures why { IfErr result (λ fault. LedgerRefuses (state_of self.old.ledger) word fault) }
         ensures short { IfErr result (λ fault. IsShort self.old.ledger.free fault) }
     {
-        let _known_before = self.ledger.stages();
         let _lanes = self.lanes.lanes();
         let told = self.ledger.finish(who, stage, answer, word)?;
         let stages = self.ledger.stages();
@@ -242,7 +238,7 @@ impl Teller {
     /// How many stages there are by now.
     #[inline(always)]
     pub fn stages(&self) -> u16
-        ensures count { result ≡ length (state_of self.now.ledger).plan.stages }
+        ensures count { result ≡ stages_of self.now.ledger }
         ensures most { most_stages (state_of self.now.ledger) ≤ 4096 }
     {
         self.ledger.stages()
@@ -251,7 +247,7 @@ impl Teller {
     /// The outcome of a stage, if it is settled.
     #[inline(always)]
     pub fn outcome(&self, i: u16) -> Option<Outcome>
-        requires there { i < length (state_of self.now.ledger).plan.stages }
+        requires there { i < stages_of self.now.ledger }
         ensures { result ≡ outcome_at (state_of self.now.ledger) i }
     {
         outcome(&self.ledger, i)
@@ -272,11 +268,8 @@ impl Teller {
     pub fn lowest(&self, lane: u8) -> Option<u16>
         requires { lane < self.now.lanes.count }
         ensures lowest { IfSome result (λ i. IsLowestIn (state_of self.now.ledger) self.now.lanes.of lane i) }
-        ensures none { IfNone result (NoneReadyIn (state_of self.now.ledger) self.now.lanes.of lane
-            (length (state_of self.now.ledger).plan.stages)) }
+        ensures none { IfNone result (NothingIsReady self.now lane) }
     {
-        // There is a state for each stage.
-        let _known = self.ledger.stages();
         self.lanes.lowest(lane)
     }
 
@@ -284,11 +277,8 @@ impl Teller {
     #[inline(always)]
     pub fn ready(&self, lane: u8) -> u16
         requires { lane < self.now.lanes.count }
-        ensures { result ≡ ready_below (state_of self.now.ledger) self.now.lanes.of lane
-            (length (state_of self.now.ledger).plan.stages) }
+        ensures { result ≡ ready_in self.now lane }
     {
-        // There is a state for each stage.
-        let _known = self.ledger.stages();
         self.lanes.ready(lane)
     }
 
@@ -362,7 +352,7 @@ impl Teller {
 /// The outcome of a stage, if it is settled.
 #[inline(always)]
 fn outcome(ledger: &Ledger, i: u16) -> Option<Outcome>
-    requires there { i < length (state_of ledger.now).plan.stages }
+    requires there { i < stages_of ledger.now }
     ensures { result ≡ outcome_at (state_of ledger.now) i }
 {
     outcome_of(ledger.stage(i))
@@ -383,7 +373,7 @@ fn outcome_of(stage: Stage) -> Option<Outcome>
 /// other stages.
 #[inline(always)]
 fn note(ledger: &Ledger, news: &[u16], order: &mut Vec<u16>, sets: &mut ReadySets)
-    requires there { All (λ i. i < length (state_of ledger.now).plan.stages) news.now }
+    requires there { All (λ i. i < stages_of ledger.now) news.now }
     requires room { length order.old.items + length (filter (is_settled_in (state_of ledger.now).stages) news.now)
         ≤ vec_capacity order.old }
     requires lanes { HasLanes (state_of ledger.now) sets.old.of }
@@ -398,8 +388,6 @@ fn note(ledger: &Ledger, news: &[u16], order: &mut Vec<u16>, sets: &mut ReadySet
     for i in news {
         let ready = is_ready(ledger.stage(*i));
         let settled = outcome(ledger, *i).is_some();
-        // The lane of each stage is there.
-        let _known = sets.lanes();
         sets.write(*i, ready);
         put(order, *i, settled);
     }
@@ -419,7 +407,7 @@ fn put(order: &mut Vec<u16>, i: u16, settled: bool)
 
 /// Writes all stages that are settled, of which there are so many.
 fn note_all(ledger: &Ledger, stages: u16, order: &mut Vec<u16>)
-    requires stages { stages ≡ length (state_of ledger.now).plan.stages }
+    requires stages { stages ≡ stages_of ledger.now }
     requires none { order.old.items ≡ [] }
     requires room { stages ≤ vec_capacity order.old }
     ensures noted { AreSettledBelow stages (state_of ledger.now).stages order.new.items }
@@ -434,7 +422,7 @@ fn note_all(ledger: &Ledger, stages: u16, order: &mut Vec<u16>)
 
 /// Writes of all stages, of which there are so many, whether they are ready. None was before.
 fn mark_all(ledger: &Ledger, stages: u16, sets: &mut ReadySets)
-    requires stages { stages ≡ length (state_of ledger.now).plan.stages }
+    requires stages { stages ≡ stages_of ledger.now }
     requires lanes { HasLanes (state_of ledger.now) sets.old.of }
     requires rest { AreFitBut (λ i. i < stages) (state_of ledger.now).stages sets.old }
     ensures fit { (i : ℕ) → IsFit (state_of ledger.now).stages sets.new i }
@@ -442,8 +430,6 @@ fn mark_all(ledger: &Ledger, stages: u16, sets: &mut ReadySets)
     ensures same { sets.new ≡ record sets.old { sets = sets.new.sets } }
 {
     for i in 0..stages {
-        // The lane of each stage is there.
-        let _known = sets.lanes();
         sets.write(i, is_ready(ledger.stage(i)));
     }
 }

@@ -17,7 +17,7 @@ use Rattle.cf_event.proofs.WordLemmas.{event_of_is}
 use Rattle.cf_ledger.specs.Ledgers.{Ledger, state_of as ledger_state}
 use Rattle.cf_row.specs.declared.entry.Entry.{Entry}
 use Rattle.cf_row.specs.Numbers.{FollowsRule}
-use Rattle.cf_row.specs.Rows.{Replica, ledger_of, state_of}
+use Rattle.cf_row.specs.Rows.{Replica, ledger_of, stages_of, state_of}
 use Rattle.cf_row.specs.Grants.{IsHeldBy, NoneHeldBy}
 use Rattle.cf_row.specs.Abandoning.{Abandons}
 use Rattle.cf_row.specs.Puts.{attached_by, pair_of, pairs_of, who_at, who_by}
@@ -59,7 +59,7 @@ rule_small seen s who (inr (inr l)) =
     omega (arith, is, small)
 
 -- and a stage's number below 4,096
-pub stage_small : (l : Ledger) (r : Replica) (n i : ℕ) → l ≡ ledger_of r → n ≡ length (ledger_state l).plan.stages → n + (ledger_state l).plan.room ≤ 4096 → i < length (state_of r).plan.stages → i ≤ 4095
+pub stage_small : (l : Ledger) (r : Replica) (n i : ℕ) → l ≡ ledger_of r → n ≡ length (ledger_state l).plan.stages → n + (ledger_state l).plan.room ≤ 4096 → i < stages_of r → i ≤ 4095
 stage_small l r n i is count few there =
     let same = ap (λ (m : Ledger). length (ledger_state m).plan.stages) is in
     omega (arith, same, count, few, there)
@@ -71,7 +71,7 @@ settles_by None s i o is = refl
 settles_by (Some old) s i o is = (let no : ⊥ = cc in absurd no)
 
 pub abandons : (r : Replica) (session from code who i w : ℕ) → FollowsRule (pairs_of r.seen) (r.session, who) → IsHeldBy r session i → from ≤ i → NoneHeldBy r session from i →
-    i < length (state_of r).plan.stages → w ≡ word_of (Fails who i code) → event_of w ≡ Some (Fails who i code) → Abandons r session from code w
+    i < stages_of r → w ≡ word_of (Fails who i code) → event_of w ≡ Some (Fails who i code) → Abandons r session from code w
 abandons r session from code who i w rule held above first there word back = record {
   who = who;
   stage = i;

@@ -17,7 +17,7 @@ use Rattle.cf_ledger.specs.Ledgers.{AreTaken, HasRoomFor, IsTaken, Ledger, Ledge
 use Rattle.cf_ledger.specs.declared.faults.LedgerFault.{LedgerFault}
 use Rattle.cf_ledger.specs.declared.faults.LedgerFault.TheVariants.{NoMemory, NoEvent, NoStage, NoRoom}
 use Rattle.cf_ledger.proofs.Growth.{answered_more}
-use Rattle.cf_row.specs.Rows.{Replica, ledger_of, state_of}
+use Rattle.cf_row.specs.Rows.{Replica, ledger_of, stages_of}
 use Rattle.cf_row.specs.Puts.{AreWordsBehind, AreWordsFor, IsWordFor, attached_by, who_at, who_by}
 
 -- each word is that of an event which the graph takes as those before it leave it
@@ -162,11 +162,11 @@ all_more who there left there2 left2 k more words l one is up down h =
 pub behind_by : (b : Bool) (r : Replica) (l : Ledger) (who stages room : ℕ) (words : List ℕ) → l ≡ ledger_of r → stages ≡ length (ledger_state l).plan.stages → room ≡ (ledger_state l).plan.room →
     OnTrue b (AreWordsFor who stages room words) → OnTrue b (AreWordsBehind r who words)
 behind_by b r l who stages room words is many left h =
-    subst (λ (n : ℕ). OnTrue b (AreWordsFor who (length (state_of r).plan.stages) n words)) (left ∙ ap (λ (k : Ledger). (ledger_state k).plan.room) is)
+    subst (λ (n : ℕ). OnTrue b (AreWordsFor who (stages_of r) n words)) (left ∙ ap (λ (k : Ledger). (ledger_state k).plan.room) is)
     (subst (λ (n : ℕ). OnTrue b (AreWordsFor who n room words)) (many ∙ ap (λ (k : Ledger). length (ledger_state k).plan.stages) is) h)
 
 pub not_behind_by : (b : Bool) (r : Replica) (l : Ledger) (who stages room : ℕ) (words : List ℕ) → l ≡ ledger_of r → stages ≡ length (ledger_state l).plan.stages → room ≡ (ledger_state l).plan.room →
     OnFalse b (¬ AreWordsFor who stages room words) → OnFalse b (¬ AreWordsBehind r who words)
 not_behind_by b r l who stages room words is many left h =
-    subst (λ (n : ℕ). OnFalse b (¬ AreWordsFor who (length (state_of r).plan.stages) n words)) (left ∙ ap (λ (k : Ledger). (ledger_state k).plan.room) is)
+    subst (λ (n : ℕ). OnFalse b (¬ AreWordsFor who (stages_of r) n words)) (left ∙ ap (λ (k : Ledger). (ledger_state k).plan.room) is)
     (subst (λ (n : ℕ). OnFalse b (¬ AreWordsFor who n room words)) (many ∙ ap (λ (k : Ledger). length (ledger_state k).plan.stages) is) h)

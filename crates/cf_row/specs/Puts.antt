@@ -1,5 +1,5 @@
 -- Puts of a session: what it wants to stand behind the end that it has seen.
-use Rattle.std.specs.Prelude.{◌≡◌, ◌≢◌, ◌⊎◌, ℕ, ◌+◌, ◌-◌, ◌*◌, ◌<◌, ◌≤◌, Bool, true, false, Option, Some, None, List, [], ◌∷◌, ◌++◌, All, Contains, length, map}
+use Rattle.std.specs.Prelude.{◌≡◌, ◌≢◌, ◌⊎◌, ℕ, ◌+◌, ◌-◌, ◌*◌, ◌<◌, ◌≤◌, Bool, true, false, Option, Some, None, List, [], ◌∷◌, ◌++◌, All, length, map}
 use Rattle.cf_model.specs.declared.events.Event.{Event}
 use Rattle.cf_model.specs.declared.events.Event.TheVariants.{Attach as Attaches}
 use Rattle.cf_model.specs.Calls.{who_of}
@@ -11,7 +11,7 @@ use Rattle.cf_ledger.specs.Ledgers.{AreTaken}
 use Rattle.cf_row.specs.declared.entry.Entry.{Entry}
 use Rattle.cf_row.specs.declared.faults.PutFault.{PutFault}
 use Rattle.cf_row.specs.declared.faults.PutFault.TheVariants.{NoMemory, NoTokens, NoWord}
-use Rattle.cf_row.specs.Rows.{BeginsWith, Replica, history_of, session_of, state_of, with_memory, words_in}
+use Rattle.cf_row.specs.Rows.{BeginsWith, Replica, history_of, session_of, stages_of, state_of, with_memory, words_in}
 use Rattle.cf_row.specs.Numbers.{FollowsRule}
 
 -- what a contract sees: what was replayed, the put that is under way, if there is one, and the token that comes next
@@ -59,7 +59,7 @@ AreWordsFor who stages room (w ∷ words) =
     IsWordFor who stages room w × AreWordsFor who (stages + attached_by (event_of w)) (room - attached_by (event_of w)) words
 
 abbrev pub AreWordsBehind : Replica → ℕ → List ℕ → Type 0
-AreWordsBehind r who words = AreWordsFor who (length (state_of r).plan.stages) (state_of r).plan.room words
+AreWordsBehind r who words = AreWordsFor who (stages_of r) (state_of r).plan.room words
 
 -- ---- tokens
 

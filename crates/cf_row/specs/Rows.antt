@@ -1,9 +1,9 @@
 -- A request's row, and what one session has seen of it and was answered.
-use Rattle.std.specs.Prelude.{◌≡◌, ◌≢◌, ℕ, suc, ◌+◌, ◌-◌, ◌/◌, ◌<◌, ◌≤◌, Bool, true, false, max, cond, eqb, Option, List, [], ◌∷◌, ◌++◌, All, length, map, slice_get, take, drop, Some}
+use Rattle.std.specs.Prelude.{◌≡◌, ℕ, suc, ◌+◌, ◌-◌, ◌/◌, ◌<◌, ◌≤◌, Bool, true, false, max, cond, eqb, Option, List, [], ◌∷◌, ◌++◌, All, length, map, slice_get, take, drop, Some}
 use Rattle.std.specs.declared.vec.Vec.{Vec}
 use Rattle.std.specs.Vec.{vec_capacity}
 use Rattle.cf_forms.specs.Plans.{Planned}
-use Rattle.cf_model.specs.States.{State, claim_at, start}
+use Rattle.cf_model.specs.States.{State, start}
 use Rattle.cf_model.specs.Events.{answered, state_after}
 use Rattle.cf_model.specs.declared.events.Event.{Event}
 use Rattle.cf_model.specs.declared.events.Reply.{Reply}
@@ -74,6 +74,10 @@ ledger_of r = record { plan = r.plan; events = history_of r.seen; free = r.free 
 
 abbrev pub state_of : Replica → State
 state_of r = state_after (start r.plan) (history_of r.seen)
+
+-- how many stages there are
+abbrev pub stages_of : Replica → ℕ
+stages_of r = length (state_of r).plan.stages
 
 -- once memory was found for so many entries more
 abbrev pub with_memory : Replica → ℕ → Replica

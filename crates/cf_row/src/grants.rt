@@ -2,7 +2,7 @@
 ghost use Rattle.std.specs.Prelude.{◌≡◌, ◌≢◌, ◌+◌, ◌<◌, ◌≤◌, ◌++◌, All, Contains, IfNone, IfSome, None, length, vec_capacity};
 ghost use Rattle.std.specs.Bool.{OnFalse, OnTrue};
 ghost use Rattle.cf_model.specs.States.{claim_at};
-ghost use Rattle.cf_ledger.specs.Ledgers.{state_of};
+ghost use Rattle.cf_ledger.specs.Ledgers.{stages_of, state_of};
 ghost use Rattle.cf_row.specs.Grants.{IsHeldIn, NoneHeldIn, NoneOpen, claim_of, granted_by};
 
 use cf_ledger::Ledger;
@@ -55,10 +55,10 @@ pub(crate) fn whose(claims: &[Claim], stage: u16) -> Option<u64>
 /// The lowest stage of a graph from a number on whose claim is open.
 pub(crate) fn open_in(ledger: &Ledger, from: u16) -> Option<u16>
     ensures claimed { IfSome result (λ i. claim_at (state_of ledger.now) i ≢ None) }
-    ensures there { IfSome result (λ i. i < length (state_of ledger.now).plan.stages) }
+    ensures there { IfSome result (λ i. i < stages_of ledger.now) }
     ensures above { IfSome result (λ i. from ≤ i) }
     ensures first { IfSome result (λ i. NoneOpen from i (state_of ledger.now)) }
-    ensures none { IfNone result (NoneOpen from (length (state_of ledger.now).plan.stages) (state_of ledger.now)) }
+    ensures none { IfNone result (NoneOpen from (stages_of ledger.now) (state_of ledger.now)) }
 {
     for stage in from..ledger.stages() {
         if ledger.claimant(stage).is_some() {
@@ -71,11 +71,11 @@ pub(crate) fn open_in(ledger: &Ledger, from: u16) -> Option<u16>
 /// The lowest stage of a graph from a number on that a session has, by these claims.
 pub(crate) fn held_in(ledger: &Ledger, claims: &[Claim], session: u64, from: u16) -> Option<u16>
     ensures held { IfSome result (λ i. IsHeldIn claims.now (state_of ledger.now) session i) }
-    ensures there { IfSome result (λ i. i < length (state_of ledger.now).plan.stages) }
+    ensures there { IfSome result (λ i. i < stages_of ledger.now) }
     ensures above { IfSome result (λ i. from ≤ i) }
     ensures first { IfSome result (λ i. NoneHeldIn claims.now (state_of ledger.now) session from i) }
     ensures none { IfNone result
-        (NoneHeldIn claims.now (state_of ledger.now) session from (length (state_of ledger.now).plan.stages)) }
+        (NoneHeldIn claims.now (state_of ledger.now) session from (stages_of ledger.now)) }
 {
     for stage in from..ledger.stages() {
         if is_held(ledger, claims, session, stage) {
@@ -87,7 +87,7 @@ pub(crate) fn held_in(ledger: &Ledger, claims: &[Claim], session: u64, from: u16
 
 /// Whether a session has a stage, by these claims.
 pub(crate) fn is_held(ledger: &Ledger, claims: &[Claim], session: u64, stage: u16) -> bool
-    requires { stage < length (state_of ledger.now).plan.stages }
+    requires { stage < stages_of ledger.now }
     ensures held { OnTrue result (IsHeldIn claims.now (state_of ledger.now) session stage) }
     ensures none { OnFalse result (¬ IsHeldIn claims.now (state_of ledger.now) session stage) }
 {

@@ -3,7 +3,7 @@ ghost use Rattle.std.specs.Prelude.{◌≡◌, ◌⊎◌, ◌<◌, ◌≤◌, If
 ghost use Rattle.std.specs.Bool.{OnFalse, OnTrue};
 ghost use Rattle.cf_model.specs.Events.{source_outcome};
 ghost use Rattle.cf_model.specs.States.{is_ready, stage_at};
-ghost use Rattle.cf_ledger.specs.Ledgers.{state_of};
+ghost use Rattle.cf_ledger.specs.Ledgers.{stages_of, state_of};
 ghost use Rattle.cf_row.specs.Next.{CanClaimIn, Follows, GoesOnAfter, NoneToClaimIn, Settles, is_needed, settles_with};
 
 use crate::grants::{Claim, is_held};
@@ -33,11 +33,11 @@ pub(crate) fn next_in(
 ) -> Option<u16>
     requires plan { plan.now ≡ (state_of ledger.now).plan }
     ensures can { IfSome result (λ i. CanClaimIn claims.now (state_of ledger.now) session ended i) }
-    ensures there { IfSome result (λ i. i < length (state_of ledger.now).plan.stages) }
+    ensures there { IfSome result (λ i. i < stages_of ledger.now) }
     ensures above { IfSome result (λ i. from ≤ i) }
     ensures first { IfSome result (λ i. NoneToClaimIn claims.now (state_of ledger.now) session ended from i) }
     ensures none { IfNone result
-        (NoneToClaimIn claims.now (state_of ledger.now) session ended from (length (state_of ledger.now).plan.stages)) }
+        (NoneToClaimIn claims.now (state_of ledger.now) session ended from (stages_of ledger.now)) }
 {
     let after = settled_by(plan, ledger, claims, session, ended);
     for stage in from..ledger.stages() {
@@ -74,7 +74,7 @@ fn settled_by(
 #[tactic(auto, using(crate::proofs::Claiming::links_lower))]
 fn outcome_by(plan: &GrowingPlan, ledger: &Ledger, held: Held) -> Option<Outcome>
     requires plan { plan.now ≡ (state_of ledger.now).plan }
-    requires there { held.stage < length (state_of ledger.now).plan.stages }
+    requires there { held.stage < stages_of ledger.now }
     ensures { result ≡ settles_with (state_of ledger.now) held }
 {
     let source = source_outcome(plan, ledger, held.stage);
@@ -87,7 +87,7 @@ fn outcome_by(plan: &GrowingPlan, ledger: &Ledger, held: Held) -> Option<Outcome
 /// The outcome of a stage's first source.
 fn source_outcome(plan: &GrowingPlan, ledger: &Ledger, stage: u16) -> Option<Outcome>
     requires plan { plan.now ≡ (state_of ledger.now).plan }
-    requires there { stage < length (state_of ledger.now).plan.stages }
+    requires there { stage < stages_of ledger.now }
     ensures { result ≡ source_outcome (state_of ledger.now) stage }
 {
     match plan.sources(stage).first() {
@@ -99,7 +99,7 @@ fn source_outcome(plan: &GrowingPlan, ledger: &Ledger, stage: u16) -> Option<Out
 /// Whether a stage is ready, or is so once another one is settled.
 fn can_claim(plan: &GrowingPlan, ledger: &Ledger, after: Option<Settling>, stage: u16) -> bool
     requires plan { plan.now ≡ (state_of ledger.now).plan }
-    requires there { stage < length (state_of ledger.now).plan.stages }
+    requires there { stage < stages_of ledger.now }
     ensures can { OnTrue result
         ((is_ready (stage_at (state_of ledger.now) stage) ≡ true) ⊎ GoesOnAfter (state_of ledger.now) after stage) }
     ensures none { OnFalse result

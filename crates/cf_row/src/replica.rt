@@ -1,5 +1,5 @@
 //! What a session has replayed of a row, and what it was answered.
-ghost use Rattle.std.specs.Prelude.{◌≡◌, ◌≢◌, ◌+◌, ◌<◌, ◌≤◌, ◌∷◌, ◌++◌, [], ℕ, All, Contains, IfErr, IfNone, IfOk, IfSome, None, OnErr, OnOk, Some, cond, length, map, max, take, true, vec_capacity};
+ghost use Rattle.std.specs.Prelude.{◌≡◌, ◌≢◌, ◌+◌, ◌<◌, ◌≤◌, ◌∷◌, ◌++◌, [], All, Contains, IfErr, IfNone, IfOk, IfSome, None, OnErr, OnOk, Some, cond, length, map, take, true, vec_capacity};
 ghost use Rattle.cf_forms.specs.Plans.{has_place, with_room};
 ghost use Rattle.cf_model.specs.States.{claim_at, outcome_at, start};
 ghost use Rattle.cf_event.specs.Words.{word_of};
@@ -9,7 +9,7 @@ ghost use Rattle.cf_row.specs.Numbers.{FollowsRule};
 ghost use Rattle.cf_row.specs.Puts.{IsPutOrNone, pairs_of};
 ghost use Rattle.cf_row.specs.Abandoning.{Abandons};
 ghost use Rattle.cf_row.specs.Next.{CanClaim, Finishes, HasNoClaim, NoneToClaim};
-ghost use Rattle.cf_row.specs.Rows.{FitsEachRow, IsMisfit, Replays, Takes, history_of, ledger_of, session_of, state_of, with_memory, with_more, with_outcome, words_in};
+ghost use Rattle.cf_row.specs.Rows.{FitsEachRow, IsMisfit, Replays, Takes, history_of, ledger_of, session_of, stages_of, state_of, with_memory, with_more, with_outcome, words_in};
 
 use crate::entry::Entry;
 use crate::grants::{Claim, has, held_in, note_claim, open_in, whose};
@@ -151,10 +151,10 @@ impl Replica {
     pub fn open_claim(&self, from: u16) -> Option<Claim>
         ensures whose { IfSome result (λ c. IsGrantedTo self.now c.session c.stage) }
         ensures claimed { IfSome result (λ c. claim_at (state_of self.now) c.stage ≢ None) }
-        ensures there { IfSome result (λ c. c.stage < length (state_of self.now).plan.stages) }
+        ensures there { IfSome result (λ c. c.stage < stages_of self.now) }
         ensures above { IfSome result (λ c. from ≤ c.stage) }
         ensures first { IfSome result (λ c. NoneOpen from c.stage (state_of self.now)) }
-        ensures none { IfNone result (NoneOpen from (length (state_of self.now).plan.stages) (state_of self.now)) }
+        ensures none { IfNone result (NoneOpen from (stages_of self.now) (state_of self.now)) }
     {
         let stage = open_in(&self.ledger, from)?;
         let Some(session) = whose(&self.claims, stage) else {
@@ -168,10 +168,10 @@ impl Replica {
     /// claim is open.
     pub fn held(&self, session: u64, from: u16) -> Option<u16>
         ensures held { IfSome result (λ i. IsHeldBy self.now session i) }
-        ensures there { IfSome result (λ i. i < length (state_of self.now).plan.stages) }
+        ensures there { IfSome result (λ i. i < stages_of self.now) }
         ensures above { IfSome result (λ i. from ≤ i) }
         ensures first { IfSome result (λ i. NoneHeldBy self.now session from i) }
-        ensures none { IfNone result (NoneHeldBy self.now session from (length (state_of self.now).plan.stages)) }
+        ensures none { IfNone result (NoneHeldBy self.now session from (stages_of self.now)) }
     {
         held_in(&self.ledger, &self.claims, session, from)
     }
@@ -180,7 +180,7 @@ impl Replica {
     /// The graph takes it behind all that was seen, and it fails the stage there with this code.
     pub fn abandon(&self, session: u64, from: u16, code: u32) -> Option<u64>
         ensures fails { IfSome result (λ w. Abandons self.now session from code w) }
-        ensures none { IfNone result (NoneHeldBy self.now session from (length (state_of self.now).plan.stages)) }
+        ensures none { IfNone result (NoneHeldBy self.now session from (stages_of self.now)) }
     {
         let stage = self.held(session, from)?;
         let ledger = self.ledger();
@@ -217,10 +217,10 @@ impl Replica {
     /// look at each stage between, and at each claim that was granted.
     pub fn next_claim(&self, ended: Option<Held>, from: u16) -> Option<u16>
         ensures can { IfSome result (λ i. CanClaim self.now ended i) }
-        ensures there { IfSome result (λ i. i < length (state_of self.now).plan.stages) }
+        ensures there { IfSome result (λ i. i < stages_of self.now) }
         ensures above { IfSome result (λ i. from ≤ i) }
         ensures first { IfSome result (λ i. NoneToClaim self.now ended from i) }
-        ensures none { IfNone result (NoneToClaim self.now ended from (length (state_of self.now).plan.stages)) }
+        ensures none { IfNone result (NoneToClaim self.now ended from (stages_of self.now)) }
     {
         next_in(
             &self.grown,
@@ -335,7 +335,7 @@ impl Replica {
     /// The outcome of a stage by all that was seen, if it is settled. It is recorded. It fails only where there is no
     /// memory, and then all is as it was.
     pub(crate) fn outcome(&mut self, stage: u16) -> Result<Option<Outcome>, AllocError>
-        requires there { stage < length (state_of self.old).plan.stages }
+        requires there { stage < stages_of self.old }
         ensures told { IfOk result (λ outcome. outcome ≡ outcome_at (state_of self.old) stage) }
         ensures recorded { IfOk result (λ outcome. self.new ≡ with_outcome self.old stage outcome) }
         ensures unchanged { OnErr result (self.new ≡ self.old) }

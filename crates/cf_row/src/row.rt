@@ -1,8 +1,8 @@
 //! A session's view of a row, with the put that is under way.
-ghost use Rattle.std.specs.Prelude.{◌≡◌, ◌≢◌, ◌+◌, ◌*◌, ◌<◌, ◌≤◌, ◌∷◌, ◌++◌, [], All, IfErr, IfOk, OnErr, OnOk, length, max, take, true, vec_capacity};
+ghost use Rattle.std.specs.Prelude.{◌≡◌, ◌+◌, ◌*◌, ◌<◌, ◌≤◌, [], All, IfErr, IfOk, OnErr, OnOk, length, take, true, vec_capacity};
 ghost use Rattle.cf_forms.specs.Plans.{has_place, with_room};
 ghost use Rattle.cf_model.specs.States.{outcome_at};
-ghost use Rattle.cf_row.specs.Rows.{IsMisfit, IsNoEntry, Replays, Takes, session_of, state_of, with_memory, with_more, with_outcome};
+ghost use Rattle.cf_row.specs.Rows.{IsMisfit, IsNoEntry, Replays, Takes, session_of, stages_of, state_of, with_memory, with_more, with_outcome};
 ghost use Rattle.cf_row.specs.Puts.{IsNoPut, IsPutOf, OnlyFinds, Plans, TellsOf, stamped};
 
 use crate::entry::{Entry, TOKENS};
@@ -201,7 +201,7 @@ impl Row {
     /// The outcome of a stage by all that was seen, if it is settled. It is recorded. It fails only where there is no
     /// memory, and then all is as it was.
     pub fn outcome(&mut self, stage: u16) -> Result<Option<Outcome>, AllocError>
-        requires there { stage < length (state_of self.old.replica).plan.stages }
+        requires there { stage < stages_of self.old.replica }
         ensures told { IfOk result (λ outcome. outcome ≡ outcome_at (state_of self.old.replica) stage) }
         ensures recorded { IfOk result (λ outcome.
             self.new ≡ record self.old { replica = with_outcome self.old.replica stage outcome }) }

@@ -1,5 +1,5 @@
 -- One entry more.
-use Rattle.std.proofs.Common.{◌≡◌, ◌∙◌, ℕ, zero, suc, ◌<◌, ◌≤◌, List, [], ◌∷◌, ◌++◌, length, map, refl, ap, sym, subst, arith, get_or, take}
+use Rattle.std.proofs.Common.{◌≡◌, ◌∙◌, ℕ, zero, suc, ◌<◌, ◌≤◌, List, [], ◌∷◌, ◌++◌, length, refl, ap, sym, subst, arith, get_or, take}
 use Rattle.std.specs.Prelude.{Some, None}
 use Rattle.std.proofs.lemmas.List.{length-take-le, take_all}
 use Rattle.cf_forms.specs.Plans.{attached_stage}
@@ -12,7 +12,7 @@ use Rattle.cf_model.specs.declared.replies.Attached.TheVariants.{StagesFull}
 use Rattle.cf_model.specs.Ranges.{EventFits}
 use Rattle.cf_model.specs.declared.events.Reply.{Reply}
 use Rattle.cf_event.specs.Decoding.{event_of}
-use Rattle.cf_ledger.specs.Ledgers.{Does, HasRoomFor, Ledger, LedgerRefuses, state_of}
+use Rattle.cf_ledger.specs.Ledgers.{Does, HasRoomFor, Ledger, LedgerRefuses, stages_of, state_of}
 use Rattle.cf_ledger.specs.declared.faults.LedgerFault.TheVariants.{NoRoom}
 use Rattle.cf_telling.specs.declared.tale.Entry.{Entry}
 use Rattle.cf_ledger.specs.declared.faults.LedgerFault.{LedgerFault}
@@ -108,12 +108,12 @@ pub one_done : (word : ℕ) (event : Event) (reply : Reply) (l m : Ledger) (old 
 one_done word event reply l m old new read does added =
     let there = does.read in
     let same : does.event ≡ event = cc in
-    one_told word event reply (state_of l) (state_of m) old new read (subst (EventFits (length (state_of l).plan.stages)) same does.taken.fits)
+    one_told word event reply (state_of l) (state_of m) old new read (subst (EventFits (stages_of l)) same does.taken.fits)
     (subst (λ (d : Event). (reply, state_of m) ≡ answered (state_of l) d) same does.told) added
 
 pub one_full : (word : ℕ) (event : Event) (l : Ledger) (old new : List Entry) → event_of word ≡ Some event → LedgerRefuses (state_of l) word NoRoom → IsAdded word event (ToldAttach StagesFull) old new →
     TellsOne word (state_of l) old (state_of l) new
 one_full word event l old new read (d, there, fits, never) added =
     let same : d ≡ event = cc in
-    one_told word event (ToldAttach StagesFull) (state_of l) (state_of l) old new read (subst (EventFits (length (state_of l).plan.stages)) same fits)
+    one_told word event (ToldAttach StagesFull) (state_of l) (state_of l) old new read (subst (EventFits (stages_of l)) same fits)
     (subst (λ (e : Event). (ToldAttach StagesFull, state_of l) ≡ answered (state_of l) e) same (is_full (state_of l) d never)) added

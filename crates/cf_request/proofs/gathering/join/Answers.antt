@@ -1,5 +1,5 @@
-use Rattle.std.proofs.Common.{◌+◌, ℕ, arith, drop, length, subst}
-use Rattle.cf_ledger.specs.Ledgers.{state_of}
+use Rattle.std.proofs.Common.{◌+◌, ℕ, arith, drop, subst}
+use Rattle.cf_ledger.specs.Ledgers.{stages_of}
 use Rattle.cf_request.specs.Attaching.{TellsAttaches}
 use Rattle.cf_request.specs.Gathering.{joins}
 use Rattle.cf_request.proofs.Gathered.{joins_then, pair_there}
@@ -38,7 +38,7 @@ loop-source-preserved c =
     let left = c.attach-root.ensures.room in
     let free = c.attach-root.ensures.memory in
     let at = c.attach-root.ensures.at in
-    let here = length (state_of l.teller.ledger).plan.stages in
+    let here = stages_of l.teller.ledger in
     record {
       onward = λ end h. l.invariant.onward end
           (joins_then c.args.who c.args.how here l.root c.args.sources.now l.source-index l.teller c.attach-root.new.teller end (omega arith) c.attach-root.ensures.tells

@@ -10,9 +10,9 @@ use Rattle.cf_request.proofs.refusals.end_all.Goals as goal
 
 pub loop-due-init : goal.loop-due-init
 loop-due-init c = record {
-  settles = dues_none (IsRelayOr c.args.follows.now (IsEnded c.args.teller.now.lanes.of c.args.ending)) c.args.who c.args.teller.now;
+  settles = dues_none (IsRelayOr c.args.relays.now.follows.items (IsEnded c.args.teller.now.lanes.of c.args.ending)) c.args.who c.args.teller.now;
   relays = c.requires.relays;
-  seen = looked_none _ c.args.teller.now.told c.args.follows.now (state_of c.args.teller.now.ledger).stages (ap (λ (l : List ℕ). length l) c.told.ensures.told) c.requires.none_behind;
+  seen = looked_none _ c.args.teller.now.told c.args.relays.now.follows.items (state_of c.args.teller.now.ledger).stages (ap (λ (l : List ℕ). length l) c.told.ensures.told) c.requires.none_behind;
   lane = c.requires.lane;
   memory = c.requires.memory;
 }
@@ -32,15 +32,15 @@ loop-due-preserved c =
     let b = c.loop-due.teller in
     let e = c.settle.new.teller in
     let d = c.in-Some.due in
-    let due = subst (λ (l : Lanes). IsRelayOr c.args.follows.now (IsEnded l.of c.args.ending) (state_of b.ledger) d) c.loop-due.invariant.settles.lanes c.in-Some.ensures.due in
+    let due = subst (λ (l : Lanes). IsRelayOr c.args.relays.now.follows.items (IsEnded l.of c.args.ending) (state_of b.ledger) d) c.loop-due.invariant.settles.lanes c.in-Some.ensures.due in
     let keeps = keeps_settle c.args.who d b e c.settle.ensures in
     let fewer = stages_fewer c.args.who d b e c.in-Some.ensures.is_open c.settle.ensures in
     let one = spends_settle c.args.who d b e c.settle.ensures in
     let enough = c.loop-due.invariant.memory in
     record {
-      settles = dues_more (IsRelayOr c.args.follows.now (IsEnded a.lanes.of c.args.ending)) c.args.who a b e d c.loop-due.invariant.settles c.in-Some.ensures.is_open due c.settle.ensures;
-      relays = follows_kept b e c.args.follows.now keeps c.loop-due.invariant.relays;
-      seen = looked_settle c.next_ended.new.seen c.args.follows.now c.args.who d b e c.settle.ensures c.next_ended.ensures.seen;
+      settles = dues_more (IsRelayOr c.args.relays.now.follows.items (IsEnded a.lanes.of c.args.ending)) c.args.who a b e d c.loop-due.invariant.settles c.in-Some.ensures.is_open due c.settle.ensures;
+      relays = follows_kept b e c.args.relays.now.follows.items keeps c.loop-due.invariant.relays;
+      seen = looked_settle c.next_ended.new.seen c.args.relays.now.follows.items c.args.who d b e c.settle.ensures c.next_ended.ensures.seen;
       lane = subst (λ (l : Lanes). HasLane l.count c.args.ending) (sym keeps.lanes) c.loop-due.invariant.lane;
       memory = omega (arith, fewer, one, enough);
     }

@@ -9,9 +9,9 @@ use Rattle.cf_request.proofs.refusals.end_all.Given as goal
 -- what was due was settled, all stages and a lane are there, so much of what is told was looked at, and there is memory for what may follow
 abbrev pub invariant-loop-due : goal.invariant-loop-due
 invariant-loop-due l = record {
-  settles : SettlesDue (IsRelayOr l.follows (IsEnded l.initial.teller.lanes.of l.ending)) l.who l.initial.teller l.teller;
-  relays : AreThere (state_of l.teller.ledger) l.follows;
-  seen : AreLookedAt l.seen l.teller.told l.follows (state_of l.teller.ledger).stages;
+  settles : SettlesDue (IsRelayOr l.relays.follows.items (IsEnded l.initial.teller.lanes.of l.ending)) l.who l.initial.teller l.teller;
+  relays : AreThere (state_of l.teller.ledger) l.relays.follows.items;
+  seen : AreLookedAt l.seen l.teller.told l.relays.follows.items (state_of l.teller.ledger).stages;
   lane : HasLane l.teller.lanes.count l.ending;
   memory : open_in_all (state_of l.teller.ledger) ≤ l.teller.ledger.free;
 }

@@ -7,28 +7,28 @@ use Rattle.cf_request.proofs.relays.settle_behind.Goals as goal
 
 pub settle-requires-clause-memory : goal.settle-requires-clause-memory
 settle-requires-clause-memory c =
-    let some = relay_waits c.args.follows.now (state_of c.loop-due.teller.ledger) c.in-Some.due c.in-Some.ensures.is_open c.in-Some.ensures.due in
+    let some = relay_waits c.args.relays.now.follows.items (state_of c.loop-due.teller.ledger) c.in-Some.due c.in-Some.ensures.is_open c.in-Some.ensures.due in
     let kept = c.loop-due.invariant.memory in
-    let enough = c.requires.memory in
+    let enough = c.requires.may.memory in
     omega (arith, some, kept, enough)
 
 pub loop-due-smaller : goal.loop-due-smaller
-loop-due-smaller c = relays_fewer c.args.follows.now c.args.who c.in-Some.due c.loop-due.teller c.settle.new.teller c.in-Some.ensures.is_open c.in-Some.ensures.due c.settle.ensures
+loop-due-smaller c = relays_fewer c.args.relays.now.follows.items c.args.who c.in-Some.due c.loop-due.teller c.settle.new.teller c.in-Some.ensures.is_open c.in-Some.ensures.due c.settle.ensures
 
 pub loop-due-preserved : goal.loop-due-preserved
 loop-due-preserved c =
     let b = c.loop-due.teller in
     let e = c.settle.new.teller in
     let d = c.in-Some.due in
-    let follows = c.args.follows.now in
+    let follows = c.args.relays.now.follows.items in
     let some = relay_waits follows (state_of b.ledger) d c.in-Some.ensures.is_open c.in-Some.ensures.due in
     let fewer = relays_fewer follows c.args.who d b e c.in-Some.ensures.is_open c.in-Some.ensures.due c.settle.ensures in
     let one = spends_settle c.args.who d b e c.settle.ensures in
     let kept = c.loop-due.invariant.memory in
-    let enough = c.requires.memory in
+    let enough = c.requires.may.memory in
     let most = c.loop-due.invariant.waiting in
     let few = c.loop-due.invariant.fewer in
-    let left = c.saturating_sub.ensures in
+    let left = c.saturating_sub-waiting.ensures in
     record {
       settles = dues_more (IsRelayDue follows) c.args.who c.args.teller.now b e d c.loop-due.invariant.settles c.in-Some.ensures.is_open c.in-Some.ensures.due c.settle.ensures;
       there = follows_kept b e follows (keeps_settle c.args.who d b e c.settle.ensures) c.loop-due.invariant.there;

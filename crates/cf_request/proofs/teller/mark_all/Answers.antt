@@ -10,7 +10,7 @@ loop-i-preserved c =
     let n = c.args.stages in
     let k = c.loop-i.i in
     let before : Marks (λ i. (k ≤ i) × (i < n)) stages c.args.sets.now c.loop-i.sets = record { rest = c.loop-i.invariant.rest; count = c.loop-i.invariant.count; same = c.loop-i.invariant.same } in
-    let after = marks_more (λ i. (k ≤ i) × (i < n)) (λ i. (k + 1 ≤ i) × (i < n)) stages c.args.sets.now c.loop-i.sets c.write.new.self k c.is_ready.result before c.lanes-known.ensures.sets
-    (omega (arith, c.requires.stages, c.requires.lanes)) (c.is_ready.ensures ∙ ap is_ready c.stage.ensures) c.write.ensures
+    let after = marks_more (λ i. (k ≤ i) × (i < n)) (λ i. (k + 1 ≤ i) × (i < n)) stages c.args.sets.now c.loop-i.sets c.write.new.self k c.is_ready.result before c.write.ensures.sets
+    (omega (arith, c.requires.stages, c.requires.lanes)) (c.is_ready.ensures ∙ ap is_ready c.stage.ensures) c.write.ensures.written
     (λ j differs not left. let from = left.0 in let below = left.1 in not (omega (arith, differs, from), below)) in
     record { rest = after.rest; count = after.count; same = after.same }

@@ -41,8 +41,8 @@ loop-i-preserved c =
     let capacity = c.put.ensures.room in
     let before : Marks (Contains (drop k news)) stages c.args.sets.now c.loop-i.sets = record { rest = c.loop-i.invariant.rest; count = c.loop-i.invariant.count; same = c.loop-i.invariant.same } in
     let there = c.requires.there k 0 (omega arith) in
-    let after = marks_more (Contains (drop k news)) (Contains (drop (k + 1) news)) stages c.args.sets.now c.loop-i.sets c.write.new.self i c.is_ready-ready.result before c.lanes-known.ensures.sets
-    (omega (arith, there, c.requires.lanes)) (c.is_ready-ready.ensures ∙ ap is_ready c.stage.ensures) c.write.ensures (λ j differs not. left_next news k j (omega arith) differs not) in
+    let after = marks_more (Contains (drop k news)) (Contains (drop (k + 1) news)) stages c.args.sets.now c.loop-i.sets c.write.new.self i c.is_ready-ready.result before c.write.ensures.sets
+    (omega (arith, there, c.requires.lanes)) (c.is_ready-ready.ensures ∙ ap is_ready c.stage.ensures) c.write.ensures.written (λ j differs not. left_next news k j (omega arith) differs not) in
     record {
       written = c.put.ensures.items ∙ ap (λ (l : List ℕ). l ++ cond settled (i ∷ []) []) c.loop-i.invariant.written ∙ append_assoc first (filter p (take k news)) (cond settled (i ∷ []) [])
           ∙ ap (λ (l : List ℕ). first ++ l) (ap (λ (b : Bool). filter p (take k news) ++ cond b (i ∷ []) []) is ∙ sym (filter_more p news k 0 (omega arith)));

@@ -22,8 +22,9 @@ invariant_of-result c =
       unset = ap (position (λ b. b)) flags ∙ none_set all;
       flags = ap length flags ∙ length-replicate all false ∙ sym (ap (λ (s : State). length s.plan.stages + s.plan.room) c.in_ok-graph.ensures.graph);
       noted = tt;
-    } in (
-      subst (λ lists. IsKept (with_room c.in_ok-shared.shared c.args.room) c.new.result.items g c.in_ok-changed.changed lists) (sym c.new-2.ensures)
-          (subst (λ (words : List ℕ). IsKept (with_room c.in_ok-shared.shared c.args.room) words g c.in_ok-changed.changed []) (sym c.new.ensures.items) none),
-      no_places (length c.in_ok-changed.changed) c.new.result c.new-2.result,
-    )
+    } in
+    record {
+      kept = subst (λ lists. IsKept (with_room c.in_ok-shared.shared c.args.room) c.new.result.items g c.in_ok-changed.changed lists) (sym c.new-2.ensures)
+          (subst (λ (words : List ℕ). IsKept (with_room c.in_ok-shared.shared c.args.room) words g c.in_ok-changed.changed []) (sym c.new.ensures.items) none);
+      places = no_places (length c.in_ok-changed.changed) c.new.result c.new-2.result;
+    }

@@ -9,16 +9,16 @@ use Rattle.cf_ledger.proofs.ledger.Ledger.news.Goals as goal
 
 pub at-requires : goal.at-requires
 at-requires c =
-    let l = c.self.inside in
+    let l = c.self.inside.book in
     let plan = with_room l.plan l.room in
-    let count = noted_count (start plan) (decoded l.words.items) l.news.lists c.self.invariant.0.noted in
+    let count = noted_count (start plan) (decoded l.words.items) l.news.lists c.self.invariant.kept.noted in
     let is = ap (λ (x : Ledger). length x.events) c.self.view_is in
     let place = c.requires in
     omega (arith, count, is, place)
 
 pub returns : goal.returns
 returns c =
-    let l = c.self.inside in
+    let l = c.self.inside.book in
     let plan = with_room l.plan l.room in
     subst (λ (x : Ledger). AreNews (state_at x c.args.place).stages (state_at x (c.args.place + 1)).stages c.at.result.now) c.self.view_is
-    (noted_at (start plan) (decoded l.words.items) l.news.lists c.args.place c.at.result.now c.self.invariant.0.noted c.at.ensures)
+    (noted_at (start plan) (decoded l.words.items) l.news.lists c.args.place c.at.result.now c.self.invariant.kept.noted c.at.ensures)

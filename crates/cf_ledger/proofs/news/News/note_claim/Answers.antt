@@ -1,7 +1,6 @@
 use Rattle.std.proofs.Common.{◌≡◌, ◌+◌, ◌∷◌, ◌++◌, ◌∙◌, [], ap, arith, length, length-append, refl, subst, sym}
 use Rattle.cf_core.proofs.Keeping.Written.{written_few}
-use Rattle.cf_forms.specs.Plans.{Planned}
-use Rattle.cf_model.proofs.Shape.{answered-frame}
+use Rattle.cf_model.proofs.Shape.{answered-stages}
 use Rattle.cf_model.specs.declared.events.Event.TheVariants.{Claim as Claims}
 use Rattle.cf_model.specs.declared.replies.Claimed.{Claimed}
 use Rattle.cf_model.specs.States.{State}
@@ -42,9 +41,8 @@ returns-clause-free c =
     let new = c.claim_telling-told.new.self.state in
     let row = c.claim_telling-told.new.news in
     let count = length old.plan.stages in
-    let plan : new.plan ≡ old.plan = ap (λ (p : Claimed × State). p.1.plan) t.told ∙ (answered-frame old (Claims c.args.who c.args.stage) refl).plan in
-    let before : length old.stages ≡ count = c.stages-known_before.ensures.all_stages in
-    let after : length new.stages ≡ count = c.stages-known_after.ensures.all_stages ∙ ap (λ (p : Planned). length p.stages) plan in
+    let before : length old.stages ≡ count = c.requires.all_stages in
+    let after : length new.stages ≡ count = ap (λ (p : Claimed × State). length p.1.stages) t.told ∙ answered-stages old (Claims c.args.who c.args.stage) refl ∙ before in
     let few = written_few old.stages new.stages c.self.inside.all.items row.items count (omega (arith, before)) (omega (arith, after)) t.news in
     let places = t.places in
     rw (← c.self.view_is) (omega (arith, few, places))

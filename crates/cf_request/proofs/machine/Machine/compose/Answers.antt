@@ -1,7 +1,7 @@
-use Rattle.std.proofs.Common.{◌+◌, ◌≡◌, ◌∙◌, ◌∷◌, ◌++◌, [], ℕ, List, ap, arith, length, refl, subst}
+use Rattle.std.proofs.Common.{◌+◌, ◌≡◌, ◌∙◌, ◌∷◌, ◌++◌, [], ℕ, List, ap, arith, refl, subst}
 use Rattle.std.specs.Prelude.{vec_capacity}
 use Rattle.std.specs.VecDeque.{deque_capacity}
-use Rattle.cf_ledger.specs.Ledgers.{state_of}
+use Rattle.cf_ledger.specs.Ledgers.{stages_of, state_of}
 use Rattle.cf_model.specs.declared.events.Event.{Event}
 use Rattle.cf_request.specs.Composing.{Composes, composes}
 use Rattle.cf_request.specs.Machines.{Machine}
@@ -21,19 +21,19 @@ row c =
 pub invariant_of-self-2 : goal.invariant_of-self-2
 invariant_of-self-2 c =
     let m = c.self.inside in
-    kept_attach _ m.teller c.reserve.new.self c.compose.new.teller _ m.follows.items m.deadlines.items m.own m.followed m.waiting c.in_ok-reserve.ensures.found (row c) c.self.invariant.0 c.self.invariant.1 c.self.invariant.2
+    kept_attach _ m.teller c.reserve.new.self c.compose.new.teller _ m.relays.follows.items m.deadlines.items m.own m.relays.followed m.relays.waiting c.in_ok-reserve.ensures.found (row c) c.self.invariant.0 c.self.invariant.1 c.self.invariant.2
 
 pub returns-clause-done : goal.returns-clause-done
 returns-clause-done c =
     let m = c.self.inside in
-    let new : Machine = record { teller = c.compose.new.teller; follows = m.follows.items; deadlines = m.deadlines.items; moment = m.moment; own = m.own; relay_places = vec_capacity m.follows; deadline_places = deque_capacity m.deadlines } in
+    let new : Machine = record { teller = c.compose.new.teller; follows = m.relays.follows.items; deadlines = m.deadlines.items; moment = m.moment; own = m.own; relay_places = vec_capacity m.relays.follows; deadline_places = deque_capacity m.deadlines } in
     let most = c.self.invariant.2.most in
     let few = c.self.invariant.2.few in
-    let same = ap (λ (t : Teller). length (state_of t.ledger).plan.stages) c.in_ok-reserve.ensures.found in
+    let same = ap (λ (t : Teller). stages_of t.ledger) c.in_ok-reserve.ensures.found in
     subst (λ (old : Machine). Composes c.args.who c.args.how c.args.source c.args.function c.args.lane old c.compose.result new) c.self.view_is
     (record {
       found = c.reserve.new.self;
-      finds = record { words = 2 + m.waiting; enough = omega (arith, most); few = omega (arith, few); is = c.in_ok-reserve.ensures.found };
+      finds = record { words = 2 + m.relays.waiting; enough = omega (arith, most); few = omega (arith, few); is = c.in_ok-reserve.ensures.found };
       tells = c.compose.ensures.tells;
       relay = c.compose.ensures.relay ∙ same;
       stage = c.compose.ensures.stage ∙ ap (λ (n : ℕ). n + 1) same;
@@ -50,10 +50,10 @@ returns-clause-written c =
 pub returns-clause-calls : goal.returns-clause-calls
 returns-clause-calls c =
     let m = c.self.inside in
-    let first : Machine = record { teller = m.teller; follows = m.follows.items; deadlines = m.deadlines.items; moment = m.moment; own = m.own; relay_places = vec_capacity m.follows; deadline_places = deque_capacity m.deadlines } in
+    let first : Machine = record { teller = m.teller; follows = m.relays.follows.items; deadlines = m.deadlines.items; moment = m.moment; own = m.own; relay_places = vec_capacity m.relays.follows; deadline_places = deque_capacity m.deadlines } in
     let most = c.self.invariant.2.most in
     let enough = c.in_ok-reserve.ensures.enough in
     subst (λ (old : Machine). AreCalls old (nothing ∷ nothing ∷ nothing ∷ []) (record first { teller = c.compose.new.teller })) c.self.view_is
-    (calls_attach c.args.lane (composes c.args.who c.args.how c.args.source c.args.function) first c.reserve.new.self c.compose.new.teller (2 + m.waiting)
+    (calls_attach c.args.lane (composes c.args.who c.args.how c.args.source c.args.function) first c.reserve.new.self c.compose.new.teller (2 + m.relays.waiting)
     (composes_are c.args.who c.args.how c.args.source c.args.function) c.in_ok-reserve.ensures.found (omega (arith, most, enough)) c.in_ok-check_composing.ensures.may.room
     c.self.invariant.0.relays c.self.invariant.1 c.compose.ensures.tells)

@@ -1,6 +1,6 @@
 use Rattle.std.proofs.Common.{◌+◌, ap, arith, length, subst}
 use Rattle.cf_ledger.specs.Ledgers.{state_of}
-use Rattle.cf_request.specs.Machines.{Finds, Machine, waiting_in}
+use Rattle.cf_request.specs.Machines.{FindsFor, Machine}
 use Rattle.cf_request.specs.Relays.{waiting_of}
 use Rattle.cf_request.specs.Telling.{Teller}
 use Rattle.cf_request.proofs.machine.Machine.find_two.Goals as goal
@@ -10,12 +10,12 @@ returns-clause-finds c =
     let m = c.self.inside in
     let most = c.self.invariant.2.most in
     let few = c.self.invariant.2.few in
-    subst (λ (old : Machine). Finds (2 + waiting_in old) (2 + length old.follows) old.teller c.reserve.new.self) c.self.view_is
-    (record { words = 2 + m.waiting; enough = omega (arith, most); few = omega (arith, few); is = c.in_ok-reserve.ensures.found })
+    subst (λ (old : Machine). FindsFor 2 old c.reserve.new.self) c.self.view_is
+    (record { words = 2 + m.relays.waiting; enough = omega (arith, most); few = omega (arith, few); is = c.in_ok-reserve.ensures.found })
 
 pub returns-clause-enough : goal.returns-clause-enough
 returns-clause-enough c =
     let m = c.self.inside in
     let most = c.self.invariant.2.most in
-    let waits = ap (λ (t : Teller). length (waiting_of (state_of t.ledger).stages m.follows.items)) c.in_ok-reserve.ensures.found in
+    let waits = ap (λ (t : Teller). length (waiting_of (state_of t.ledger).stages m.relays.follows.items)) c.in_ok-reserve.ensures.found in
     omega (arith, most, waits, c.in_ok-reserve.ensures.enough)

@@ -4,26 +4,25 @@ use Rattle.std.specs.VecDeque.{deque_capacity}
 use Rattle.cf_request.specs.Machines.{Machine, Refuses}
 use Rattle.cf_request.specs.Refusals.{IsRefused}
 use Rattle.cf_request.specs.Relays.{IsRelayOr}
-use Rattle.cf_request.proofs.Machines.{kept_rest, marked_row, none_row, refuses_is}
+use Rattle.cf_request.proofs.Machines.{kept_rest, none_found, refuses_is}
 use Rattle.cf_request.proofs.machine.Machine.refuse.Goals as goal
 
 pub end_all-requires-clause-marked : goal.end_all-requires-clause-marked
-end_all-requires-clause-marked c = let m = c.self.inside in marked_row c.deref.result.now m.follows.items m.followed c.deref.ensures.value c.self.invariant.2.marked
+end_all-requires-clause-marked c = c.self.invariant.2.marked
 
 pub end_all-requires-clause-none_behind : goal.end_all-requires-clause-none_behind
-end_all-requires-clause-none_behind c = let m = c.self.inside in none_row _ m.teller c.reserve.new.self c.deref.result.now m.follows.items c.deref.ensures.value c.in_ok-reserve.ensures.found c.self.invariant.1
+end_all-requires-clause-none_behind c = let m = c.self.inside in none_found _ m.teller c.reserve.new.self m.relays.follows.items c.in_ok-reserve.ensures.found c.self.invariant.1
 
 pub invariant_of-self-2 : goal.invariant_of-self-2
 invariant_of-self-2 c =
     let m = c.self.inside in
     let r = c.reserve.new.self in
-    kept_rest (IsRelayOr c.deref.result.now (IsRefused r.lanes.of c.args.lane c.args.code)) m.own _ m.teller r c.end_all.new.teller c.deref.result.now m.follows.items m.deadlines.items m.own m.followed m.waiting
-    c.deref.ensures.value c.in_ok-reserve.ensures.found c.end_all.ensures.settles c.self.invariant.0 c.self.invariant.2 c.end_all.ensures.behind
+    kept_rest (IsRelayOr m.relays.follows.items (IsRefused r.lanes.of c.args.lane c.args.code)) m.own _ m.teller r c.end_all.new.teller m.relays m.deadlines.items m.own c.in_ok-reserve.ensures.found c.end_all.ensures.settles c.self.invariant.0 c.self.invariant.2 c.end_all.ensures.behind
 
 pub returns-clause-refuses : goal.returns-clause-refuses
 returns-clause-refuses c =
     let m = c.self.inside in
-    let old : Machine = record { teller = m.teller; follows = m.follows.items; deadlines = m.deadlines.items; moment = m.moment; own = m.own; relay_places = vec_capacity m.follows; deadline_places = deque_capacity m.deadlines } in
+    let old : Machine = record { teller = m.teller; follows = m.relays.follows.items; deadlines = m.deadlines.items; moment = m.moment; own = m.own; relay_places = vec_capacity m.relays.follows; deadline_places = deque_capacity m.deadlines } in
     subst (λ (x : Machine). Refuses c.args.lane c.args.code x (record old { teller = c.end_all.new.teller })) c.self.view_is
-    (refuses_is old c.reserve.new.self c.end_all.new.teller c.deref.result.now c.args.lane c.args.code c.open_stages.result c.deref.ensures.value c.open_stages.ensures c.in_ok-reserve.ensures.found
+    (refuses_is old c.reserve.new.self c.end_all.new.teller c.args.lane c.args.code c.open_stages.result c.open_stages.ensures c.in_ok-reserve.ensures.found
     c.end_all.ensures.behind c.end_all.ensures.none c.end_all.ensures.settles)

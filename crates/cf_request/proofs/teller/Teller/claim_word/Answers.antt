@@ -1,7 +1,8 @@
-use Rattle.std.proofs.Common.{◌≡◌, ◌<◌, ◌∙◌, ℕ, ap, arith, length, refl, subst, sym, vec_capacity}
+use Rattle.std.proofs.Common.{◌≡◌, ◌<◌, ◌∙◌, ap, arith, length, refl, subst, sym, vec_capacity}
 use Rattle.cf_model.specs.declared.events.Reply.TheVariants.{Claim as Told}
 use Rattle.cf_model.specs.States.{is_ready}
-use Rattle.cf_ledger.specs.Ledgers.{state_of}
+use Rattle.cf_ledger.specs.Ledgers.{stages_of, state_of}
+use Rattle.cf_ledger.proofs.Words.{all_states}
 use Rattle.cf_request.specs.Ready.{AreFitBut, ReadySets, lanes_of}
 use Rattle.cf_request.specs.Telling.{Teller, Tells}
 use Rattle.cf_request.proofs.Claims.{kept_claim, left_claim, tells_claim}
@@ -16,7 +17,7 @@ before c =
     let t = c.self.inside in
     record {
       rest = subst (AreFitBut (λ j. j ≡ c.args.stage) (state_of c.claim.new.self).stages) (sym c.reach.ensures)
-          (left_claim t.ledger c.claim.new.self c.args.word c.args.who c.args.stage c.stages-stages.result (Told c.in_ok-told.told) t.lanes c.in_ok-told.ensures.done c.requires.read c.stages-known_before.ensures.all_stages c.self.invariant.1);
+          (left_claim t.ledger c.claim.new.self c.args.word c.args.who c.args.stage c.stages-stages.result (Told c.in_ok-told.told) t.lanes c.in_ok-told.ensures.done c.requires.read (all_states c.self.inside.ledger.plan c.self.inside.ledger.events) c.self.invariant.1);
       count = refl;
       same = refl;
     }
@@ -26,10 +27,10 @@ after c =
     let t = c.self.inside in
     let reached = lanes_reached t.ledger c.claim.new.self c.args.word c.stages-stages.result 0 (Told c.in_ok-told.told) t.lanes c.in_ok-told.ensures.done c.stages-stages.ensures.count c.self.invariant.1 in
     let less = none_lost t.ledger c.claim.new.self c.args.word (Told c.in_ok-told.told) c.in_ok-told.ensures.done in
-    let there = subst (λ (x : Teller). c.args.stage < length (state_of x.ledger).plan.stages) (sym c.self.view_is) c.requires.there in
+    let there = subst (λ (x : Teller). c.args.stage < stages_of x.ledger) (sym c.self.view_is) c.requires.there in
     let size = ap (λ (r : ReadySets). length r.of) c.reach.ensures in
-    marks_more (λ j. j ≡ c.args.stage) (λ j. ⊥) (state_of c.claim.new.self).stages c.reach.new.self c.reach.new.self c.write.new.self c.args.stage c.is_ready.result (before c) c.lanes-known.ensures.sets
-    (omega (arith, there, less, reached, size)) (c.is_ready.ensures ∙ ap is_ready c.stage.ensures) c.write.ensures (λ j differs not. differs)
+    marks_more (λ j. j ≡ c.args.stage) (λ j. ⊥) (state_of c.claim.new.self).stages c.reach.new.self c.reach.new.self c.write.new.self c.args.stage c.is_ready.result (before c) c.write.ensures.sets
+    (omega (arith, there, less, reached, size)) (c.is_ready.ensures ∙ ap is_ready c.stage.ensures) c.write.ensures.written (λ j differs not. differs)
 
 written : (c : goal.After-write) → c.write.new.self ≡ record c.self.inside.lanes { of = lanes_of c.stages-stages.result 0 c.self.inside.lanes.of; sets = c.write.new.self.sets }
 written c = (after c).same ∙ ap (λ (r : ReadySets). let x : ReadySets = record r { sets = c.write.new.self.sets } in x) c.reach.ensures

@@ -1,5 +1,6 @@
 use Rattle.std.proofs.Common.{◌≡◌, ◌-◌, ◌∙◌, ℕ, Contains, ap, arith, length, subst, sym, vec_capacity}
-use Rattle.cf_ledger.specs.Ledgers.{state_of}
+use Rattle.cf_ledger.specs.Ledgers.{stages_of, state_of}
+use Rattle.cf_ledger.proofs.Words.{all_states}
 use Rattle.cf_model.specs.declared.events.Reply.TheVariants.{Finish as Told}
 use Rattle.cf_request.specs.Ready.{AreFitBut, HasLanes, ReadySets, lanes_of, with_lane}
 use Rattle.cf_request.specs.Telling.{IsKept, Teller, Tells}
@@ -10,7 +11,7 @@ use Rattle.cf_request.proofs.teller.Teller.finish_word.Goals as goal
 pub note-requires-clause-there : goal.note-requires-clause-there
 note-requires-clause-there c =
     news_fit c.self.inside.ledger c.finish.new.self c.args.word (c.len-place.result - 1) (Told c.in_ok-told.told) c.news-changed.result.now c.in_ok-told.ensures.done (ap (λ (n : ℕ). n - 1) c.len-place.ensures) c.news-changed.ensures
-    c.stages-known_before.ensures.all_stages c.stages-stages.ensures.all_stages
+    (all_states c.self.inside.ledger.plan c.self.inside.ledger.events) c.stages-stages.ensures.all_stages
 
 pub note-requires-clause-room : goal.note-requires-clause-room
 note-requires-clause-room c =
@@ -37,16 +38,16 @@ note-requires-clause-rest c =
     let t = c.self.inside in
     subst (λ (r : ReadySets). AreFitBut (Contains c.news-changed.result.now) (state_of c.finish.new.self).stages r) (sym c.reach.ensures)
     (left_by t.ledger c.finish.new.self c.args.word (c.len-place.result - 1) c.stages-stages.result 0 (Told c.in_ok-told.told) c.news-changed.result.now t.lanes
-    c.in_ok-told.ensures.done (ap (λ (n : ℕ). n - 1) c.len-place.ensures) c.news-changed.ensures c.stages-known_before.ensures.all_stages c.self.invariant.1)
+    c.in_ok-told.ensures.done (ap (λ (n : ℕ). n - 1) c.len-place.ensures) c.news-changed.ensures (all_states c.self.inside.ledger.plan c.self.inside.ledger.events) c.self.invariant.1)
 
 -- the lanes once all is written
 written : (c : goal.After-note) → c.note.new.sets ≡ record c.self.inside.lanes { of = lanes_of c.stages-stages.result 0 c.self.inside.lanes.of; sets = c.note.new.sets.sets }
 written c = c.note.ensures.same ∙ ap (λ (r : ReadySets). let x : ReadySets = record r { sets = c.note.new.sets.sets } in x) c.reach.ensures
 
-seen : (c : goal.After-note) → lanes_in c.note.new.sets ≡ with_lane (length (state_of c.finish.new.self).plan.stages) 0 (lanes_in c.self.inside.lanes)
+seen : (c : goal.After-note) → lanes_in c.note.new.sets ≡ with_lane (stages_of c.finish.new.self) 0 (lanes_in c.self.inside.lanes)
 seen c =
     let t = c.self.inside in
-    lanes_seen t.lanes c.note.new.sets c.stages-stages.result (length (state_of c.finish.new.self).plan.stages) 0 (written c) (c.note.ensures.count ∙ ap (λ (r : ReadySets). length r.sets) c.reach.ensures) c.stages-stages.ensures.count
+    lanes_seen t.lanes c.note.new.sets c.stages-stages.result (stages_of c.finish.new.self) 0 (written c) (c.note.ensures.count ∙ ap (λ (r : ReadySets). length r.sets) c.reach.ensures) c.stages-stages.ensures.count
 
 pub invariant_of-self-2 : goal.invariant_of-self-2
 invariant_of-self-2 c =
@@ -66,4 +67,4 @@ returns-clause-done c =
 
 pub returns-clause-lanes : goal.returns-clause-lanes
 returns-clause-lanes c =
-    subst (λ (x : Teller). lanes_in c.note.new.sets ≡ with_lane (length (state_of c.finish.new.self).plan.stages) 0 x.lanes) c.self.view_is (seen c)
+    subst (λ (x : Teller). lanes_in c.note.new.sets ≡ with_lane (stages_of c.finish.new.self) 0 x.lanes) c.self.view_is (seen c)

@@ -1,7 +1,8 @@
 use Rattle.std.proofs.Common.{◌<◌, length, subst, sym}
 use Rattle.std.specs.Prelude.{IfNone, IfSome}
 use Rattle.cf_ledger.specs.Ledgers.{state_of}
-use Rattle.cf_request.specs.Lanes.{IsLowestIn, NoneReadyIn}
+use Rattle.cf_ledger.proofs.Words.{all_states}
+use Rattle.cf_request.specs.Lanes.{IsLowestIn, NothingIsReady}
 use Rattle.cf_request.specs.Telling.{Teller}
 use Rattle.cf_request.proofs.Sets.{lowest_none, lowest_some}
 use Rattle.cf_request.proofs.teller.Teller.lowest.Goals as goal
@@ -13,10 +14,10 @@ pub returns-clause-lowest : goal.returns-clause-lowest
 returns-clause-lowest c =
     let t = c.self.inside in
     subst (λ (x : Teller). IfSome c.lowest.result (λ i. IsLowestIn (state_of x.ledger) x.lanes.of c.args.lane i)) c.self.view_is
-    (lowest_some (state_of t.ledger) t.lanes c.args.lane c.lowest.result c.self.invariant.1 (there c) c.stages-known.ensures.all_stages c.lowest.ensures)
+    (lowest_some (state_of t.ledger) t.lanes c.args.lane c.lowest.result c.self.invariant.1 (there c) (all_states t.ledger.plan t.ledger.events) c.lowest.ensures)
 
 pub returns-clause-none : goal.returns-clause-none
 returns-clause-none c =
     let t = c.self.inside in
-    subst (λ (x : Teller). IfNone c.lowest.result (NoneReadyIn (state_of x.ledger) x.lanes.of c.args.lane (length (state_of x.ledger).plan.stages))) c.self.view_is
+    subst (λ (x : Teller). IfNone c.lowest.result (NothingIsReady x c.args.lane)) c.self.view_is
     (lowest_none (state_of t.ledger) t.lanes c.args.lane c.lowest.result c.self.invariant.1 (there c) c.lowest.ensures)

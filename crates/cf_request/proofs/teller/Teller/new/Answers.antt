@@ -1,6 +1,6 @@
-use Rattle.std.proofs.Common.{◌+◌, ℕ, [], ap, arith, length, subst, vec_capacity}
+use Rattle.std.proofs.Common.{◌≡◌, ◌+◌, ℕ, [], ap, arith, length, subst, vec_capacity}
 use Rattle.cf_model.specs.States.{start}
-use Rattle.cf_ledger.specs.Ledgers.{Ledger, state_of}
+use Rattle.cf_ledger.specs.Ledgers.{Ledger, stages_of, state_of}
 use Rattle.cf_request.specs.Telling.{AreFresh, AreSettledBelow}
 use Rattle.cf_request.proofs.Sets.{fit_first, left_first}
 use Rattle.cf_request.proofs.Telling.{kept_first, kept_new}
@@ -12,6 +12,14 @@ opened c =
     kept_new l c.note_all.new.order.items (ap (λ (x : Ledger). x.events) c.in_ok-ledger.ensures) c.stages-stages.ensures.all_stages
     (subst (λ (n : ℕ). AreSettledBelow n (state_of l).stages c.note_all.new.order.items) c.stages-stages.ensures.count c.note_all.ensures.noted)
 
+pub note_all-requires-clause-room : goal.note_all-requires-clause-room
+note_all-requires-clause-room c =
+    let stages = c.stages-stages.ensures.count in
+    let same : stages_of c.in_ok-ledger.ledger ≡ length c.args.plan.now.stages = ap (λ (l : Ledger). stages_of l) c.in_ok-ledger.ensures in
+    let all = c.requires.all in
+    let room = c.in_ok-order.ensures.capacity in
+    omega (arith, stages, same, all, room)
+
 pub mark_all-requires-clause-rest : goal.mark_all-requires-clause-rest
 mark_all-requires-clause-rest c =
     let stages = c.stages-stages.ensures.count in
@@ -22,9 +30,11 @@ pub invariant_of-result : goal.invariant_of-result
 invariant_of-result c =
     let l = c.in_ok-ledger.ledger in
     let stages = c.stages-stages.ensures.count in
+    let first : stages_of l ≡ length c.args.plan.now.stages = ap (λ (x : Ledger). stages_of x) c.in_ok-ledger.ensures in
+    let all = c.requires.all in
     let room = c.in_ok-order.ensures.capacity in
     let same = c.note_all.ensures.room in (
-      kept_first l c.args.plan.now c.args.room c.note_all.new.order.items (vec_capacity c.note_all.new.order) c.in_ok-ledger.ensures c.requires.place (omega (arith, stages, room, same)) (opened c),
+      kept_first l c.args.plan.now c.args.room c.note_all.new.order.items (vec_capacity c.note_all.new.order) c.in_ok-ledger.ensures c.requires.place (omega (arith, stages, first, all, room, same)) (opened c),
       fit_first l c.args.plan.now c.args.room c.args.of.now c.args.lanes c.in_ok-sets.sets c.mark_all.new.sets c.in_ok-ledger.ensures c.requires.all c.in_ok-sets.ensures c.mark_all.ensures.same c.mark_all.ensures.fit,
     )
 

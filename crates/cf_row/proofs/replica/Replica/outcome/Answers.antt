@@ -3,7 +3,7 @@ use Rattle.std.proofs.lemmas.List.{length_push}
 use Rattle.cf_event.specs.declared.record.Record.TheVariants.{Saw}
 use Rattle.cf_model.specs.declared.asks.Ask.TheVariants.{Outcome as AsksOutcome}
 use Rattle.cf_model.specs.declared.asks.Told.TheVariants.{Outcome as ToldOutcome}
-use Rattle.cf_row.specs.Rows.{Replica, state_of}
+use Rattle.cf_row.specs.Rows.{Replica, stages_of}
 use Rattle.cf_row.proofs.Own.{kept_ask}
 use Rattle.cf_row.proofs.replica.Replica.outcome.Goals as goal
 
@@ -17,7 +17,7 @@ invariant_of-self-2 c =
     record {
       kept = kept_ask r.ledger r.ledger r.session r.seen.items r.records.items c.push_reserved.new.self.items c.args.stage c.outcome-outcome.result c.len.result
           c.self.invariant.kept refl told (search rules) c.outcome-outcome.ensures
-          (subst (λ (v : Replica). c.args.stage < length (state_of v).plan.stages) (sym c.self.view_is) c.requires.there);
+          (subst (λ (v : Replica). c.args.stage < stages_of v) (sym c.self.view_is) c.requires.there);
       memory = record {
         same = memory.same;
         few = memory.few;

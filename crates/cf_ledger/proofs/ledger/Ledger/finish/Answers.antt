@@ -1,0 +1,13 @@
+use Rattle.std.proofs.Common.{◌<◌, ◌∙◌, arith, length, subst, sym}
+use Rattle.cf_model.specs.Graphs.{Graph}
+use Rattle.cf_model.specs.declared.events.Reply.TheVariants.{Finish as ToldFinish}
+use Rattle.cf_ledger.specs.Books.{ledger_in}
+use Rattle.cf_ledger.specs.Ledgers.{Does, Ledger}
+use Rattle.cf_ledger.proofs.ledger.Ledger.finish.Goals as goal
+
+pub finish-requires-clause-there : goal.finish-requires-clause-there
+finish-requires-clause-there c = subst (λ (g : Graph). c.args.stage < length g.state.plan.stages) (sym c.in_ok-make_places.ensures.graph) (omega arith)
+
+pub returns-clause-done : goal.returns-clause-done
+returns-clause-done c =
+    subst (λ (l : Ledger). Does c.args.word l (ToldFinish c.finish.result) (ledger_in c.finish.new.self)) (c.in_ok-make_places.ensures.same ∙ c.self.view_is) c.finish.ensures.does
