@@ -602,8 +602,15 @@ public final class StoreService implements AutoCloseable {
             return known;
         }
         Store.Opened found = store.find(name);
+        if (found == null) {
+            return null;
+        }
         try {
-            return found == null ? null : requestOf(found);
+            StoredRequest request = requestOf(found);
+            if (needsWork(request)) { // (the store tells only of what comes later)
+                queueWork(request);
+            }
+            return request;
         } catch (StoreException.Broken fault) {
             giveUp(name, null, fault);
             return null;

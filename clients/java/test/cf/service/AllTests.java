@@ -231,6 +231,7 @@ public final class AllTests {
             test("jobs that no thread took", StoresTest::noThread);
             overDatabase(StoresTest.InFile::new, "SQLite", "file");
             over(StoresTest.InFile::new, "who reads many requests at first", StoreFaultsTest::beats);
+            over(StoresTest.InFile::new, "what is there as a request is first met", StoreFaultsTest::beginsAtOnce);
             over(StoresTest.InFile::new, "a process that comes back", StoreFaultsTest::comesBack);
             over(StoresTest.InFile::new, "a session's name", StoreFaultsTest::namesItself);
             over(StoresTest.InFile::new, "open requests that stay known", StoreFaultsTest::keepsOpen);

@@ -114,6 +114,18 @@ public final class StoreFaultsTest {
         }
     }
 
+    /** What stands in a request that a service first meets, it begins at once, and not with the next beat. */
+    public static void beginsAtOnce(InFile file) throws Exception {
+        ByHand host = new ByHand();
+        Functions functions = new Functions().with("seven", 1, () -> 7L);
+        try (StoreService asks = StoresTest.service(file, functions, 0, false); StoreService works = service(file.open(), functions, host)) {
+            host.looks(works, 0); // (no other beat is due as long as the clock stands)
+            StoredStage begun = asks.request("begun").supply("seven");
+            host.looks(works, 0);
+            is(StoresTest.end(begun), 7L);
+        }
+    }
+
     /**
      * A process that was silent is taken for gone, and learns that by the row. It says that it is there before it claims a further try, and that claim
      * says so, too: the further tries aren't lost one after another.
