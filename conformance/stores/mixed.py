@@ -183,7 +183,7 @@ class Client(Process):
     def attached(self, request, rng):
         """A stage more, with or without further tries: what it is behind stands in any place."""
         many, where = len(request._view.forms), f"{request.name}.{self.token()}"
-        call = functools.partial(functions.named(rng.choice(self.kinds), 1).call, where=where)
+        call = functools.partial(functions.find(rng.choice(self.kinds), 1).call, where=where)
         one, other = (request[rng.randrange(many)] if many else None for _ in range(2))
         pick = rng.random()
         if one is None or pick < 0.2:
@@ -193,7 +193,7 @@ class Client(Process):
         elif pick < 0.4:
             return getattr(request, rng.choice(["all_of", "first_of", "gather"]))(one, other)
         elif pick < 0.5:
-            return one.compose(functools.partial(functions.named("composing", 1).call, where=where, inner=rng.choice(self.kinds)))
+            return one.compose(functools.partial(functions.find("composing", 1).call, where=where, inner=rng.choice(self.kinds)))
         elif pick < 0.6:
             made = getattr(one, rng.choice(["combine", "either"]))(other, call)
         else:

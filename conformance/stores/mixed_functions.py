@@ -63,4 +63,4 @@ def composing(request, *args, where, inner):
 
 
 def supplied(request, name, where):
-    return request.supply(functions.named(name, 1).call, where=where)
+    return request.supply(functions.find(name, 1).call, where=where)

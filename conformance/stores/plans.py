@@ -48,7 +48,7 @@ def flow_of(number, mark, functions, kinds):
     rng, flow, steps = random.Random(number), Flow(f"mixed {number}.{mark}"), []
     rng.random()  # (which `is_flow` took)
     for k in range(rng.randint(4, 8)):
-        call = functools.partial(functions.named(kinds[0] if k == number % 4 else rng.choice(kinds), 1).call, where=f"{number}.{mark}/{k}")
+        call = functools.partial(functions.find(kinds[0] if k == number % 4 else rng.choice(kinds), 1).call, where=f"{number}.{mark}/{k}")
         pick, some = rng.random(), [rng.choice(steps) for _ in range(3)] if steps else []
         if k < 2 and number % 2 or not k and pick < 0.5 or pick < 0.1:
             step = flow.supply(call)
