@@ -174,120 +174,83 @@ def rows_of_requests(tools: Tools, made: Path) -> List[Row]:
 
 
 def rows_of_rust(tools: Tools, made: Path) -> List[Row]:
-    """Without the crates of others, so that nothing but the project's own is built, and once over Debian's."""
+    """Without the crates of others, so that nothing but the project's own is built, and over Debian's with all features, which are built once."""
     python, offline, needs = tools["python3"], "clients/rust/offline", ["library", "cargo", "python3"]
-    testing = [python, offline, "run", "-q", "-p", "cf", "--features", "testing", "--example"]
-    stored = [python, offline, "--debian", "run", "-q", "-p", "cf-store", "--features", "testing", "--example"]
-    both = "sqlite,postgres"  # (built once)
-    order, orders = made / "cargo/debug/examples/order", made / "rust-orders.db"
+    over_debian, with_all = [python, offline, "--debian"], ["-q", "--workspace", "--all-features"]
+    stored, order, orders = [*needs, DEBIANS], made / "cargo/debian/debug/examples/order", made / "rust-orders.db"
+    built = [*over_debian, "build", *with_all, *(word for name in ["handler", "killed", "keyed"] for word in ("--example", name))]
     lints = ["--workspace", "--all-features", "--all-targets", "--", "-D", "warnings"]
+    over_stores = ["again", "ends", "flows", "postgres", "questions", "sqlite", "transactions", "whole"]
     sources = sorted(str(path.relative_to(TOP)) for path in (TOP / "clients/rust").glob("cf*/**/*.rs"))
+
+    def example(name: str, file: str, page: str, *words: str) -> Row:
+        """A program of a page that needs no crate of others."""
+        return Row(name, needs, [[python, offline, "run", "-q", *words, "--example", file]], (page, file + ".rs"))
+
+    def over_all(name: str, file: str, page: str) -> Row:
+        """One that is built with all features."""
+        return Row(name, stored, [built, [str(order.parent / file)]], (page, file + ".rs"))
+
     return [
         Row("the layout of Rust's sources", ["rustfmt"], [["rustfmt", "--check", "--edition", "2021", *sources]]),
-        Row("what clippy says of Rust's sources", ["cargo", "python3", "clippy", DEBIANS], [[python, offline, "--debian", "clippy", "-q", *lints]]),
+        Row("what clippy says of Rust's sources", ["cargo", "python3", "clippy", DEBIANS], [[*over_debian, "clippy", "-q", *lints]]),
         Row("Rust's tests", needs, [[python, offline, "test", "-q", "--lib", "--tests", "--examples"]]),
         Row(
-            "Rust's tests under tokio, rayon, serde and tracing",
-            [*needs, DEBIANS],
-            [[python, offline, "--debian", "test", "-q", "-p", "cf", "--features", "tokio,rayon,serde,tracing", "--lib", "--tests"]],
-        ),
-        Row(
-            "Rust's requests in SQLite",
-            [*needs, "cf_look", DEBIANS],
-            [
-                ["env", f"CF_LOOK={tools['cf_look']}", python, offline, "--debian", "test", "-q", "-p", "cf-store", "--features", both, kind]
-                for kind in ["--tests", "--doc"]
-            ],
+            "Rust's tests with all features, over SQLite, over etcd and in every order",
+            [*stored, "cf_look"],
+            [["env", f"CF_LOOK={tools['cf_look']}", *over_debian, "test", *with_all, "--lib", "--tests"]],
         ),
         Row(
             "Rust's requests in PostgreSQL",
-            [*needs, DEBIANS, POSTGRES],
+            [*stored, POSTGRES],
             [
-                [
-                    tools[POSTGRES],
-                    "conformance/stores/over",
-                    "python3",
-                    offline,
-                    "--debian",
-                    "test",
-                    "-q",
-                    "-p",
-                    "cf-store",
-                    "--features",
-                    both,
-                    "--tests",
-                ]
+                [tools[POSTGRES], "conformance/stores/over", "python3", offline, "--debian", "test", *with_all]
+                + [word for name in over_stores for word in ("--test", name)]
             ],
         ),
-        Row(
-            "Rust's requests in etcd",
-            [*needs, DEBIANS],
-            [[python, offline, "--debian", "test", "-q", "-p", "cf-store", "--features", "etcd", "--tests"]],
-        ),
+        Row("the examples of Rust's pages", stored, [[*over_debian, "test", *with_all, "--doc"]]),
+        Row("the reference of Rust's crates", stored, [["env", "RUSTDOCFLAGS=-D warnings", *over_debian, "doc", *with_all, "--no-deps"]]),
         Row(
             "Rust's order whose process is killed",
-            [*needs, DEBIANS],
+            stored,
             [
-                [python, offline, "--debian", "build", "-q", "-p", "cf-store", "--features", "sqlite", "--example", "order"],
+                [*over_debian, "build", "-q", "-p", "cf-store", "--features", "sqlite", "--example", "order"],
                 ["sh", "-c", f"rm -f {orders}* && ! {order} {orders} die && {order} {orders}"],
             ],
             ("clients/rust", "order.rs"),
         ),
-        Row(
-            "Rust's orders under tokio",
-            [*needs, DEBIANS],
-            [[python, offline, "--debian", "run", "-q", "-p", "cf", "--features", "tokio", "--example", "handler"]],
-            ("clients/rust", "handler.rs"),
-        ),
-        Row(
-            "services of Rust's in every order",
-            needs,
-            [[python, offline, "test", "-q", "-p", "cf", "--features", "testing", "--lib", "--test", "orders"]],
-        ),
-        Row("Rust's order that charges twice", needs, [[*testing, "twice"]], ("clients/rust/cf/examples", "twice.rs")),
-        Row("Rust's orders that charge once", needs, [[*testing, "once"]], ("clients/rust/cf/examples", "once.rs")),
-        Row(
-            "services of Rust's over a store in every order",
-            [*needs, "cf_look", DEBIANS],
-            [
-                ["env", f"CF_LOOK={tools['cf_look']}", python, offline, "--debian", "test", "-q", "-p", "cf-store", "--features", "testing", kind]
-                for kind in ["--tests", "--doc"]
-            ],
-        ),
-        Row(
-            "Rust's order over a store that charges twice", [*needs, DEBIANS], [[*stored, "killed"]], ("clients/rust/cf-store/examples", "killed.rs")
-        ),
-        Row("Rust's orders over a store that charge once", [*needs, DEBIANS], [[*stored, "keyed"]], ("clients/rust/cf-store/examples", "keyed.rs")),
+        over_all("Rust's orders under tokio", "handler", "clients/rust"),
+        over_all("Rust's order over a store that charges twice", "killed", "clients/rust/cf-store/examples"),
+        over_all("Rust's orders over a store that charge once", "keyed", "clients/rust/cf-store/examples"),
+        *([] if tools.found[DEBIANS] else rows_without_debian(python, offline, needs)),
+        example("Rust's order that charges twice", "twice", "clients/rust/cf/examples", "-p", "cf", "--features", "testing"),
+        example("Rust's orders that charge once", "once", "clients/rust/cf/examples", "-p", "cf", "--features", "testing"),
         Row(
             "random orders of Rust's requests beside explore",
             [*needs, "cf_look"],
             [[python, "conformance/clients/rust-orders", "short", "0", "100", tools["cf_look"]]],
         ),
-        Row("the examples of Rust's pages", needs, [[python, offline, "test", "-q", "--doc", "--features", "cf/testing"]]),
-        Row(
-            "the reference of Rust's crates",
-            [*needs, DEBIANS],
-            [["env", "RUSTDOCFLAGS=-D warnings", python, offline, "--debian", "doc", "-q", "--no-deps", "--all-features"]],
-        ),
-        Row(
-            "Rust's order whose bank is away",
-            needs,
-            [[python, offline, "run", "-q", "-p", "cf", "--example", "retry"]],
-            ("clients/rust/GUIDE.md", "retry.rs"),
-        ),
-        Row("Rust's spans", needs, [[python, offline, "run", "-q", "-p", "cf", "--example", "traced"]], ("clients/rust/cf/examples", "traced.rs")),
-        Row("Rust's first program", needs, [[python, offline, "run", "-q", "-p", "cf", "--example", "first"]], ("clients/rust", "first.rs")),
+        example("Rust's order whose bank is away", "retry", "clients/rust/GUIDE.md", "-p", "cf"),
+        example("Rust's spans", "traced", "clients/rust/cf/examples", "-p", "cf"),
+        example("Rust's first program", "first", "clients/rust", "-p", "cf"),
         Row(
             "random requests of Rust's crate",
             [*needs, "cf", "cf_look"],
             [[python, "conformance/clients/rust-requests", "0", "100", tools["cf"], tools["cf_look"]]],
         ),
+        example("Rust's example", "request", "clients/rust/cf-graph/examples", "-p", "cf-graph"),
+    ]
+
+
+def rows_without_debian(python: str, offline: str, needs: List[str]) -> List[Row]:
+    """What the rows over Debian's crates run, too, as far as it needs no crate of others."""
+    return [
         Row(
-            "Rust's example",
+            "services of Rust's in every order",
             needs,
-            [[python, offline, "run", "-q", "-p", "cf-graph", "--example", "request"]],
-            ("clients/rust/cf-graph/examples", "request.rs"),
+            [[python, offline, "test", "-q", "-p", "cf", "--features", "testing", "--lib", "--test", "orders"]],
         ),
+        Row("the examples of Rust's pages, without crates of others", needs, [[python, offline, "test", "-q", "--doc", "--features", "cf/testing"]]),
     ]
 
 
@@ -386,7 +349,7 @@ def rows_of_languages(tools: Tools, made: Path) -> List[Row]:
         str(made / "languages/classes"),
     )
     java = f"{Path(javac).parent / 'java'} -Xmx64m -XX:+UseSerialGC -XX:TieredStopAtLevel=1 -cp {jar}:{classes}:{tools[SQLITE_JDBC]} Faults"
-    workers = [f"CF_RUST_FAULTS={made / 'cargo/debug/examples/faults'}", *([f"CF_JAVA_FAULTS={java}"] if tools.found[SQLITE_JDBC] else [])]
+    workers = [f"CF_RUST_FAULTS={made / 'cargo/debian/debug/examples/faults'}", *([f"CF_JAVA_FAULTS={java}"] if tools.found[SQLITE_JDBC] else [])]
     return [
         Row(
             "requests in SQLite that three languages share",

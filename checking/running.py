@@ -2,15 +2,16 @@
 import difflib
 import subprocess
 import threading
+import time
 from pathlib import Path
 from typing import Callable, Dict, List, Optional, Sequence, Set, Tuple
 
 from checking.crates import TOP, below, own
 from checking.rows import Row, wanted
-from checking.tools import Tools
+from checking.tools import DEBIANS, Tools
 
 SECONDS = 600  # for a command of a row
-IN_TURN = ["cargo", "JDK of 17 or later", "setuptools and wheel for Python"]  # rows that need one of these share files
+IN_TURN = [DEBIANS, "cargo", "JDK of 17 or later", "setuptools and wheel for Python"]  # rows that need one of these share files
 
 
 def run(commands: Sequence[Sequence[str]], environment: dict, seconds: Optional[int]) -> Tuple[str, str]:
@@ -49,20 +50,23 @@ class Counts:
         self.is_idle = threading.Event()  # no gate is at work
         self.is_idle.set()
 
-    def add(self, name: str, fault: str) -> None:
+    def add(self, name: str, fault: str, began: Optional[float] = None) -> None:
+        took = "" if began is None else f" ({time.monotonic() - began:.0f} s)"
         with self.lock:
             self.passed += not fault
             self.failed += bool(fault)
-            print(f"FAILED {name}: {fault}" if fault else f"passed {name}", flush=True)
+            print(f"FAILED {name}{took}: {fault}" if fault else f"passed {name}{took}", flush=True)
 
     def try_row(self, name: str, fault_of: Callable[[], str]) -> str:
         """Runs a row. If it fails beside the gate, which may leave it too little time or memory, it is run again after the gate."""
+        began = time.monotonic()
         fault = fault_of()
         if fault and not self.is_idle.is_set():
             print(f"check: {name} failed beside rt ci, and is run again once that has ended: {fault}", flush=True)
             self.is_idle.wait()
+            began = time.monotonic()
             fault = fault_of()
-        self.add(name, fault)
+        self.add(name, fault, began)
         return fault
 
 
@@ -143,7 +147,10 @@ class Rows:
             self.changed.notify_all()
 
 
-def run_rows(rows_left: Rows, environment: dict, counts: Counts) -> None:
+def run_rows(rows_left: Rows, environment: dict, counts: Counts, is_beside: bool) -> None:
+    """Runs rows until none is left: also while the gate is at work, or only once it has ended."""
+    if not is_beside:
+        counts.is_idle.wait()
     while True:
         group = rows_left.next()
         if group is None:
