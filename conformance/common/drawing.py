@@ -92,9 +92,10 @@ def picture(script):
         lines += [f's{j} -> s{i} [label="link", style=dashed];' for j in linked]
         edges += len(stage.sources) + len(linked)
     for k, limit in enumerate(plan.limits):
-        what = f"timeout {limit.at}"
         if limit.outcome[0] == "value":
             what = f"complete {limit.at} value {model.value_text(limit.outcome[1])}"
+        else:
+            what = " ".join([f"timeout {limit.at}", *(f"code {code}" for code in limit.outcome[1][1:])])
         lines += [f'l{k} [label="{what}", shape=note, style=solid, fontsize=9];', f"l{k} -> s{limit.stage} [style=dotted, arrowhead=none];"]
         edges += 1
     return HEAD + "".join(f"  {line}\n" for line in lines) + "}\n", edges

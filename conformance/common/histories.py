@@ -56,7 +56,7 @@ def fields(event):
     if kind == "fail":
         return event[2], 0, event[3]
     if kind == "failAs":
-        return event[2], FAILURES.index(event[3]), 0
+        return event[2], FAILURES.index(event[3]), event[4]
     if kind == "finish":
         does, content = event[3]
         tag, low = value_fields(content) if does == "give" else (2 if does == "throw" else 3, content)
@@ -108,7 +108,7 @@ def event_of(word):
     elif name == "fail":
         found = [("fail", who, stage, low)] if tag == 0 else []
     elif name == "failAs":
-        found = [("failAs", who, stage, FAILURES[tag])] if tag < len(FAILURES) and low == 0 else []
+        found = [("failAs", who, stage, FAILURES[tag], low)] if tag < len(FAILURES) else []
     elif name == "tick":
         found = [("tick", who, low)] if tag == 0 and stage == 0 else []
     elif name == "attach":

@@ -84,7 +84,7 @@ def settle_event(who: int, stage: int, outcome: Outcome) -> Event:
     cause = outcome[1]
     if cause[0] == "thrown":
         return ("fail", who, stage, cause[1])
-    return ("cancel", who, stage) if cause[0] == "cancelled" else ("failAs", who, stage, cause[0])
+    return ("cancel", who, stage) if cause[0] == "cancelled" else ("failAs", who, stage, cause[0], (*cause[1:], 0)[0])
 
 
 def kept_in(state: Any) -> List[Stage]:

@@ -3,10 +3,11 @@
 Nothing here is taken from the product's code. At each event the whole state is made anew, by recursion on stage numbers.
 
 Values are None (nil) or an int. An outcome is ("value", v) or ("fault", cause, wrapped), a cause ("thrown", code),
-("cancelled",), ("timeout",) or ("badanswer",). A state of a stage is ("pending",), ("ready", args), ("claimed",),
-("linked", j) or ("settled", outcome). Arguments are ("none",), ("one", v), ("two", v, w) or ("got", outcome). An answer is
-("give", v), ("throw", code) or ("link", j). An event is (kind, who, ...): complete who i v, fail who i code, cancel who i,
-claim who i, finish who i answer, tick who now, attach who form sources function. A function is its number.
+("cancelled",), ("timeout", code) or ("badanswer", code), the last two without a code where it is 0. A state of a stage is
+("pending",), ("ready", args), ("claimed",), ("linked", j) or ("settled", outcome). Arguments are ("none",), ("one", v),
+("two", v, w) or ("got", outcome). An answer is ("give", v), ("throw", code) or ("link", j). An event is (kind, who, ...):
+complete who i v, fail who i code, failAs who i name code, cancel who i, claim who i, finish who i answer, tick who now,
+attach who form sources function. A function is its number.
 
 conformance/common/reading.py says which scripts are right.
 """
@@ -28,6 +29,11 @@ LINKS = {"compose", "exceptionallyCompose"}
 FORMS = sorted(NO_SOURCE | ONE_SOURCE | BOTH | EITHER | {"allOf", "anyOf"})
 BAD_ANSWER = ("fault", ("badanswer",), True)
 CANCELLED = ("fault", ("cancelled",), False)
+
+
+def caused(name, code=0):
+    """The cause of a time-out or of a bad answer. A code of 0 is left out."""
+    return (name, code) if code else (name,)
 
 
 def wrap(outcome):
@@ -165,7 +171,7 @@ def answered(state, event):
         elif kind == "fail":
             o = ("fault", ("thrown", event[3]), False)
         elif kind == "failAs":
-            o = ("fault", (event[3],), False)
+            o = ("fault", caused(*event[3:]), False)
         else:
             o = CANCELLED
         return ("flag", True), after(state, i, o)
@@ -287,7 +293,7 @@ def plan_of(script):
     functions = []
     stages = [stage_of(s, functions) for s in script["stages"]]
     limits = [
-        Limit(m["stage"], m["at"], ("fault", ("timeout",), False) if m["kind"] == "timeout" else ("value", m["value"]))
+        Limit(m["stage"], m["at"], ("fault", caused("timeout", m.get("code", 0)), False) if m["kind"] == "timeout" else ("value", m["value"]))
         for m in script.get("limits", [])
     ]
     return Plan(tuple(stages), tuple(sorted(limits, key=lambda m: m.at))), functions
@@ -315,6 +321,11 @@ def work(functions, state, who=63):
     return events, state
 
 
+def failing(who, step):
+    """The event of a caller's step failAs. Its code is 0 where the step has none."""
+    return ("failAs", who, step[1], step[2], step[3] if len(step) > 3 else 0)
+
+
 def event_of(step, functions):
     """The event that a step of a script is. The function of an attach counts on, also where there is no room."""
     if step[0] == "attach":
@@ -323,6 +334,8 @@ def event_of(step, functions):
         return ("claim", step[1], step[2])
     if step[0] == "finish":
         return ("finish", step[1], step[2], answer_of(step[3]))
+    if step[0] == "failAs":
+        return failing(0, step)
     return (step[0], 0) + tuple(step[1:])
 
 

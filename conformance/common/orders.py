@@ -40,6 +40,8 @@ def step_of(step, c, functions):
         return ("finish", c, step[1], model.answer_of(step[2]))
     if step[0] == "join":
         return ("join", step[1], step[2])
+    if step[0] == "failAs":
+        return model.failing(c, step)
     return ("look", step[1]) if step[0] in ("now", "outcome") else (step[0], c) + tuple(step[1:])
 
 
@@ -114,7 +116,7 @@ def is_so(what, o):
     if what.startswith("value "):
         return o == ("value", None if what == "value nil" else int(what[6:]))
     words = what.split()
-    cause = ("thrown", int(words[1])) if words[0] == "thrown" else (what,)
+    cause = ("thrown", int(words[1])) if words[0] == "thrown" else model.caused(words[0], *map(int, words[1:]))
     return o[0] == "fault" and o[1] == cause
 
 

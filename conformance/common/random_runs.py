@@ -48,6 +48,8 @@ def random_limit(rng, n):
     limit = {"stage": rng.randrange(n), "at": rng.choice(MOMENTS), "kind": rng.choice(["timeout", "value"])}
     if limit["kind"] == "value":
         limit["value"] = rng.choice(VALUES)
+    elif rng.random() < 0.7:
+        limit["code"] = rng.choice(CODES)
     return limit
 
 
@@ -103,7 +105,7 @@ def random_step(rng, sizes, attaches):
     if kind == "fail":
         return [kind, i, rng.choice(CODES)]
     if kind == "failAs":
-        return [kind, i, rng.choice(["timeout", "badanswer"])]
+        return [kind, i, rng.choice(["timeout", "badanswer"]), rng.choice(CODES)]
     if kind in ("cancel", "outcome", "claim"):
         return [kind, i]
     if kind == "finish":

@@ -64,7 +64,7 @@ JUNK = [
     ["attach", APPLY, 0],
     ["attach"],
 ]
-MEMBERS = ["cf", "room", "stages", "limits", "steps", "form", "of", "fn", "stage", "at", "kind", "value", "x"]
+MEMBERS = ["cf", "room", "stages", "limits", "steps", "form", "of", "fn", "stage", "at", "kind", "value", "code", "x"]
 
 
 # Right scripts.
@@ -101,7 +101,7 @@ def random_step(rng, count, version):
         "claim": [rng.choice([0, 1, 63]), i],
         "now": rng.choice([[i], [i, rng.choice(random_runs.VALUES)]]),
         "nudge": [rng.choice([0, 1, 2, 2**32 - 1])],
-        "failAs": [i, rng.choice(["timeout", "badanswer"])],
+        "failAs": [i, rng.choice(["timeout", "badanswer"])] + rng.choice([[], [rng.choice(random_runs.CODES)]]),
     }
     if kind == "finish":
         answer = rng.choice([{"give": rng.choice(random_runs.VALUES)}, {"throw": rng.choice(random_runs.CODES)}, {"link": rng.randrange(i + 2)}])
@@ -215,6 +215,11 @@ def at_bounds():
         yield written(2, [supply], [attach_supply] * (n - 1) + [attach], room=0)
     for n in (20_000, 20_001):
         yield written(2, [], [attach] * n, room=2)
+    for code in (None, -1, 0, 2**32 - 1, 2**32, 1.0, "1", [], True):
+        yield written(1, [SOURCE], [["tick", 1]], limits=[{"stage": 0, "at": 1, "kind": "timeout", "code": code}])
+        yield written(1, [SOURCE], [["tick", 1]], limits=[{"stage": 0, "at": 1, "kind": "value", "value": 1, "code": code}])
+        yield written(3, [SOURCE], [["failAs", 0, "timeout", code]])
+        yield written(3, [SOURCE], [["failAs", 0, "badanswer", code, 0]])
     yield written(2, [SOURCE], limits=[{"stage": 1, "at": 1, "kind": "timeout"}], room=4_096)
     yield written(2, [SOURCE, {"form": "exceptionallyCompose", "of": [0], "fn": {"goto": 0}}], [["fail", 0, 1], ["work"]])
     yield written(1, [SOURCE, {"form": "exceptionallyCompose", "of": [0], "fn": {"goto": 0}}])

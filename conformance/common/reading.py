@@ -158,7 +158,9 @@ def check_stages(stages, version):
 def is_limit(x):
     if not (isinstance(x, dict) and is_number(x.get("stage")) and is_code(x.get("at"))):
         return False
-    return x.get("kind") == "timeout" or x.get("kind") == "value" and is_value(x.get("value", "absent"))
+    if x.get("kind") == "timeout":
+        return is_code(x.get("code", 0))
+    return x.get("kind") == "value" and is_value(x.get("value", "absent"))
 
 
 def check_limits(limits, stages):
@@ -202,7 +204,7 @@ def is_step(step, count, version):
         "claim": [(who, stage)],
         "finish": [(who, stage, is_answer)],
         "nudge": [(is_code,)],
-        "failAs": [(stage, is_failure)] * (version >= 3),
+        "failAs": [(stage, is_failure), (stage, is_failure, is_code)] * (version >= 3),
     }
     return any(len(step) == len(parts) + 1 and all(part(x) for part, x in zip(parts, step[1:])) for parts in kinds.get(step[0], []))
 

@@ -40,7 +40,7 @@ def value_text(some, number):
 def outcome_text(told):
     if told.kind == VALUE:
         return f"value {value_text(told.some, told.number)}"
-    cause = f"thrown {told.code}" if told.kind == THROWN else CAUSES[told.kind]
+    cause = f"thrown {told.code}" if told.kind == THROWN else CAUSES[told.kind] + (f" {told.code}" if told.code else "")
     return f"fault {cause} {'wrapped' if told.wrapped else 'raw'}"
 
 

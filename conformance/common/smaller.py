@@ -95,6 +95,9 @@ def plainer_step(step):
         yield ["outcome", step[1]]
     if kind == "fail":
         yield [kind, step[1], 1]
+    if kind == "failAs":
+        yield step[:3]
+        yield step[:3] + [1]
     if kind in ("fail", "failAs", "cancel"):
         yield ["complete", step[1], None]
     if kind == "claim":

@@ -11,7 +11,7 @@
 #include <stdlib.h>
 #include <string.h>
 
-enum { MOST = 64, STAGES = 64, DESKS = 64, LOG = 4096, CALLS = 1024, BLIND = 12, ENDS = 1 << 16, TEXT = 32 };
+enum { MOST = 64, STAGES = 64, DESKS = 64, LOG = 4096, CALLS = 1024, BLIND = 12, ENDS = 1 << 16, TEXT = 34 };
 
 /* Functions of scripts: `kind` is a letter of conformance/desks/raced, and `k` what stands behind it. */
 struct function {
@@ -26,7 +26,7 @@ struct stage {
 };
 struct limit {
   uint16_t stage;
-  uint32_t at, kind;
+  uint32_t at, kind, code;
   cf_value value;
 };
 struct step {
@@ -132,7 +132,8 @@ static void read_question(void) {
   for (uint32_t k = 0; k < stage_count; k++) stages[k] = read_stage();
   limit_count = count(STAGES);
   for (uint32_t k = 0; k < limit_count; k++) {
-    limits[k].stage = (uint16_t)number(), limits[k].at = (uint32_t)number(), limits[k].kind = (uint32_t)number(), limits[k].value = value();
+    limits[k].stage = (uint16_t)number(), limits[k].at = (uint32_t)number(), limits[k].kind = (uint32_t)number();
+    limits[k].code = (uint32_t)number(), limits[k].value = value();
   }
   caller_count = count(MOST / 2);
   for (uint32_t c = 0; c < caller_count; c++) {
@@ -151,7 +152,7 @@ static void build(void) {
   for (uint32_t k = 0; k < stage_count; k++)
     must(cf_builder_stage(&plan, stages[k].form, stages[k].of, stages[k].n, stages[k].function, &made) == CF_OK, "stage");
   for (uint32_t k = 0; k < limit_count; k++)
-    must(cf_builder_limit(&plan, limits[k].stage, limits[k].at, limits[k].kind, limits[k].value) == CF_OK, "limit");
+    must(cf_builder_limit(&plan, limits[k].stage, limits[k].at, limits[k].kind, limits[k].code, limits[k].value) == CF_OK, "limit");
   must(cf_build(&plan) == CF_OK, "plan");
 }
 

@@ -32,8 +32,8 @@ import java.util.function.Function;
  * conformance/jdk/agree writes the scripts and compares.
  *
  * A script comes as lines of words: `script WAY ROOM`, then `stage FORM SOURCE.. [: FUNCTION]`, `limit STAGE MOMENT
- * timeout` or `limit STAGE MOMENT value V`, the steps as scripts write them, with the words of an attached stage behind
- * `attach`, and `end`. Its report ends with a line `end` too. There are three ways:
+ * timeout CODE` or `limit STAGE MOMENT value V`, the steps as scripts write them, with a code also where it is 0, with the
+ * words of an attached stage behind `attach`, and `end`. Its report ends with a line `end` too. There are three ways:
  *
  *   prompt  the forms with Async, on an executor that begins each task at once: a function is called as soon as its stage
  *           is ready, and waits on a thread of its own until the script finishes it
@@ -84,9 +84,27 @@ public final class Agree {
 
     /** What a function throws in place of an answer that Java's types refuse, or of a stage that isn't lower. */
     private static final class BadAnswer extends RuntimeException {
-        BadAnswer() {
-            super(null, null, false, false);
+        private final String code;
+
+        BadAnswer(String code) {
+            super(code, null, false, false);
+            this.code = code;
         }
+    }
+
+    /** A time-out with a code, which Java's own has none of. */
+    private static final class TimedOut extends TimeoutException {
+        private final String code;
+
+        TimedOut(String code) {
+            super(code);
+            this.code = code;
+        }
+    }
+
+    /** A code behind a cause's word. 0 isn't written. */
+    private static String coded(String word, String code) {
+        return code.equals("0") ? word : word + " " + code;
     }
 
     private static Object value(String word) {
@@ -102,8 +120,9 @@ public final class Agree {
             return "thrown " + thrown.code;
         }
         return x instanceof CancellationException ? "cancelled"
+            : x instanceof TimedOut late ? coded("timeout", late.code)
             : x instanceof TimeoutException ? "timeout"
-            : x instanceof BadAnswer ? "badanswer"
+            : x instanceof BadAnswer bad ? coded("badanswer", bad.code)
             : "unknown " + x;
     }
 
@@ -383,7 +402,7 @@ public final class Agree {
                 throw new Thrown(it.content);
             }
             if (it.kind.equals("link")) {
-                throw new BadAnswer();
+                throw new BadAnswer("0");
             }
             return value(it.content);
         }
@@ -394,7 +413,7 @@ public final class Agree {
                 throw new Thrown(it.content);
             }
             if (it.kind.equals("give") || Integer.parseInt(it.content) >= number) {
-                throw new BadAnswer();
+                throw new BadAnswer("0");
             }
             return stages.get(Integer.parseInt(it.content)).future;
         }
@@ -490,14 +509,14 @@ public final class Agree {
             return JDKS != null ? "orTimeout and completeOnTimeout" : "a clock like the JDK's";
         }
 
-        /** Takes the words `limit STAGE MOMENT timeout` or `limit STAGE MOMENT value V`. */
+        /** Takes the words `limit STAGE MOMENT timeout CODE` or `limit STAGE MOMENT value V`. Of a code but 0 the JDK's methods know nothing. */
         void add(Stage stage, String[] words) {
             long moment = Long.parseLong(words[2]);
             boolean isTimeout = words[3].equals("timeout");
             CompletableFuture<Object> future = stage.future;
-            if (JDKS == null) {
+            if (JDKS == null || isTimeout && !words[4].equals("0")) {
                 Runnable fire = isTimeout
-                    ? () -> future.completeExceptionally(new TimeoutException())
+                    ? () -> future.completeExceptionally(new TimedOut(words[4]))
                     : () -> future.complete(value(words[4]));
                 TASKS.schedule(fire, NEVER_SECONDS + moment, TimeUnit.SECONDS);
             } else if (isTimeout) {
@@ -606,7 +625,7 @@ public final class Agree {
             case "fail":
                 return String.valueOf(stage.future.completeExceptionally(new Thrown(words[2])));
             case "failAs":
-                Throwable failure = words[2].equals("timeout") ? new TimeoutException() : new BadAnswer();
+                Throwable failure = words[2].equals("timeout") ? new TimedOut(words[3]) : new BadAnswer(words[3]);
                 return String.valueOf(stage.future.completeExceptionally(failure));
             case "cancel":
                 return String.valueOf(stage.future.cancel(true));

@@ -95,11 +95,11 @@ fn outcome_in(cell: &Cell) -> Outcome
             wrapped,
         },
         Detail::TimedOut => Outcome::Fault {
-            cause: Cause::TimedOut,
+            cause: Cause::TimedOut(cell.payload),
             wrapped,
         },
         Detail::BadAnswer => Outcome::Fault {
-            cause: Cause::BadAnswer,
+            cause: Cause::BadAnswer(cell.payload),
             wrapped,
         },
     }
@@ -205,8 +205,14 @@ impl Cell {
                         self.payload = code;
                     }
                     Cause::Cancelled => self.detail = Detail::Cancelled,
-                    Cause::TimedOut => self.detail = Detail::TimedOut,
-                    Cause::BadAnswer => self.detail = Detail::BadAnswer,
+                    Cause::TimedOut(code) => {
+                        self.detail = Detail::TimedOut;
+                        self.payload = code;
+                    }
+                    Cause::BadAnswer(code) => {
+                        self.detail = Detail::BadAnswer;
+                        self.payload = code;
+                    }
                 }
             }
         }

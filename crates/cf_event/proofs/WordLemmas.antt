@@ -77,10 +77,10 @@ event_of_own_word (Completes who i v) h =
     event_of_fields 1 who i (value_tag v) (value_low v) (omega (arith, h.0)) (omega (arith, h.1)) small.0 small.1 ∙ grind (arith, common_steps)
 event_of_own_word (Fails who i code) h =
     event_of_fields 2 who i 0 code (omega (arith, h.0)) (omega (arith, h.1)) (omega arith) h.2 ∙ grind (arith, common_steps)
-event_of_own_word (FailsAs who i TimedOut) h =
-    event_of_fields 8 who i 0 0 (omega (arith, h.0)) (omega (arith, h.1)) (omega arith) (omega arith) ∙ grind (arith, common_steps)
-event_of_own_word (FailsAs who i BadAnswer) h =
-    event_of_fields 8 who i 1 0 (omega (arith, h.0)) (omega (arith, h.1)) (omega arith) (omega arith) ∙ grind (arith, common_steps)
+event_of_own_word (FailsAs who i (TimedOut code)) h =
+    event_of_fields 8 who i 0 code (omega (arith, h.0)) (omega (arith, h.1)) (omega arith) h.2 ∙ grind (arith, common_steps)
+event_of_own_word (FailsAs who i (BadAnswer code)) h =
+    event_of_fields 8 who i 1 code (omega (arith, h.0)) (omega (arith, h.1)) (omega arith) h.2 ∙ grind (arith, common_steps)
 event_of_own_word (Cancels who i) h =
     event_of_fields 3 who i 0 0 (omega (arith, h.0)) (omega (arith, h.1)) (omega arith) (omega arith) ∙ grind (arith, common_steps)
 event_of_own_word (Claims who i) h =
@@ -121,7 +121,7 @@ event_with_is kind who i tag low e s l h =
     let few : who ≤ 63 = grind (arith, nat_tests) in
     let found = attach_with_is who i tag low e few s l n in
     (found.0, found.1 ∙ ap (λ m. word_with m who i tag low) (sym is)))) (λ k7.
-    chosen (kind == 8 && low == 0) (option_map (FailsAs who i) (failure_with tag)) None e (λ k n. grind (arith, common_steps, nat_tests)) (λ k8 n. absurd cc))))))))) h
+    chosen (kind == 8) (option_map (FailsAs who i) (failure_with tag low)) None e (λ k n. grind (arith, common_steps, nat_tests)) (λ k8 n. absurd cc))))))))) h
 
 -- the event of a word is one, and that is its word
 pub event_of_is : (w : ℕ) (e : Event) → event_of w ≡ Some e → IsEvent e × (word_of e ≡ w)

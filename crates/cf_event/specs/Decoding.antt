@@ -31,11 +31,11 @@ answer_with tag low =
     else (if tag == 3 then (if nat_lt low (2 ^ 16) then Some (Link low) else None)
     else option_map Give (value_with tag low))
 
--- the failure with this tag, if there is one
-abbrev pub failure_with : ℕ → Option Failure
-failure_with tag =
-    if tag == 0 then Some TimedOut
-    else (if tag == 1 then Some BadAnswer
+-- the failure with this tag and low half, if there is one
+abbrev pub failure_with : ℕ → ℕ → Option Failure
+failure_with tag low =
+    if tag == 0 then Some (TimedOut low)
+    else (if tag == 1 then Some (BadAnswer low)
     else None)
 
 -- so many sources with these numbers, if that can be
@@ -69,7 +69,7 @@ event_with kind who i tag low =
     else (if kind == 5 then option_map (Finishes who i) (answer_with tag low)
     else (if kind == 6 && tag == 0 && i == 0 then Some (Ticks who low)
     else (if kind == 7 then attach_with who i tag low
-    else (if kind == 8 && low == 0 then option_map (FailsAs who i) (failure_with tag)
+    else (if kind == 8 then option_map (FailsAs who i) (failure_with tag low)
     else None))))))))
 
 -- the event of a word, if it is the word of one

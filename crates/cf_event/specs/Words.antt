@@ -28,10 +28,14 @@ abbrev pub value_low : Value → ℕ
 value_low Nil = 0
 value_low (Int z) = cast_unsigned w32 z
 
--- the tag of a failure
+-- the tag and the low half of a failure
 abbrev pub failure_tag : Failure → ℕ
-failure_tag TimedOut = 0
-failure_tag BadAnswer = 1
+failure_tag (TimedOut code) = 0
+failure_tag (BadAnswer code) = 1
+
+abbrev pub failure_low : Failure → ℕ
+failure_low (TimedOut code) = code
+failure_low (BadAnswer code) = code
 
 -- the tag and the low half of a function's answer
 abbrev pub answer_tag : Answer → ℕ
@@ -66,7 +70,7 @@ attach_low form of function = form_number form * 2 ^ 24 + second_of of * 2 ^ 12 
 abbrev pub word_of : Event → ℕ
 word_of (Completes who i v) = word_with 1 who i (value_tag v) (value_low v)
 word_of (Fails who i code) = word_with 2 who i 0 code
-word_of (FailsAs who i failure) = word_with 8 who i (failure_tag failure) 0
+word_of (FailsAs who i failure) = word_with 8 who i (failure_tag failure) (failure_low failure)
 word_of (Cancels who i) = word_with 3 who i 0 0
 word_of (Claims who i) = word_with 4 who i 0 0
 word_of (Finishes who i answer) = word_with 5 who i (answer_tag answer) (answer_low answer)
@@ -92,7 +96,7 @@ IsStage form of function = (unwrap_or function 0 ≤ 4095) × (fits_form form (c
 abbrev pub IsEvent : Event → Type 0
 IsEvent (Completes who i v) = (who ≤ 63) × (i ≤ 4095) × IsValue v
 IsEvent (Fails who i code) = (who ≤ 63) × (i ≤ 4095) × (code < 2 ^ 32)
-IsEvent (FailsAs who i failure) = (who ≤ 63) × (i ≤ 4095)
+IsEvent (FailsAs who i failure) = (who ≤ 63) × (i ≤ 4095) × (failure_low failure < 2 ^ 32)
 IsEvent (Cancels who i) = (who ≤ 63) × (i ≤ 4095)
 IsEvent (Claims who i) = (who ≤ 63) × (i ≤ 4095)
 IsEvent (Finishes who i answer) = (who ≤ 63) × (i ≤ 4095) × IsAnswer answer

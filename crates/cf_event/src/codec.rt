@@ -4,7 +4,7 @@ ghost use Rattle.cf_outcome.specs.declared.outcome.Value.TheVariants.{Int};
 ghost use Rattle.cf_forms.specs.declared.forms.Answer.TheVariants.{Give};
 ghost use Rattle.cf_model.specs.declared.events.Event.{Event};
 ghost use Rattle.cf_model.specs.declared.events.Event.TheVariants.{Claim as Claims, Complete as Completes, Finish as Finishes};
-ghost use Rattle.cf_event.specs.Words.{IsEvent, answer_low, answer_tag, failure_tag, value_low, value_tag, word_of, word_with};
+ghost use Rattle.cf_event.specs.Words.{IsEvent, answer_low, answer_tag, failure_low, failure_tag, value_low, value_tag, word_of, word_with};
 ghost use Rattle.cf_event.specs.Decoding.{answer_with, claim_of, completing_of, event_of, event_with, failure_with, giving_of, value_with};
 
 use crate::attaching::{attach_low, attach_with, count_of, first_of, is_stage, second_of};
@@ -70,7 +70,7 @@ pub fn encode(e: &Event) -> u64
             who,
             stage,
             failure,
-        } => word(8, who, stage, failure_tag(failure), 0),
+        } => word(8, who, stage, failure_tag(failure), failure_low(failure)),
         Event::Cancel { who, stage } => word(3, who, stage, 0, 0),
         Event::Claim { who, stage } => word(4, who, stage, 0, 0),
         Event::Finish { who, stage, answer } => {
@@ -184,10 +184,10 @@ fn event_with(kind: u8, who: u8, stage: u16, tag: u8, low: u32) -> Option<Event>
         }),
         6 if tag == 0 && stage == 0 => Some(Event::Tick { who, moment: low }),
         7 => attach_with(who, stage, tag, low),
-        8 if low == 0 => Some(Event::FailAs {
+        8 => Some(Event::FailAs {
             who,
             stage,
-            failure: failure_with(tag)?,
+            failure: failure_with(tag, low)?,
         }),
         _ => None,
     }
@@ -242,8 +242,17 @@ fn failure_tag(f: Failure) -> u8
     ensures small { result < 16 }
 {
     match f {
-        Failure::TimedOut => 0,
-        Failure::BadAnswer => 1,
+        Failure::TimedOut(_) => 0,
+        Failure::BadAnswer(_) => 1,
+    }
+}
+
+/// The low half of a failure.
+fn failure_low(f: Failure) -> u32
+    ensures { result ≡ failure_low f }
+{
+    match f {
+        Failure::TimedOut(code) | Failure::BadAnswer(code) => code,
     }
 }
 
@@ -281,13 +290,13 @@ fn value_with(tag: u8, low: u32) -> Option<Value>
     }
 }
 
-/// The failure with this tag, if there is one.
-fn failure_with(tag: u8) -> Option<Failure>
-    ensures { result ≡ failure_with tag }
+/// The failure with this tag and low half, if there is one.
+fn failure_with(tag: u8, low: u32) -> Option<Failure>
+    ensures { result ≡ failure_with tag low }
 {
     match tag {
-        0 => Some(Failure::TimedOut),
-        1 => Some(Failure::BadAnswer),
+        0 => Some(Failure::TimedOut(low)),
+        1 => Some(Failure::BadAnswer(low)),
         _ => None,
     }
 }

@@ -24,6 +24,8 @@ pub enum Oddity {
     RoomInVersionOne,
     /// A limit that times its stage out takes no value, and has one.
     ValueOfTimeout(Place),
+    /// A limit that gives its stage a value takes no code, and has one.
+    CodeOfValue(Place),
     /// A member of an object is given again.
     Twice {
         /// Its name.
@@ -43,6 +45,7 @@ impl Oddity {
             Oddity::NoTitle(place) => Some((place, "has to be a text")),
             Oddity::NoList(place) => Some((place, "has to be an array")),
             Oddity::ValueOfTimeout(place) => Some((place, "is read with the kind \"value\" alone")),
+            Oddity::CodeOfValue(place) => Some((place, "is read with the kind \"timeout\" alone")),
             _ => None,
         }
     }

@@ -59,7 +59,14 @@ fn limit_wrong(place: Place, json: &Json) -> Option<Finding<'_>>
     if let Some(found) = word_wrong(place.member("kind"), kind, Words::Kinds) {
         return Some(found);
     }
-    needed(place.member("value"), json.get("value"), Wanted::Value)
+    match kind.and_then(Json::as_str) {
+        Some("timeout") => optional(
+            place.member("code"),
+            json.get("code"),
+            Wanted::UpTo(u32::MAX),
+        ),
+        _ => needed(place.member("value"), json.get("value"), Wanted::Value),
+    }
 }
 
 /// What is wrong with a limit as an object, with its stage or with its moment.

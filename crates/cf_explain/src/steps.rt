@@ -94,7 +94,7 @@ pub(crate) const STEPS: [StepShape; 12] = [
         word: "failAs",
         since: 3,
         least: 2,
-        written: "[\"failAs\",stage,cause]",
+        written: "[\"failAs\",stage,cause] or [\"failAs\",stage,cause,code]",
     },
 ];
 

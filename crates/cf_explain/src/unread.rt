@@ -55,9 +55,14 @@ fn in_stage(alloc: Global, place: Place, stage: &Json, written: &mut Written) {
 /// Notes the members of a limit that nobody reads.
 fn in_limit(alloc: Global, place: Place, limit: &Json, written: &mut Written) {
     in_object(alloc, place, limit, Words::LimitMembers, written);
-    let times_out = limit.get("kind").and_then(Json::as_str) == Some("timeout");
-    if times_out && limit.get("value").is_some() {
-        written.add(Oddity::ValueOfTimeout(place.member("value")));
+    match limit.get("kind").and_then(Json::as_str) {
+        Some("timeout") if limit.get("value").is_some() => {
+            written.add(Oddity::ValueOfTimeout(place.member("value")));
+        }
+        Some("value") if limit.get("code").is_some() => {
+            written.add(Oddity::CodeOfValue(place.member("code")));
+        }
+        _ => {}
     }
 }
 

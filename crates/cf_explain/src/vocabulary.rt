@@ -62,7 +62,7 @@ const SCRIPT_MEMBERS: [&str; 8] = [
 
 const STAGE_MEMBERS: [&str; 5] = ["form", "of", "fn", "note", "name"];
 
-const LIMIT_MEMBERS: [&str; 5] = ["stage", "at", "kind", "value", "note"];
+const LIMIT_MEMBERS: [&str; 6] = ["stage", "at", "kind", "code", "value", "note"];
 
 /// The methods of Java's `CompletionStage` and `CompletableFuture` whose forms have other names.
 const METHODS: [(&str, &str); 9] = [

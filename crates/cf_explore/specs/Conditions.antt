@@ -35,8 +35,8 @@ same_value v w = false
 abbrev pub same_cause : Cause → Cause → Bool
 same_cause (causes.Thrown a) (causes.Thrown b) = a == b
 same_cause causes.Cancelled causes.Cancelled = true
-same_cause causes.TimedOut causes.TimedOut = true
-same_cause causes.BadAnswer causes.BadAnswer = true
+same_cause (causes.TimedOut a) (causes.TimedOut b) = a == b
+same_cause (causes.BadAnswer a) (causes.BadAnswer b) = a == b
 same_cause a b = false
 
 -- whether a settled stage's outcome is so

@@ -8,7 +8,7 @@ pub enum Is {
     Value(Value),
     /// Settled with any value.
     AnyValue,
-    /// Settled with a fault of this cause, raw or wrapped.
+    /// Settled with a fault of this cause and its code, raw or wrapped.
     Fault(Cause),
     /// Settled with any fault.
     AnyFault,

@@ -2,7 +2,7 @@
 ghost use Rattle.std.specs.Prelude.{◌≡◌, ◌<◌, ◌≤◌, ◌==◌, false, IfOk, Some, if◌then◌else◌, length};
 ghost use Rattle.std.specs.Option.{option_map_or};
 ghost use Rattle.cf_outcome.specs.declared.outcome.Value.TheVariants.{Int};
-ghost use Rattle.cf_outcome.specs.declared.outcome.Cause.TheVariants.{Thrown};
+ghost use Rattle.cf_outcome.specs.declared.outcome.Cause.TheVariants.{BadAnswer, Thrown, TimedOut};
 ghost use Rattle.std.specs.List.{list_all};
 ghost use Rattle.cf_explore.specs.Conditions.{calls_among, calls_of, decides, decides_by, gives_value, has_cause, is_call_of, is_fact, is_so, is_time, outcome_if_there, same_cause, same_value, was_called};
 
@@ -206,8 +206,8 @@ fn same_cause(a: Cause, b: Cause) -> bool
     match a {
         Cause::Thrown(code) => is_thrown(b, code),
         Cause::Cancelled => matches!(b, Cause::Cancelled),
-        Cause::TimedOut => matches!(b, Cause::TimedOut),
-        Cause::BadAnswer => matches!(b, Cause::BadAnswer),
+        Cause::TimedOut(code) => is_timed_out(b, code),
+        Cause::BadAnswer(code) => is_bad_answer(b, code),
     }
 }
 
@@ -217,6 +217,26 @@ fn is_thrown(cause: Cause, a: u32) -> bool
 {
     match cause {
         Cause::Thrown(b) => a == b,
+        _ => false,
+    }
+}
+
+/// Whether it is a time-out of this code.
+fn is_timed_out(cause: Cause, a: u32) -> bool
+    ensures { result ≡ same_cause (TimedOut a) cause }
+{
+    match cause {
+        Cause::TimedOut(b) => a == b,
+        _ => false,
+    }
+}
+
+/// Whether it is a bad answer of this code.
+fn is_bad_answer(cause: Cause, a: u32) -> bool
+    ensures { result ≡ same_cause (BadAnswer a) cause }
+{
+    match cause {
+        Cause::BadAnswer(b) => a == b,
         _ => false,
     }
 }

@@ -22,8 +22,8 @@ fn cause(c: Cause) -> u64 {
     match c {
         Cause::Thrown(code) => (code as u64).wrapping_add(8),
         Cause::Cancelled => 2,
-        Cause::TimedOut => 3,
-        Cause::BadAnswer => 4,
+        Cause::TimedOut(code) => mix(3, code as u64),
+        Cause::BadAnswer(code) => mix(4, code as u64),
     }
 }
 

@@ -28,20 +28,20 @@ value_decides (Int a) (Int b) = let d = signed_Decides a b in ((λ e. ap Int (d.
 cause_decides : (a b : Cause) → Decides (same_cause a b) (a ≡ b)
 cause_decides (Thrown a) (Thrown b) = let d = unsigned_Decides a b in ((λ e. ap Thrown (d.0 e)), λ e. d.1 (let same : a ≡ b = cc in same))
 cause_decides (Thrown a) Cancelled = two (λ e. cc)
-cause_decides (Thrown a) TimedOut = two (λ e. cc)
-cause_decides (Thrown a) BadAnswer = two (λ e. cc)
+cause_decides (Thrown a) (TimedOut b) = two (λ e. cc)
+cause_decides (Thrown a) (BadAnswer b) = two (λ e. cc)
 cause_decides Cancelled (Thrown b) = two (λ e. cc)
 cause_decides Cancelled Cancelled = one Cancelled
-cause_decides Cancelled TimedOut = two (λ e. cc)
-cause_decides Cancelled BadAnswer = two (λ e. cc)
-cause_decides TimedOut (Thrown b) = two (λ e. cc)
-cause_decides TimedOut Cancelled = two (λ e. cc)
-cause_decides TimedOut TimedOut = one TimedOut
-cause_decides TimedOut BadAnswer = two (λ e. cc)
-cause_decides BadAnswer (Thrown b) = two (λ e. cc)
-cause_decides BadAnswer Cancelled = two (λ e. cc)
-cause_decides BadAnswer TimedOut = two (λ e. cc)
-cause_decides BadAnswer BadAnswer = one BadAnswer
+cause_decides Cancelled (TimedOut b) = two (λ e. cc)
+cause_decides Cancelled (BadAnswer b) = two (λ e. cc)
+cause_decides (TimedOut a) (Thrown b) = two (λ e. cc)
+cause_decides (TimedOut a) Cancelled = two (λ e. cc)
+cause_decides (TimedOut a) (TimedOut b) = let d = unsigned_Decides a b in ((λ e. ap TimedOut (d.0 e)), λ e. d.1 (let same : a ≡ b = cc in same))
+cause_decides (TimedOut a) (BadAnswer b) = two (λ e. cc)
+cause_decides (BadAnswer a) (Thrown b) = two (λ e. cc)
+cause_decides (BadAnswer a) Cancelled = two (λ e. cc)
+cause_decides (BadAnswer a) (TimedOut b) = two (λ e. cc)
+cause_decides (BadAnswer a) (BadAnswer b) = let d = unsigned_Decides a b in ((λ e. ap BadAnswer (d.0 e)), λ e. d.1 (let same : a ≡ b = cc in same))
 
 -- both of two things
 both : {P Q : Type 0} (a b : Bool) → Decides a P → Decides b Q → Decides (a && b) (P × Q)

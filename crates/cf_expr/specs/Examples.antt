@@ -69,7 +69,7 @@ too_early = Completes 0 0 Nil ∷ Attaches 0 Source NoSource None ∷ Fails 0 0 
 -- a source with a limit, whose moment comes
 abbrev pub limited : Planned
 limited =
-    plan_of (record { form = Source; sources = []; function = None } ∷ []) (record { stage = 0; at = 5; kind = Timeout } ∷ [])
+    plan_of (record { form = Source; sources = []; function = None } ∷ []) (record { stage = 0; at = 5; kind = Timeout 0 } ∷ [])
 
 abbrev pub too_late : List Event
 too_late = Ticks 0 5 ∷ []

@@ -87,8 +87,9 @@ kept_value Handle v = v
 kept_value Exceptionally v = v
 kept_value form v = Nil
 
+-- an answer that the form can't take; nobody gave a code
 abbrev pub bad_answer : Landing
-bad_answer = Lands (Fault BadAnswer true)
+bad_answer = Lands (Fault (BadAnswer 0) true)
 
 -- whether the function of a form answers with a stage
 abbrev pub composes : Form → Bool

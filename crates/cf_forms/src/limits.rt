@@ -4,8 +4,8 @@ use cf_outcome::Value;
 /// What a limit does to its stage, if that isn't settled by then.
 #[derive(Clone, Copy, Debug, PartialEq, Eq)]
 pub enum LimitKind {
-    /// The stage fails, as by `orTimeout`.
-    Timeout,
+    /// The stage fails as timed out, with this code, as by `orTimeout`.
+    Timeout(u32),
     /// The stage gets this value, as by `completeOnTimeout`.
     Give(Value),
 }

@@ -46,14 +46,14 @@ pub fn due_two(form: Form, a: Outcome, b: Outcome) -> Due
 
 /// Where the answer of stage `stage`'s function lands. The form has a function; for `WhenComplete` `source` is its
 /// source's outcome, and for the others it isn't looked at. An answer that the form has no use for is the fault
-/// `BadAnswer`: a link by any form but `Compose` and `ExceptionallyCompose`, or to a stage that isn't lower, and a value
-/// by these two.
+/// `BadAnswer` with code 0: a link by any form but `Compose` and `ExceptionallyCompose`, or to a stage that isn't
+/// lower, and a value by these two.
 #[inline(always)]
 pub fn landing(form: Form, stage: u16, source: Option<Outcome>, answer: Answer) -> Landing
     ensures { result ≡ landing form stage source answer }
 {
     let bad = Outcome::Fault {
-        cause: Cause::BadAnswer,
+        cause: Cause::BadAnswer(0),
         wrapped: true,
     };
     if let (Form::WhenComplete, Some(o)) = (form, source) {

@@ -42,17 +42,21 @@ fn alone(words: &[&str]) -> Option<Value> {
 }
 
 fn cause(words: &[&str]) -> Option<Cause> {
-    if word(words, 0) == "thrown" {
-        return Some(Cause::Thrown(number(behind(words, 1))?));
-    }
-    if words.len() != 1 {
-        return None;
-    }
     match word(words, 0) {
-        "cancelled" => Some(Cause::Cancelled),
-        "timeout" => Some(Cause::TimedOut),
-        "badanswer" => Some(Cause::BadAnswer),
+        "thrown" => Some(Cause::Thrown(number(behind(words, 1))?)),
+        "cancelled" if words.len() == 1 => Some(Cause::Cancelled),
+        "timeout" => Some(Cause::TimedOut(code(words)?)),
+        "badanswer" => Some(Cause::BadAnswer(code(words)?)),
         _ => None,
+    }
+}
+
+/// The code behind a cause's word, 0 where there is none.
+fn code(words: &[&str]) -> Option<u32> {
+    if words.len() == 1 {
+        Some(0)
+    } else {
+        number(behind(words, 1))
     }
 }
 

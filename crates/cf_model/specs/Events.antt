@@ -47,8 +47,8 @@ settling s i o = settled_by (outcome_at s i) s i o
 
 -- the cause of a stage that a caller fails so
 abbrev pub cause_of : Failure → Cause
-cause_of AsTimedOut = TimedOut
-cause_of AsBadAnswer = BadAnswer
+cause_of (AsTimedOut code) = TimedOut code
+cause_of (AsBadAnswer code) = BadAnswer code
 
 -- a stage is cancelled, unless it is settled already
 abbrev pub cancelled_by : Option Outcome → State → ℕ → Bool × State
@@ -96,7 +96,7 @@ finishing s who i answer =
 
 -- what a limit settles its stage with
 abbrev pub limit_outcome : LimitKind → Outcome
-limit_outcome Timeout = Fault TimedOut false
+limit_outcome (Timeout code) = Fault (TimedOut code) false
 limit_outcome (GiveValue v) = Gives v
 
 -- the limits, one after another, and how many of them settled their stage

@@ -8,13 +8,14 @@ use crate::replies::{Attached, Claimed, Finished, Ticked};
 use cf_forms::{Answer, Form, Of, fits_form};
 use cf_outcome::{Cause, Value};
 
-/// A cause, other than a thrown code and a cancellation, with which a caller fails a stage.
+/// A cause, other than a thrown code and a cancellation, with which a caller fails a stage, and its code: 0, or a
+/// number by which the caller finds the error.
 #[derive(Clone, Copy, Debug, PartialEq, Eq)]
 pub enum Failure {
     /// Time ran out for the stage (`CompletableFuture.orTimeout` fails it with a `TimeoutException`).
-    TimedOut,
+    TimedOut(u32),
     /// The stage stands in for another, whose function answered what its form can't take.
-    BadAnswer,
+    BadAnswer(u32),
 }
 
 impl Failure {
@@ -23,8 +24,8 @@ impl Failure {
         ensures { result ≡ cause_of self }
     {
         match self {
-            Failure::TimedOut => Cause::TimedOut,
-            Failure::BadAnswer => Cause::BadAnswer,
+            Failure::TimedOut(code) => Cause::TimedOut(code),
+            Failure::BadAnswer(code) => Cause::BadAnswer(code),
         }
     }
 }

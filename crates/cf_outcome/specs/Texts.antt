@@ -1,5 +1,5 @@
 -- The texts of values, causes, outcomes and of what a caller is told. Numbers are decimal.
-use Rattle.std.specs.Prelude.{ℕ, List, ◌++◌, codes, if◌then◌else◌}
+use Rattle.std.specs.Prelude.{ℕ, ◌==◌, List, [], ◌++◌, codes, if◌then◌else◌}
 use Rattle.std.specs.Fmt.{decimal, signed_decimal}
 use Rattle.cf_outcome.specs.declared.outcome.Value.{Value}
 use Rattle.cf_outcome.specs.declared.outcome.Value.TheVariants as values
@@ -14,11 +14,15 @@ abbrev pub value_text : Value → List ℕ
 value_text values.Nil = codes "nil"
 value_text (values.Int z) = signed_decimal z
 
+-- the code that a caller or a limit gave, behind the words of a cause; 0, which stands for none, isn't written
+abbrev pub code_text : ℕ → List ℕ
+code_text code = if code == 0 then [] else codes " " ++ decimal code
+
 abbrev pub cause_text : Cause → List ℕ
 cause_text (causes.Thrown code) = codes "thrown " ++ decimal code
 cause_text causes.Cancelled = codes "cancelled"
-cause_text causes.TimedOut = codes "timeout"
-cause_text causes.BadAnswer = codes "badanswer"
+cause_text (causes.TimedOut code) = codes "timeout" ++ code_text code
+cause_text (causes.BadAnswer code) = codes "badanswer" ++ code_text code
 
 abbrev pub outcome_text : Outcome → List ℕ
 outcome_text (outcomes.Value v) = codes "value " ++ value_text v

@@ -16,10 +16,11 @@ pub enum Cause {
     Thrown(u32),
     /// It was cancelled.
     Cancelled,
-    /// A limit of kind timeout fired, or a caller said that its time had run out.
-    TimedOut,
-    /// Its function, or that of the stage for which it stands in, answered what the form can't take.
-    BadAnswer,
+    /// A limit of kind timeout with this code fired, or a caller said with this code that its time had run out.
+    TimedOut(u32),
+    /// Its function, or that of the stage for which it stands in, answered what the form can't take. The code is the
+    /// caller's who said so, and 0 where nobody gave one.
+    BadAnswer(u32),
 }
 
 /// What a stage is settled with.

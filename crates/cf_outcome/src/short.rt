@@ -1,7 +1,7 @@
 //! Texts that are short enough to be made without memory.
 ghost use Rattle.std.specs.Prelude.{◌≡◌, ◌+◌, ◌<◌, ◌≤◌, [], ◌∷◌, ◌++◌, length};
 ghost use Rattle.std.specs.Fmt.{decimal};
-ghost use Rattle.cf_outcome.specs.Texts.{value_text, cause_text, outcome_text, now_text};
+ghost use Rattle.cf_outcome.specs.Texts.{value_text, code_text, cause_text, outcome_text, now_text};
 
 use crate::now::Now;
 use crate::outcome::{Cause, Outcome, Value};
@@ -106,11 +106,23 @@ impl ShortText {
         }
     }
 
-    /// Puts a cause behind the text, of which the longest, `thrown 4294967295`, has 17 bytes.
+    /// Puts a code behind the text, with a space before it, unless it is 0. The longest has 11 bytes.
+    fn push_code(&mut self, code: u32)
+        requires { length self.old + 11 ≤ 48 }
+        ensures text { self.new ≡ self.old ++ code_text code }
+        ensures short { length (code_text code) ≤ 11 }
+    {
+        if code != 0 {
+            self.push(" ");
+            self.push_number(code);
+        }
+    }
+
+    /// Puts a cause behind the text, of which the longest, `badanswer 4294967295`, has 20 bytes.
     pub fn push_cause(&mut self, c: Cause)
-        requires { length self.old + 17 ≤ 48 }
+        requires { length self.old + 20 ≤ 48 }
         ensures text { self.new ≡ self.old ++ cause_text c }
-        ensures short { length (cause_text c) ≤ 17 }
+        ensures short { length (cause_text c) ≤ 20 }
     {
         match c {
             Cause::Thrown(code) => {
@@ -118,16 +130,22 @@ impl ShortText {
                 self.push_number(code);
             }
             Cause::Cancelled => self.push("cancelled"),
-            Cause::TimedOut => self.push("timeout"),
-            Cause::BadAnswer => self.push("badanswer"),
+            Cause::TimedOut(code) => {
+                self.push("timeout");
+                self.push_code(code);
+            }
+            Cause::BadAnswer(code) => {
+                self.push("badanswer");
+                self.push_code(code);
+            }
         }
     }
 
-    /// Puts an outcome behind the text, of which the longest, `fault thrown 4294967295 wrapped`, has 31 bytes.
+    /// Puts an outcome behind the text, of which the longest, `fault badanswer 4294967295 wrapped`, has 34 bytes.
     pub fn push_outcome(&mut self, o: Outcome)
-        requires { length self.old + 31 ≤ 48 }
+        requires { length self.old + 34 ≤ 48 }
         ensures text { self.new ≡ self.old ++ outcome_text o }
-        ensures short { length (outcome_text o) ≤ 31 }
+        ensures short { length (outcome_text o) ≤ 34 }
     {
         match o {
             Outcome::Value(v) => {
@@ -142,11 +160,11 @@ impl ShortText {
         }
     }
 
-    /// Puts what a caller is told behind the text, of which the longest, `completion thrown 4294967295`, has 28 bytes.
+    /// Puts what a caller is told behind the text. The longest, `completion badanswer 4294967295`, has 31 bytes.
     pub fn push_now(&mut self, told: Now)
-        requires { length self.old + 28 ≤ 48 }
+        requires { length self.old + 31 ≤ 48 }
         ensures text { self.new ≡ self.old ++ now_text told }
-        ensures short { length (now_text told) ≤ 28 }
+        ensures short { length (now_text told) ≤ 31 }
     {
         match told {
             Now::Absent(v) => {

@@ -27,8 +27,10 @@ impl fmt::Display for Cause {
         match self {
             Cause::Thrown(code) => write!(f, "thrown {code}"),
             Cause::Cancelled => write!(f, "cancelled"),
-            Cause::TimedOut => write!(f, "timeout"),
-            Cause::BadAnswer => write!(f, "badanswer"),
+            Cause::TimedOut(0) => write!(f, "timeout"),
+            Cause::TimedOut(code) => write!(f, "timeout {code}"),
+            Cause::BadAnswer(0) => write!(f, "badanswer"),
+            Cause::BadAnswer(code) => write!(f, "badanswer {code}"),
         }
     }
 }

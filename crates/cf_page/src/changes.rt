@@ -28,7 +28,7 @@ pub(crate) fn code_of(stage: Stage) -> u8 {
         Stage::Settled(Outcome::Value(_)) => 0,
         Stage::Settled(Outcome::Fault { cause, .. }) => match cause {
             Cause::Cancelled => 2,
-            Cause::TimedOut => 3,
+            Cause::TimedOut(_) => 3,
             _ => 1,
         },
         Stage::Ready(_) => 4,

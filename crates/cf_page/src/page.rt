@@ -147,8 +147,9 @@ fn write_limits(out: &mut Text, limits: &[Limit], i: u16) {
 
 fn write_limit(out: &mut Text, limit: Limit) {
     match limit.kind {
-        LimitKind::Timeout => {
+        LimitKind::Timeout(code) => {
             out.add_with("\"times out at ", limit.at);
+            write_code(out, code);
             out.add("\"");
         },
         LimitKind::Give(v) => {
@@ -156,6 +157,13 @@ fn write_limit(out: &mut Text, limit: Limit) {
             out.add_with(" at ", limit.at);
             out.add("\"");
         },
+    }
+}
+
+/// Adds the code of a limit, unless it is 0.
+fn write_code(out: &mut Text, code: u32) {
+    if code != 0 {
+        out.add_with(", code ", code);
     }
 }
 

@@ -14,7 +14,8 @@ pub(crate) fn write_limits(text: &mut String, limits: &[Limit]) -> Result<(), Al
 fn write_limit(text: &mut String, k: usize, limit: Limit) -> Result<(), AllocError> {
     let Limit { stage, at, kind } = limit;
     match kind {
-        LimitKind::Timeout => write!(text, "  l{k} [label=\"timeout {at}\"")?,
+        LimitKind::Timeout(0) => write!(text, "  l{k} [label=\"timeout {at}\"")?,
+        LimitKind::Timeout(code) => write!(text, "  l{k} [label=\"timeout {at} code {code}\"")?,
         LimitKind::Give(v) => write!(text, "  l{k} [label=\"complete {at} value {v}\"")?,
     }
     writeln!(text, ", shape=note, style=solid, fontsize=9];")?;

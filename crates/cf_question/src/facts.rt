@@ -204,8 +204,8 @@ fn named(text: &str) -> Option<Is> {
     match text {
         "value nil" => Some(Is::Value(Value::Nil)),
         "fault cancelled" => Some(Is::Fault(Cause::Cancelled)),
-        "timeout" => Some(Is::Fault(Cause::TimedOut)),
-        "badanswer" => Some(Is::Fault(Cause::BadAnswer)),
+        "timeout" => Some(Is::Fault(Cause::TimedOut(0))),
+        "badanswer" => Some(Is::Fault(Cause::BadAnswer(0))),
         _ => numbered(text),
     }
 }
@@ -214,6 +214,17 @@ fn numbered(text: &str) -> Option<Is> {
     if let Some(digits) = text.strip_prefix("value ") {
         return Some(Is::Value(Value::Int(digits.parse().ok()?)));
     }
+    Some(Is::Fault(coded(text)?))
+}
+
+/// The cause with its code.
+fn coded(text: &str) -> Option<Cause> {
+    if let Some(digits) = text.strip_prefix("timeout ") {
+        return Some(Cause::TimedOut(digits.parse().ok()?));
+    }
+    if let Some(digits) = text.strip_prefix("badanswer ") {
+        return Some(Cause::BadAnswer(digits.parse().ok()?));
+    }
     let digits = text.strip_prefix("thrown ")?;
-    Some(Is::Fault(Cause::Thrown(digits.parse().ok()?)))
+    Some(Cause::Thrown(digits.parse().ok()?))
 }

@@ -82,8 +82,8 @@ cancelled_claims (Some p) s i = refl
 fault_claims : (s : State) (who i : ℕ) (cause : Cause) → (answered s (fault_event who i cause)).1.claims ≡ s.claims
 fault_claims s who i (Thrown code) = settled_claims (outcome_at s i) s i (Fault (Thrown code) false)
 fault_claims s who i Cancelled = cancelled_claims (outcome_at s i) s i
-fault_claims s who i TimedOut = settled_claims (outcome_at s i) s i (Fault TimedOut false)
-fault_claims s who i BadAnswer = settled_claims (outcome_at s i) s i (Fault BadAnswer false)
+fault_claims s who i (TimedOut code) = settled_claims (outcome_at s i) s i (Fault (TimedOut code) false)
+fault_claims s who i (BadAnswer code) = settled_claims (outcome_at s i) s i (Fault (BadAnswer code) false)
 
 settle_claims : (s : State) (who i : ℕ) (o : Outcome) → (answered s (settle_event who i o)).1.claims ≡ s.claims
 settle_claims s who i (Gives v) = settled_claims (outcome_at s i) s i (Gives v)

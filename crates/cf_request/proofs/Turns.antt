@@ -56,8 +56,8 @@ cancels_by (Some p) s i e none l = cc
 faults_with : (s : State) (who i : ℕ) (cause : Cause) → outcome_at s i ≡ None → i < length s.stages → outcome_in ((answered s (fault_event who i cause)).1.stages) i ≡ Some (Fault cause false)
 faults_with s who i (Thrown code) none l = settles_by (outcome_at s i) s i (Fault (Thrown code) false) none none l
 faults_with s who i Cancelled none l = cancels_by (outcome_at s i) s i none none l
-faults_with s who i TimedOut none l = settles_by (outcome_at s i) s i (Fault TimedOut false) none none l
-faults_with s who i BadAnswer none l = settles_by (outcome_at s i) s i (Fault BadAnswer false) none none l
+faults_with s who i (TimedOut code) none l = settles_by (outcome_at s i) s i (Fault (TimedOut code) false) none none l
+faults_with s who i (BadAnswer code) none l = settles_by (outcome_at s i) s i (Fault (BadAnswer code) false) none none l
 
 ends_with : (s : State) (who i : ℕ) (o : Outcome) → outcome_at s i ≡ None → i < length s.stages → outcome_in ((answered s (settle_event who i o)).1.stages) i ≡ Some (raw o)
 ends_with s who i (Gives v) none l = settles_by (outcome_at s i) s i (Gives v) none none l
@@ -77,8 +77,8 @@ settle_ends who i o old new reply waits h =
 no_attach_by : (who i : ℕ) (cause : Cause) → is_attach (fault_event who i cause) ≡ false
 no_attach_by who i (Thrown code) = refl
 no_attach_by who i Cancelled = refl
-no_attach_by who i TimedOut = refl
-no_attach_by who i BadAnswer = refl
+no_attach_by who i (TimedOut code) = refl
+no_attach_by who i (BadAnswer code) = refl
 
 no_attach : (who i : ℕ) (o : Outcome) → is_attach (settle_event who i o) ≡ false
 no_attach who i (Gives v) = refl

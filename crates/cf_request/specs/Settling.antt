@@ -21,8 +21,8 @@ IsOpen s i = (i < length s.plan.stages) × (is_settled_in s.stages i ≡ false)
 abbrev pub fault_event : ℕ → ℕ → Cause → Event
 fault_event who i (Thrown code) = Fails who i code
 fault_event who i Cancelled = Cancels who i
-fault_event who i TimedOut = FailsAs who i AsTimedOut
-fault_event who i BadAnswer = FailsAs who i AsBadAnswer
+fault_event who i (TimedOut code) = FailsAs who i (AsTimedOut code)
+fault_event who i (BadAnswer code) = FailsAs who i (AsBadAnswer code)
 
 abbrev pub settle_event : ℕ → ℕ → Outcome → Event
 settle_event who i (Gives v) = Completes who i v

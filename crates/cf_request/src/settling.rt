@@ -49,15 +49,15 @@ fn fault_event(who: u8, stage: u16, cause: Cause) -> Event
     match cause {
         Cause::Thrown(code) => Event::Fail { who, stage, code },
         Cause::Cancelled => Event::Cancel { who, stage },
-        Cause::TimedOut => Event::FailAs {
+        Cause::TimedOut(code) => Event::FailAs {
             who,
             stage,
-            failure: Failure::TimedOut,
+            failure: Failure::TimedOut(code),
         },
-        Cause::BadAnswer => Event::FailAs {
+        Cause::BadAnswer(code) => Event::FailAs {
             who,
             stage,
-            failure: Failure::BadAnswer,
+            failure: Failure::BadAnswer(code),
         },
     }
 }

@@ -18,7 +18,7 @@ use Rattle.cf_script_reading.specs.Elements.{StagesStandWhereTold, elements_of, 
 use Rattle.cf_script_reading.specs.Funcs.{function_said}
 use Rattle.cf_script_reading.specs.Parts.{◌>>=◌, elements, exactly, number_at, stage_at, value_at}
 use Rattle.cf_script_reading.specs.Stages.{form_of, number_after}
-use Rattle.cf_script_reading.specs.Steps.{answer_at, caller_at, cancel_said, claim_said, complete_said, fail_as_said, fail_said, failure_named, finish_said, now_said, nudge_said, other_step, outcome_said, own_step, step_alone, step_named, step_worded, tick_said, work_said}
+use Rattle.cf_script_reading.specs.Steps.{answer_at, caller_at, cancel_said, claim_said, complete_said, fail_as_said, fail_said, failure_code, failure_named, finish_said, now_said, nudge_said, other_step, outcome_said, own_step, step_alone, step_named, step_worded, tick_said, work_said}
 
 -- ---- what is read, if anything, names this stage, or none
 
@@ -74,7 +74,7 @@ module _ (stages : ℕ) (d : Data) where
 
   fail_as : Names (there (codes "failAs")) (fail_as_said stages d)
   unfolding fail_as_said elements_of
-  fail_as = names-next _ (exactly 3 d) _ (λ here w. names-next _ (stage_at stages 1 d) _ (λ i is. names-next _ (option_and_then failure_named (option_and_then as_str (at 2 d))) _ (λ v u. sym is)))
+  fail_as = names-next _ (failure_code d) _ (λ code w. names-next _ (stage_at stages 1 d) _ (λ i is. names-next _ (option_and_then (failure_named code) (option_and_then as_str (at 2 d))) _ (λ v u. sym is)))
 
   cancel : Names (there (codes "cancel")) (cancel_said stages d)
   unfolding cancel_said elements_of

@@ -29,7 +29,7 @@ unfoldable pub elements_of : List ℕ → List Element
 elements_of word =
     if bytes_eq word (codes "complete") then Stage ∷ Value ∷ []
     else (if bytes_eq word (codes "fail") then Stage ∷ Number ∷ []
-    else (if bytes_eq word (codes "failAs") then Stage ∷ Failure ∷ []
+    else (if bytes_eq word (codes "failAs") then Stage ∷ Failure ∷ Number ∷ []
     else (if bytes_eq word (codes "cancel") then Stage ∷ []
     else (if bytes_eq word (codes "tick") then Number ∷ []
     else other_elements word))))

@@ -1,5 +1,6 @@
 -- The limits of a script.
 use Rattle.std.specs.Prelude.{ℕ, List, length, Option, Some, None, option_map, option_and_then, Result, codes, if◌then◌else◌}
+use Rattle.std.specs.Option.{option_map_or}
 use Rattle.std.specs.Str.{bytes_eq}
 use Rattle.serde_json.specs.Data.{Data, Items}
 use Rattle.serde_json.specs.Find.{get, as_str}
@@ -18,10 +19,14 @@ use Rattle.cf_script_reading.specs.Parts.{up_to, value_of}
 abbrev pub number_named : ℕ → List ℕ → Data → Option ℕ
 number_named most name d = option_and_then (up_to most) (get name d)
 
--- the kind with a name; a value is said beside it
+-- the code of a timeout, which is 0 where none is said
+abbrev pub timeout_code : Data → Option ℕ
+timeout_code d = option_map_or (up_to 4294967295) (get (codes "code") d) (Some 0)
+
+-- the kind with a name; a timeout's code or a value is said beside it
 unfoldable pub kind_named : Data → List ℕ → Option LimitKind
 kind_named d name =
-    if bytes_eq name (codes "timeout") then Some Timeout
+    if bytes_eq name (codes "timeout") then option_map Timeout (timeout_code d)
     else (if bytes_eq name (codes "value") then option_map Give (option_and_then value_of (get (codes "value") d))
     else None)
 

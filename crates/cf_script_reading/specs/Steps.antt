@@ -59,18 +59,26 @@ fail_said stages d = do
   code ← number_at 4294967295 2 d
   Some (Does (Fails 0 i code))
 
--- the failure by its cause's name
-unfoldable pub failure_named : List ℕ → Option Failure
-failure_named name =
-    if bytes_eq name (codes "timeout") then Some TimedOut
-    else (if bytes_eq name (codes "badanswer") then Some BadAnswer
+-- the code of a failAs, which is 0 where no fourth element says one
+unfoldable pub failure_code : Data → Option ℕ
+failure_code d =
+    if elements d == 3 then Some 0
+    else (do
+      here ← exactly 4 d
+      number_at 4294967295 3 d)
+
+-- the failure by its code and its cause's name
+unfoldable pub failure_named : ℕ → List ℕ → Option Failure
+failure_named code name =
+    if bytes_eq name (codes "timeout") then Some (TimedOut code)
+    else (if bytes_eq name (codes "badanswer") then Some (BadAnswer code)
     else None)
 
 unfoldable pub fail_as_said : ℕ → Data → Option Step
 fail_as_said stages d = do
-  here ← exactly 3 d
+  code ← failure_code d
   i ← stage_at stages 1 d
-  failure ← option_and_then failure_named (option_and_then as_str (at 2 d))
+  failure ← option_and_then (failure_named code) (option_and_then as_str (at 2 d))
   Some (Does (FailsAs 0 i failure))
 
 unfoldable pub cancel_said : ℕ → Data → Option Step

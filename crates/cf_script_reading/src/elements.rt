@@ -22,8 +22,8 @@ pub enum Element {
     NewStage,
 }
 
-/// The elements that stand behind a step's word, in order. The last one of `now` may be left out. There are none behind `work`, and
-/// none where no step has the word.
+/// The elements that stand behind a step's word, in order. The last one of `now` and of `failAs` may be left out. There are none
+/// behind `work`, and none where no step has the word.
 #[tactic(auto, unfolding(crate::specs::Elements::elements_of))]
 pub fn elements_of(word: &str) -> &'static [Element]
     ensures { result.now ≡ elements_of word.now }
@@ -31,7 +31,7 @@ pub fn elements_of(word: &str) -> &'static [Element]
     match word {
         "complete" => &[Element::Stage, Element::Value],
         "fail" => &[Element::Stage, Element::Number],
-        "failAs" => &[Element::Stage, Element::Failure],
+        "failAs" => &[Element::Stage, Element::Failure, Element::Number],
         "cancel" => &[Element::Stage],
         "tick" => &[Element::Number],
         _ => other_elements(word),

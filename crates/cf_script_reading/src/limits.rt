@@ -2,7 +2,7 @@
 ghost use Rattle.std.specs.Prelude.{◌≡◌, OnOk, codes};
 ghost use Rattle.serde_json.specs.View.{items_view, view};
 ghost use Rattle.cf_script_reading.specs.Checks.{ReadingGives};
-ghost use Rattle.cf_script_reading.specs.Limits.{kind_named, kind_of, limit_next, limits_said, number_named};
+ghost use Rattle.cf_script_reading.specs.Limits.{kind_named, kind_of, limit_next, limits_said, number_named, timeout_code};
 
 use crate::fault::{Part, ReadingFault};
 use crate::parts::{u16_of, u32_of, value};
@@ -11,13 +11,23 @@ use cf_forms::LimitKind;
 use cf_plan::PlanBuilder;
 use serde_json::Value as Json;
 
-/// The kind with this name, whose value may stand beside it.
+/// The code of a timeout, which is 0 where none stands there.
+fn code_said(json: &Json) -> Option<u32>
+    ensures { result ≡ timeout_code (view json.now) }
+{
+    match json.get("code") {
+        Some(code) => u32_of(code),
+        None => Some(0),
+    }
+}
+
+/// The kind with this name, whose code or value may stand beside it.
 #[tactic(auto, unfolding(crate::specs::Limits::kind_named))]
 fn kind(json: &Json, name: &str) -> Option<LimitKind>
     ensures { result ≡ kind_named (view json.now) name.now }
 {
     match name {
-        "timeout" => Some(LimitKind::Timeout),
+        "timeout" => Some(LimitKind::Timeout(code_said(json)?)),
         "value" => Some(LimitKind::Give(value(json.get("value")?)?)),
         _ => None,
     }

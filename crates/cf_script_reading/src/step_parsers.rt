@@ -2,7 +2,7 @@
 ghost use Rattle.std.specs.Prelude.{◌≡◌, ◌<◌, ℕ, IfSome};
 ghost use Rattle.serde_json.specs.View.{view};
 ghost use Rattle.cf_script_reading.specs.Parts.{stage_at};
-ghost use Rattle.cf_script_reading.specs.Steps.{NamesWithin, answer_at, answer_named, answer_of, caller_at, cancel_said, claim_said, complete_said, fail_as_said, fail_said, failure_named, finish_said, now_said, nudge_said, outcome_said, tick_said, work_said};
+ghost use Rattle.cf_script_reading.specs.Steps.{NamesWithin, answer_at, answer_named, answer_of, caller_at, cancel_said, claim_said, complete_said, fail_as_said, fail_said, failure_code, failure_named, finish_said, now_said, nudge_said, outcome_said, tick_said, work_said};
 
 use crate::parts::{caller, len, member, u16_in, u16_of, u32_in, u32_of, value, value_in};
 use crate::script::Step;
@@ -91,29 +91,42 @@ pub(crate) fn fail(stages: u16, json: &Json) -> Option<Step>
     }))
 }
 
-/// The failure by its cause's name.
+/// The code of a failAs, which is 0 where no fourth element says one.
+#[tactic(auto, unfolding(crate::specs::Steps::failure_code))]
+fn failure_code(json: &Json) -> Option<u32>
+    ensures { result ≡ failure_code (view json.now) }
+{
+    let n = len(json);
+    if n == 3 {
+        return Some(0);
+    }
+    if n != 4 {
+        return None;
+    }
+    u32_in(json, 3)
+}
+
+/// The failure by its code and its cause's name.
 #[tactic(auto, unfolding(crate::specs::Steps::failure_named))]
-fn failure(name: &str) -> Option<Failure>
-    ensures { result ≡ failure_named name.now }
+fn failure(code: u32, name: &str) -> Option<Failure>
+    ensures { result ≡ failure_named code name.now }
 {
     match name {
-        "timeout" => Some(Failure::TimedOut),
-        "badanswer" => Some(Failure::BadAnswer),
+        "timeout" => Some(Failure::TimedOut(code)),
+        "badanswer" => Some(Failure::BadAnswer(code)),
         _ => None,
     }
 }
 
-/// `["failAs",i,"timeout"]` or `["failAs",i,"badanswer"]`
+/// `["failAs",i,"timeout"]` or `["failAs",i,"badanswer"]`, where a code may stand behind the cause
 #[tactic(auto, unfolding(crate::specs::Steps::fail_as_said))]
 pub(crate) fn fail_as(stages: u16, json: &Json) -> Option<Step>
     ensures said { result ≡ fail_as_said stages (view json.now) }
     ensures fits { IfSome result (NamesWithin stages) }
 {
-    if len(json) != 3 {
-        return None;
-    }
+    let code = failure_code(json)?;
     let stage = stage_in(stages, json, 1)?;
-    let failure = failure(json.get(2usize)?.as_str()?)?;
+    let failure = failure(code, json.get(2usize)?.as_str()?)?;
     Some(Step::Does(Event::FailAs {
         who: 0,
         stage,

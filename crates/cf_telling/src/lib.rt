@@ -17,6 +17,7 @@ mod kinds;
 mod laws;
 mod lines;
 mod noting;
+mod parts;
 mod people;
 mod saying;
 mod script;

@@ -19,7 +19,7 @@ pub struct People {
     pub lanes: Vec<String>,
     /// What the value n stands for.
     pub values: Vec<String>,
-    /// What the thrown code n stands for.
+    /// What the code n of a fault stands for.
     pub errors: Vec<String>,
     /// A stage, and the higher one for which it stands in.
     pub relays: Vec<(u16, u16)>,

@@ -76,10 +76,14 @@ pub fn write_event_alone(out: &mut Text, notes: &Notes, people: &People, event: 
 /// Adds that a caller fails a stage so.
 fn write_failing(out: &mut Text, notes: &Notes, people: &People, failure: Failure, stage: u16) {
     match failure {
-        Failure::TimedOut => write_call(out, notes, people, "times out", stage),
-        Failure::BadAnswer => {
+        Failure::TimedOut(code) => {
+            write_call(out, notes, people, "times out", stage);
+            write_code(out, people, code)
+        }
+        Failure::BadAnswer(code) => {
             write_call(out, notes, people, "fails", stage);
-            out.add(" with a bad answer")
+            out.add(" with a bad answer");
+            write_code(out, people, code)
         }
     }
 }
@@ -250,6 +254,18 @@ fn write_error(out: &mut Text, people: &People, code: u32) {
     }
 }
 
+/// Adds what the code of a time-out or of a bad answer stands for. 0 stands for nothing.
+fn write_code(out: &mut Text, people: &People, code: u32) {
+    if code == 0 {
+        return;
+    }
+    out.add(", ");
+    match people.errors.get(code as usize) {
+        Some(said) => out.add_inside(said),
+        None => out.add_with("code ", code),
+    }
+}
+
 /// Adds what a stage settled with.
 pub fn write_outcome(out: &mut Text, people: &People, outcome: Outcome) {
     match outcome {
@@ -257,8 +273,14 @@ pub fn write_outcome(out: &mut Text, people: &People, outcome: Outcome) {
         Outcome::Fault { cause, .. } => match cause {
             Cause::Thrown(code) => write_error(out, people, code),
             Cause::Cancelled => out.add("cancelled"),
-            Cause::TimedOut => out.add("timed out"),
-            Cause::BadAnswer => out.add("a bad answer"),
+            Cause::TimedOut(code) => {
+                out.add("timed out");
+                write_code(out, people, code)
+            }
+            Cause::BadAnswer(code) => {
+                out.add("a bad answer");
+                write_code(out, people, code)
+            }
         },
     }
 }

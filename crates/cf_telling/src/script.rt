@@ -1,8 +1,8 @@
 //! A tale as the script that `cf run` does again, and as what that prints.
 use crate::tale::Tale;
 use crate::text::{Text, Within};
-use cf_forms::{Answer, Form, Limit, LimitKind, Of};
-use cf_model::{Event, Failure};
+use cf_forms::{Answer, Form, Limit, Of};
+use cf_model::Event;
 use cf_outcome::Value;
 use cf_plan::Plan;
 use std::alloc::{AllocError, Global};
@@ -109,20 +109,7 @@ fn write_function(out: &mut Text, function: Option<u16>) {
 fn write_limits(out: &mut Text, limits: &[Limit]) {
     for (k, limit) in limits.iter().enumerate() {
         out.add_comma(k);
-        write_limit(out, *limit);
-    }
-}
-
-fn write_limit(out: &mut Text, limit: Limit) {
-    out.add_with("{\"stage\":", limit.stage);
-    out.add_with(",\"at\":", limit.at);
-    match limit.kind {
-        LimitKind::Timeout => out.add(",\"kind\":\"timeout\"}"),
-        LimitKind::Give(value) => {
-            out.add(",\"kind\":\"value\",\"value\":");
-            write_value(out, value);
-            out.add("}");
-        }
+        out.add_limit(*limit);
     }
 }
 
@@ -145,7 +132,7 @@ fn write_step(out: &mut Text, event: Event) {
             out.add_with("[\"fail\",", stage);
             out.add_with(",", code)
         }
-        Event::FailAs { stage, failure, .. } => write_failing(out, stage, failure),
+        Event::FailAs { stage, failure, .. } => out.add_failing(stage, failure),
         Event::Cancel { stage, .. } => out.add_with("[\"cancel\",", stage),
         Event::Claim { who, stage } => {
             out.add_with("[\"claim\",", who);
@@ -170,14 +157,6 @@ fn write_step(out: &mut Text, event: Event) {
         }
     }
     out.add("]")
-}
-
-fn write_failing(out: &mut Text, stage: u16, failure: Failure) {
-    out.add_with("[\"failAs\",", stage);
-    match failure {
-        Failure::TimedOut => out.add(",\"timeout\""),
-        Failure::BadAnswer => out.add(",\"badanswer\""),
-    }
 }
 
 fn write_answer(out: &mut Text, answer: Answer) {

@@ -2,10 +2,13 @@
 ghost use Rattle.std.specs.Prelude.{◌≡◌, ◌<◌, [], ◌∷◌, ◌++◌, IfOk, OnErr, OnOk, encode_utf8_all, false, string_bytes, true};
 ghost use Rattle.std.specs.Char.{digit_char};
 ghost use Rattle.cf_telling.specs.Escapes.{by_number, escape, is_special, written_as};
+ghost use Rattle.cf_telling.specs.Parts.{failing_text, limit_text};
 ghost use Rattle.cf_telling.specs.Texts.{Adds, written};
 ghost use Rattle.cf_telling.specs.declared.text.Within.TheVariants.{Json, Lines};
 
-use cf_model::{Ask, Reply, Told};
+use crate::parts::{push_failing, push_limit};
+use cf_forms::Limit;
+use cf_model::{Ask, Failure, Reply, Told};
 use cf_outcome::Outcome;
 use cf_text::{is_shown, write_did, write_reply, write_saw, write_settled};
 use std::alloc::{AllocError, Global};
@@ -118,6 +121,32 @@ impl Text {
         let (ask, told) = (Ask::Outcome(stage), Told::Outcome(Some(outcome)));
         if !self.is_short && write_saw(&mut self.text, place, ask, told).is_err() {
             self.is_short = true;
+        }
+    }
+
+    /// Adds a step that fails a stage so, without its end.
+    pub(crate) fn add_failing(&mut self, stage: u16, failure: Failure)
+        ensures { Adds (failing_text stage failure) self.old self.new }
+    {
+        if self.is_short {
+            return;
+        }
+        match push_failing(&mut self.text, stage, failure) {
+            Ok(()) => {}
+            Err(_) => self.is_short = true,
+        }
+    }
+
+    /// Adds a limit.
+    pub(crate) fn add_limit(&mut self, limit: Limit)
+        ensures { Adds (limit_text limit) self.old self.new }
+    {
+        if self.is_short {
+            return;
+        }
+        match push_limit(&mut self.text, limit) {
+            Ok(()) => {}
+            Err(_) => self.is_short = true,
         }
     }
 

@@ -39,8 +39,8 @@ outcome_in details.Nil flag number payload = outcomes.Value values.Nil
 outcome_in details.Int flag number payload = outcomes.Value (values.Int number)
 outcome_in details.Thrown flag number payload = outcomes.Fault (causes.Thrown payload) flag
 outcome_in details.Cancelled flag number payload = outcomes.Fault causes.Cancelled flag
-outcome_in details.TimedOut flag number payload = outcomes.Fault causes.TimedOut flag
-outcome_in details.BadAnswer flag number payload = outcomes.Fault causes.BadAnswer flag
+outcome_in details.TimedOut flag number payload = outcomes.Fault (causes.TimedOut payload) flag
+outcome_in details.BadAnswer flag number payload = outcomes.Fault (causes.BadAnswer payload) flag
 
 -- the outcome that a cell keeps, and the same outcome wrapped
 abbrev pub outcome_of_cell : Cell → Outcome

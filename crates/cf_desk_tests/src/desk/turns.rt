@@ -4,8 +4,8 @@ use crate::desk::ends::End;
 use crate::desk::steps::{Step, Turn, play};
 use cf_desk::{Ask, Call, DeskFault, Joined, Rec, Told};
 use cf_forms::{Answer, Args};
-use cf_model::{Claimed, Event, Finished, Reply, Ticked};
-use cf_outcome::{Now, Outcome, Value};
+use cf_model::{Claimed, Event, Failure, Finished, Reply, Ticked};
+use cf_outcome::{Cause, Now, Outcome, Value};
 
 const SETTLED: Outcome = Outcome::Value(Value::Int(5));
 
@@ -109,6 +109,44 @@ fn a_full_pass_is_told_before_a_full_log(rt: HostRuntime) {
         &FULL_PASS,
         &[End::Records(0, &TWO_RECORDS)],
     );
+}
+
+const TIMED_OUT: Cause = Cause::TimedOut(7);
+
+const TIMES_OUT: Call = Call::FailAs(0, Failure::TimedOut(7));
+
+const BAD_ANSWER: Call = Call::FailAs(1, Failure::BadAnswer(8));
+
+/// The first caller fails the source and the supply with codes, and the second one reads them.
+const CODES: [Turn; 5] = [
+    Turn::First(Step::Acts(TIMES_OUT, Ok(Reply::Flag(true)))),
+    Turn::First(Step::Acts(BAD_ANSWER, Ok(Reply::Flag(true)))),
+    Turn::Second(Step::Reads(NOW, Ok(Told::Now(Now::Completion(TIMED_OUT))))),
+    Turn::Second(Step::Joins(0, 0, Ok(Joined::Completion(TIMED_OUT)))),
+    Turn::Second(Step::Reads(Ask::Outcome(1), Ok(Told::Outcome(Some(FAILED))))),
+];
+
+const FAILED: Outcome = Outcome::Fault {
+    cause: Cause::BadAnswer(8),
+    wrapped: false,
+};
+
+const CODES_ENDS: [End; 1] = [End::History(&[
+    Event::FailAs {
+        who: 0,
+        stage: 0,
+        failure: Failure::TimedOut(7),
+    },
+    Event::FailAs {
+        who: 0,
+        stage: 1,
+        failure: Failure::BadAnswer(8),
+    },
+])];
+
+#[test]
+fn failures_have_codes(rt: HostRuntime) {
+    play(&rt, rt.alloc(), small(4, 4), &CODES, &CODES_ENDS);
 }
 
 const MEETING: [Turn; 12] = [

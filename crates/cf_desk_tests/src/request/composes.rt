@@ -111,7 +111,7 @@ const SETTLED_BY_THEN: [Step; 6] = [
 const LATE: Deadline = Deadline {
     stage: 3,
     moment: 9,
-    kind: LimitKind::Timeout,
+    kind: LimitKind::Timeout(0),
 };
 
 /// There are so many relays and deadlines, and there is memory for more.

@@ -16,6 +16,10 @@ const CANCEL_0: u64 = 0x0300000000000000;
 const TIMED_OUT_0: u64 = 0x0800000000000000;
 
 const BAD_ANSWER_0: u64 = 0x0800000100000000;
+/// The same with a code.
+const TIMED_OUT_0_BY_7: u64 = 0x0800000000000007;
+
+const BAD_ANSWER_0_BY_THE_LAST: u64 = 0x08000001ffffffff;
 /// It attaches an apply of source 1 by function 3.
 const ATTACH: u64 = 0x0700001103000003;
 /// It claims stage 9, which isn't there.
@@ -162,12 +166,22 @@ const CANCELLED: Outcome = Outcome::Fault {
 };
 
 const TIMED_OUT: Outcome = Outcome::Fault {
-    cause: Cause::TimedOut,
+    cause: Cause::TimedOut(0),
     wrapped: false,
 };
 
 const BAD_ANSWER: Outcome = Outcome::Fault {
-    cause: Cause::BadAnswer,
+    cause: Cause::BadAnswer(0),
+    wrapped: false,
+};
+
+const TIMED_OUT_BY_7: Outcome = Outcome::Fault {
+    cause: Cause::TimedOut(7),
+    wrapped: false,
+};
+
+const BAD_ANSWER_BY_THE_LAST: Outcome = Outcome::Fault {
+    cause: Cause::BadAnswer(u32::MAX),
     wrapped: false,
 };
 
@@ -180,11 +194,13 @@ const FOLLOWS: [Step; 4] = [
 ];
 
 /// What source 0 ends as by these words.
-const ENDS: [(u64, Outcome); 4] = [
+const ENDS: [(u64, Outcome); 6] = [
     (COMPLETE_0, Outcome::Value(Value::Int(5))),
     (CANCEL_0, CANCELLED),
     (TIMED_OUT_0, TIMED_OUT),
     (BAD_ANSWER_0, BAD_ANSWER),
+    (TIMED_OUT_0_BY_7, TIMED_OUT_BY_7),
+    (BAD_ANSWER_0_BY_THE_LAST, BAD_ANSWER_BY_THE_LAST),
 ];
 
 /// Both relays end as source 0 does by this word, by two words more, and so does one that follows later.
@@ -213,26 +229,26 @@ fn relays_end_as_their_stages(rt: HostRuntime) {
 const LAST: Deadline = Deadline {
     stage: 1,
     moment: 30,
-    kind: LimitKind::Timeout,
+    kind: LimitKind::Timeout(0),
 };
 
 const SECOND: Deadline = Deadline {
     stage: 2,
     moment: 20,
-    kind: LimitKind::Timeout,
+    kind: LimitKind::Timeout(0),
 };
 
 /// Stage 3 times out at moment 25. Before that it has followed source 0.
 const LATE: Deadline = Deadline {
     stage: 3,
     moment: 25,
-    kind: LimitKind::Timeout,
+    kind: LimitKind::Timeout(0),
 };
 
 const NO_DEADLINE: Deadline = Deadline {
     stage: 7,
     moment: 20,
-    kind: LimitKind::Timeout,
+    kind: LimitKind::Timeout(0),
 };
 
 /// Source 0 is given 5 at moment 20.
@@ -266,7 +282,7 @@ const BY_MOMENTS: [Step; 17] = [
 const PAST: Deadline = Deadline {
     stage: 5,
     moment: 20,
-    kind: LimitKind::Timeout,
+    kind: LimitKind::Timeout(0),
 };
 
 const AT_ONCE: [Step; 5] = [
@@ -274,7 +290,7 @@ const AT_ONCE: [Step; 5] = [
     Step::NextDeadline(Some(Deadline {
         stage: 5,
         moment: 29,
-        kind: LimitKind::Timeout,
+        kind: LimitKind::Timeout(0),
     })),
     Step::Pass(29, Ok(())),
     Step::Ends(5, TIMED_OUT),
@@ -286,6 +302,33 @@ fn moments_come_in_order(rt: HostRuntime) {
     let mut machine = opened(&rt, rt.alloc());
     take(&rt, &mut machine, &BY_MOMENTS);
     take(&rt, &mut machine, &AT_ONCE);
+    drop(machine);
+}
+
+/// Stage 2 times out at moment 20 with code 7.
+const CODED: Deadline = Deadline {
+    stage: 2,
+    moment: 20,
+    kind: LimitKind::Timeout(7),
+};
+
+/// Source 3 follows source 1, and that follows stage 2. Both time out with its code.
+const BY_A_CODE: [Step; 9] = [
+    Step::Follow(1, 2, Ok(())),
+    Step::Follow(3, 1, Ok(())),
+    Step::Deadline(CODED, Ok(())),
+    Step::NextDeadline(Some(CODED)),
+    Step::Pass(20, Ok(())),
+    Step::Words(&[0x083f002000000007, 0x083f001000000007, 0x083f003000000007]),
+    Step::Ends(2, TIMED_OUT_BY_7),
+    Step::Ends(1, TIMED_OUT_BY_7),
+    Step::Ends(3, TIMED_OUT_BY_7),
+];
+
+#[test]
+fn a_deadline_has_a_code(rt: HostRuntime) {
+    let mut machine = opened(&rt, rt.alloc());
+    take(&rt, &mut machine, &BY_A_CODE);
     drop(machine);
 }
 

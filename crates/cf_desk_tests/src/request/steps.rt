@@ -42,6 +42,8 @@ pub(crate) enum Step {
     /// A stage that is settled, with its outcome.
     Ends(u16, Outcome),
     Len(usize),
+    /// All words of its ledger.
+    Words(&'static [u64]),
 }
 
 /// Whether a call is answered so.
@@ -81,6 +83,7 @@ fn is_answered(machine: &mut Machine, step: Step) -> bool {
             i < machine.ledger().stages() && machine.ledger().stage(i) == Stage::Settled(outcome)
         }
         Step::Len(answer) => machine.ledger().len() == answer,
+        Step::Words(answer) => machine.ledger().words() == answer,
     }
 }
 

@@ -23,6 +23,11 @@ const FAIL_BY_0: u64 = 0x0200001000000009;
 
 const CANCEL_BY_1: u64 = 0x0301001000000000;
 
+/// Caller 0 lets the apply time out with code 11, and caller 1 then says that it has a bad answer with code 12.
+const TIME_OUT_BY_0: u64 = 0x080000100000000b;
+
+const BAD_ANSWER_BY_1: u64 = 0x080100110000000c;
+
 /// Caller 0 attaches an apply of the source by function 3, which is stage 2, and claims it.
 const ATTACH_BY_0: u64 = 0x0700000103000003;
 
@@ -122,6 +127,11 @@ const CANCELLED: Outcome = Outcome::Fault {
     wrapped: false,
 };
 
+const TIMED_OUT: Outcome = Outcome::Fault {
+    cause: Cause::TimedOut(11),
+    wrapped: false,
+};
+
 /// Both plan for the first place with number 0. The first session's put stands, but its answer is lost. The second
 /// session meets it. Its next put lands, but its answer is lost, and is asked for again.
 const DOUBTS: [(u8, Step); 15] = [
@@ -170,6 +180,15 @@ const GONE: [(u8, Step); 12] = [
     (1, Step::Sees),
     (1, Step::Lands(Engine::Sound, &[FINISH_BY_1])),
     (1, Step::Outcome(1, Some(NINE))),
+];
+
+/// The first session lets the apply time out with a code. The second one reads it, and its own bad answer comes too late.
+const CODED: [(u8, Step); 5] = [
+    (0, Step::Lands(Engine::Sound, &[TIME_OUT_BY_0])),
+    (0, Step::Outcome(1, Some(TIMED_OUT))),
+    (1, Step::Saw(SETTLED)),
+    (1, Step::Lands(Engine::Sound, &[BAD_ANSWER_BY_1])),
+    (1, Step::Outcome(1, Some(TIMED_OUT))),
 ];
 
 /// A group attaches a stage and claims it. Then there is no room for another one before it is made. The second session
@@ -352,10 +371,11 @@ const LOST: [(u8, Step); 6] = [
 ];
 
 /// The second session's first token in each of them.
-const TESTS: [(u32, &[(u8, Step)]); 14] = [
+const TESTS: [(u32, &[(u8, Step)]); 15] = [
     (0, &DOUBTS),
     (0, &FINDS),
     (0, &GONE),
+    (0, &CODED),
     (8_388_606, &GROUPS),
     (0, &CROWDED),
     (0, &HELD),

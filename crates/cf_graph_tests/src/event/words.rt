@@ -10,7 +10,7 @@ use std::alloc::Global;
 use std::process::Abort;
 
 /// Events with their words.
-const ROWS: [(Event, u64); 16] = [
+const ROWS: [(Event, u64); 17] = [
     (
         Event::Complete {
             who: 0,
@@ -41,17 +41,25 @@ const ROWS: [(Event, u64); 16] = [
         Event::FailAs {
             who: 63,
             stage: 4095,
-            failure: Failure::TimedOut,
+            failure: Failure::TimedOut(0),
         },
         0x083ffff000000000,
     ),
     (
         Event::FailAs {
+            who: 1,
+            stage: 0,
+            failure: Failure::TimedOut(7),
+        },
+        0x0801000000000007,
+    ),
+    (
+        Event::FailAs {
             who: 0,
             stage: 2,
-            failure: Failure::BadAnswer,
+            failure: Failure::BadAnswer(4294967295),
         },
-        0x0800002100000000,
+        0x08000021ffffffff,
     ),
     (
         Event::Finish {
@@ -139,8 +147,8 @@ const REFUSED: [u64; 15] = [
     0x0700000303000000,
     0x0700000113000002,
     0x0740000000000000,
-    0x0800000000000001,
     0x0800000200000000,
+    0x0840000000000001,
     0x0900000000000000,
 ];
 
@@ -164,7 +172,7 @@ const TOO_GREAT: [Event; 3] = [
     Event::FailAs {
         who: 0,
         stage: 4096,
-        failure: Failure::TimedOut,
+        failure: Failure::TimedOut(7),
     },
     Event::Cancel { who: 64, stage: 0 },
     Event::Claim {
@@ -209,7 +217,7 @@ fn one_bit_off_is_another_event_or_none(rt: HostRuntime) {
     for (_, word) in &ROWS {
         good = good.saturating_add(count_near(&rt, *word));
     }
-    same(&rt, good, 506);
+    same(&rt, good, 621);
 }
 
 /// The plan of one supply.

@@ -58,7 +58,7 @@ const TIMED: Rows = Rows {
     limits: &[Limit {
         stage: 0,
         at: 10,
-        kind: LimitKind::Timeout,
+        kind: LimitKind::Timeout(7),
     }],
     callers: &[&[COMPLETE]],
     free: true,

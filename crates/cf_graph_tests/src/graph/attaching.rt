@@ -176,7 +176,7 @@ const LINKED_TO_ITSELF: [Step; 6] = [
     ATTACHES_COMPOSE,
     Step::Granted(3, 1),
     Step::Finish(3, Answer::Link(3), Finished::Won),
-    Step::Fault(3, Cause::BadAnswer, true),
+    Step::Fault(3, Cause::BadAnswer(0), true),
 ];
 
 const FOLLOWED: [Step; 7] = [

@@ -61,23 +61,65 @@ const COMPOSED: Rows = Rows {
 const TIMED_OUT: [Step; 10] = [
     Step::Complete(0, 1, true),
     Step::Granted(2, 1),
-    Step::FailAs(1, Failure::TimedOut, true),
+    Step::FailAs(1, Failure::TimedOut(7), true),
     // It is settled.
-    Step::FailAs(1, Failure::BadAnswer, false),
-    Step::Fault(1, Cause::TimedOut, false),
-    Step::Now(1, Now::Completion(Cause::TimedOut)),
+    Step::FailAs(1, Failure::BadAnswer(8), false),
+    Step::Fault(1, Cause::TimedOut(7), false),
+    Step::Now(1, Now::Completion(Cause::TimedOut(7))),
     Step::Cancel(1, false),
     Step::Finish(2, Answer::Link(1), Finished::Won),
-    Step::Fault(2, Cause::TimedOut, true),
-    Step::FailAs(2, Failure::TimedOut, false),
+    Step::Fault(2, Cause::TimedOut(7), true),
+    Step::FailAs(2, Failure::TimedOut(9), false),
 ];
 
-const ANSWERED_BADLY: [Step; 5] = [
+const ANSWERED_BADLY: [Step; 6] = [
     Step::Complete(0, 1, true),
     Step::Granted(2, 1),
-    Step::FailAs(2, Failure::BadAnswer, true),
-    Step::Fault(2, Cause::BadAnswer, false),
+    Step::FailAs(2, Failure::BadAnswer(4294967295), true),
+    Step::Fault(2, Cause::BadAnswer(4294967295), false),
     Step::Finish(2, Answer::Link(1), Finished::Late),
+    Step::Fault(2, Cause::BadAnswer(4294967295), false),
+];
+
+/// A source, an apply and a handle of it, and an exceptionally of the apply.
+const DEPENDING: Rows = Rows {
+    stages: &[
+        SOURCE,
+        (Form::Apply, &[0], Some(0)),
+        (Form::Handle, &[0], Some(1)),
+        (Form::Exceptionally, &[1], Some(2)),
+    ],
+    limits: &[Limit {
+        stage: 0,
+        at: 5,
+        kind: LimitKind::Timeout(4294967295),
+    }],
+    ..NONE
+};
+
+/// What depends on a stage gets the code with its fault, and so do the functions.
+const DEPEND_ON_CALL: [Step; 5] = [
+    Step::FailAs(0, Failure::BadAnswer(9), true),
+    Step::Fault(1, Cause::BadAnswer(9), true),
+    Step::GrantedFault(2, Cause::BadAnswer(9), false),
+    Step::GrantedFault(3, Cause::BadAnswer(9), true),
+    Step::Tick(5, Ticked::Fired(0)),
+];
+
+const DEPEND_ON_LIMIT: [Step; 6] = [
+    Step::Tick(5, Ticked::Fired(1)),
+    Step::Fault(0, Cause::TimedOut(4294967295), false),
+    Step::Fault(1, Cause::TimedOut(4294967295), true),
+    Step::GrantedFault(2, Cause::TimedOut(4294967295), false),
+    Step::GrantedFault(3, Cause::TimedOut(4294967295), true),
+    Step::FailAs(0, Failure::TimedOut(7), false),
+];
+
+/// Without a code, as with code 0.
+const DEPEND_WITHOUT_CODE: [Step; 3] = [
+    Step::FailAs(0, Failure::TimedOut(0), true),
+    Step::Fault(1, Cause::TimedOut(0), true),
+    Step::GrantedFault(3, Cause::TimedOut(0), true),
 ];
 
 /// Two sources, and an exceptionallyCompose of the first.
@@ -85,23 +127,6 @@ const RECOVERING: Rows = Rows {
     stages: &[SOURCE, SOURCE, (Form::ExceptionallyCompose, &[0], Some(0))],
     ..NONE
 };
-
-/// A claim of the last is granted, with a fault for its function: thrown, or a cancellation.
-const CLAIMS_THROWN: Step = Step::Claim(
-    2,
-    Claimed::Granted(Args::Got(Outcome::Fault {
-        cause: Cause::Thrown(7),
-        wrapped: false,
-    })),
-);
-
-const CLAIMS_CANCELLED: Step = Step::Claim(
-    2,
-    Claimed::Granted(Args::Got(Outcome::Fault {
-        cause: Cause::Cancelled,
-        wrapped: false,
-    })),
-);
 
 const UNRECOVERED: [Step; 4] = [
     Step::Complete(0, 3, true),
@@ -112,34 +137,34 @@ const UNRECOVERED: [Step; 4] = [
 
 const RECOVERED: [Step; 6] = [
     Step::Fail(0, 7, true),
-    CLAIMS_THROWN,
+    Step::GrantedFault(2, Cause::Thrown(7), false),
     Step::Finish(2, Answer::Link(1), Finished::Won),
     Step::Outcome(2, None),
     Step::Complete(1, 3, true),
     Step::Value(2, 3),
 ];
 
-/// The last is settled with a bad answer.
-const IS_BAD: Step = Step::Fault(2, Cause::BadAnswer, true);
+/// The last is settled with a bad answer, for which nobody gave a code.
+const IS_BAD: Step = Step::Fault(2, Cause::BadAnswer(0), true);
 
 /// The function of the last answers with no lower stage: with a value, with itself, or with a higher one.
 const RECOVERY_GIVES: [Step; 4] = [
     Step::Cancel(0, true),
-    CLAIMS_CANCELLED,
+    Step::GrantedFault(2, Cause::Cancelled, false),
     Step::Finish(2, Answer::Give(Value::Nil), Finished::Won),
     IS_BAD,
 ];
 
 const RECOVERY_LINKS_TO_ITSELF: [Step; 4] = [
     Step::Cancel(0, true),
-    CLAIMS_CANCELLED,
+    Step::GrantedFault(2, Cause::Cancelled, false),
     Step::Finish(2, Answer::Link(2), Finished::Won),
     IS_BAD,
 ];
 
 const RECOVERY_LINKS_HIGHER: [Step; 4] = [
     Step::Cancel(0, true),
-    CLAIMS_CANCELLED,
+    Step::GrantedFault(2, Cause::Cancelled, false),
     Step::Finish(2, Answer::Link(3), Finished::Won),
     IS_BAD,
 ];
@@ -165,7 +190,7 @@ const LIMITS: [Limit; 2] = [
     Limit {
         stage: 0,
         at: 5,
-        kind: LimitKind::Timeout,
+        kind: LimitKind::Timeout(7),
     },
 ];
 
@@ -221,7 +246,7 @@ const MOST_SUPPLIES: Rows = Rows {
 
 const ALL_CLAIMED: [Step; 2] = [Step::ClaimsEach(4096), Step::LowestReady(None)];
 
-const CASES: [Case; 13] = [
+const CASES: [Case; 16] = [
     Case {
         name: "an apply over a source",
         rows: &SOURCE_AND_APPLY,
@@ -245,6 +270,24 @@ const CASES: [Case; 13] = [
         rows: &COMPOSED,
         room: None,
         steps: &[&ANSWERED_BADLY],
+    },
+    Case {
+        name: "a caller's code reaches what depends",
+        rows: &DEPENDING,
+        room: None,
+        steps: &[&DEPEND_ON_CALL],
+    },
+    Case {
+        name: "a limit's code reaches what depends",
+        rows: &DEPENDING,
+        room: None,
+        steps: &[&DEPEND_ON_LIMIT],
+    },
+    Case {
+        name: "no code reaches what depends",
+        rows: &DEPENDING,
+        room: None,
+        steps: &[&DEPEND_WITHOUT_CODE],
     },
     Case {
         name: "a value needs no recovery",

@@ -12,7 +12,7 @@ use std::process::Abort;
 const LIMITS: [Limit; 1] = [Limit {
     stage: 1,
     at: 5,
-    kind: LimitKind::Timeout,
+    kind: LimitKind::Timeout(7),
 }];
 
 /// Two sources, a supply, an apply and a compose of the first source, and a limit on the second.
@@ -62,8 +62,8 @@ const FILLS: [Step; 6] = [
 const EXPIRES: [Step; 4] = [
     Step::Tick(7, Ticked::Fired(1)),
     Step::Tick(6, Ticked::Past),
-    Step::Fault(1, Cause::TimedOut, false),
-    Step::Fault(4, Cause::TimedOut, true),
+    Step::Fault(1, Cause::TimedOut(7), false),
+    Step::Fault(4, Cause::TimedOut(7), true),
 ];
 
 const RESTARTED: [&[Step]; 13] = [
@@ -75,7 +75,7 @@ const RESTARTED: [&[Step]; 13] = [
     &NEW,
     &FILLS,
     &EXPIRES,
-    &[Step::Fault(6, Cause::TimedOut, true)],
+    &[Step::Fault(6, Cause::TimedOut(7), true)],
     &[Step::Restart, Step::Restart],
     &NEW,
     &EXPIRES,

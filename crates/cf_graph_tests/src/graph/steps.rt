@@ -22,6 +22,8 @@ pub(crate) enum Step {
     Claim(u16, Claimed),
     /// A claim is granted, with this number for its function.
     Granted(u16, i32),
+    /// A claim is granted, with this fault for its function, wrapped or not.
+    GrantedFault(u16, Cause, bool),
     /// A claim by this caller.
     ClaimBy(u8, u16, Claimed),
     Finish(u16, Answer, Finished),
@@ -101,6 +103,11 @@ fn granted(n: i32) -> Claimed {
     Claimed::Granted(Args::One(Value::Int(n)))
 }
 
+/// A claim is granted, with this fault for its function.
+fn granted_fault(cause: Cause, wrapped: bool) -> Claimed {
+    Claimed::Granted(Args::Got(Outcome::Fault { cause, wrapped }))
+}
+
 /// Whether each of so many stages is the lowest ready one in turn, and its claim is granted.
 fn claims_each(graph: &mut Graph, count: u16) -> bool {
     for i in 0..count {
@@ -150,6 +157,9 @@ fn is_answered(alloc: Global, graph: &mut Graph, step: Step) -> bool {
         Step::Cancel(i, answer) => graph.has(i) && graph.cancel(i) == answer,
         Step::Claim(i, answer) => graph.has(i) && graph.claim(0, i) == answer,
         Step::Granted(i, n) => graph.has(i) && graph.claim(0, i) == granted(n),
+        Step::GrantedFault(i, cause, wrapped) => {
+            graph.has(i) && graph.claim(0, i) == granted_fault(cause, wrapped)
+        }
         Step::ClaimBy(who, i, answer) => graph.has(i) && graph.claim(who, i) == answer,
         Step::Finish(i, given, answer) => graph.has(i) && graph.finish(0, i, given) == answer,
         Step::Tick(now, answer) => graph.tick(now) == answer,

@@ -82,7 +82,7 @@ fn writes_each_value(rt: HostRuntime) {
 }
 
 /// The causes, each as it is written raw and wrapped.
-const CAUSES: [(Cause, &str, &str); 6] = [
+const CAUSES: [(Cause, &str, &str); 8] = [
     (
         Cause::Thrown(0),
         "fault thrown 0 raw",
@@ -104,14 +104,24 @@ const CAUSES: [(Cause, &str, &str); 6] = [
         "fault cancelled wrapped",
     ),
     (
-        Cause::TimedOut,
+        Cause::TimedOut(0),
         "fault timeout raw",
         "fault timeout wrapped",
     ),
     (
-        Cause::BadAnswer,
+        Cause::TimedOut(7),
+        "fault timeout 7 raw",
+        "fault timeout 7 wrapped",
+    ),
+    (
+        Cause::BadAnswer(0),
         "fault badanswer raw",
         "fault badanswer wrapped",
+    ),
+    (
+        Cause::BadAnswer(4294967295),
+        "fault badanswer 4294967295 raw",
+        "fault badanswer 4294967295 wrapped",
     ),
 ];
 
@@ -129,15 +139,20 @@ fn writes_each_fault(rt: HostRuntime) {
 }
 
 /// What a caller is told, each as it is written.
-const TOLD: [(Now, &str); 9] = [
+const TOLD: [(Now, &str); 11] = [
     (Now::Absent(Value::Int(4)), "absent 4"),
     (Now::Absent(Value::Nil), "absent nil"),
     (Now::Got(Value::Nil), "value nil"),
     (Now::Got(Value::Int(-4)), "value -4"),
     (Now::Completion(Cause::Thrown(7)), "completion thrown 7"),
     (Now::Completion(Cause::Cancelled), "completion cancelled"),
-    (Now::Completion(Cause::TimedOut), "completion timeout"),
-    (Now::Completion(Cause::BadAnswer), "completion badanswer"),
+    (Now::Completion(Cause::TimedOut(0)), "completion timeout"),
+    (Now::Completion(Cause::TimedOut(7)), "completion timeout 7"),
+    (Now::Completion(Cause::BadAnswer(0)), "completion badanswer"),
+    (
+        Now::Completion(Cause::BadAnswer(4294967295)),
+        "completion badanswer 4294967295",
+    ),
     (Now::Cancellation, "cancellation"),
 ];
 
@@ -160,8 +175,8 @@ fn writes_each_answer(rt: HostRuntime) {
 #[test]
 fn the_longest_has_room(rt: HostRuntime) {
     let mut short = ShortText::new();
-    short.push("granted got 12345");
-    short.push_outcome(fault(Cause::Thrown(4294967295), true));
+    short.push("granted got 12");
+    short.push_outcome(fault(Cause::BadAnswer(4294967295), true));
     same(&rt, short.as_bytes().len(), SHORT_ROOM);
 }
 

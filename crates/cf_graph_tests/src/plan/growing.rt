@@ -105,7 +105,7 @@ fn put(builder: &mut PlanBuilder, rows: &[Row<'_>]) -> Result<(), PlanFault> {
 fn whole(alloc: Global, rows: &[Row<'_>]) -> Result<Plan, PlanFault> {
     let mut builder = PlanBuilder::new(alloc);
     put(&mut builder, &OPENING)?;
-    builder.limit(2, 5, LimitKind::Timeout)?;
+    builder.limit(2, 5, LimitKind::Timeout(0))?;
     put(&mut builder, rows)?;
     builder.build()
 }

@@ -86,7 +86,7 @@ fn limit_by(many: Many, i: u16) -> (u16, u32) {
 pub(crate) fn adds_limits(builder: &mut PlanBuilder, many: Many, count: u16) -> bool {
     for i in 0..count {
         let (stage, at) = limit_by(many, i);
-        if builder.limit(stage, at, LimitKind::Timeout).is_err() {
+        if builder.limit(stage, at, LimitKind::Timeout(0)).is_err() {
             return false;
         }
     }

@@ -28,12 +28,12 @@ const LIMITS: [Limit; 3] = [
     Limit {
         stage: 1,
         at: 10,
-        kind: LimitKind::Timeout,
+        kind: LimitKind::Timeout(7),
     },
     Limit {
         stage: 0,
         at: 12,
-        kind: LimitKind::Timeout,
+        kind: LimitKind::Timeout(4294967295),
     },
 ];
 
@@ -42,9 +42,9 @@ const FIRING_ORDER: Case<'static> = Case {
     steps: &[
         SOURCE,
         Step::Stage(Form::Source, &[], None, Ok(1)),
-        Step::Limit(0, 12, LimitKind::Timeout, Ok(())),
+        Step::Limit(0, 12, LimitKind::Timeout(4294967295), Ok(())),
         Step::Limit(0, 10, GIVE, Ok(())),
-        Step::Limit(1, 10, LimitKind::Timeout, Ok(())),
+        Step::Limit(1, 10, LimitKind::Timeout(7), Ok(())),
         Step::Limits(&LIMITS),
     ],
     asks: &[Ask::Limits(&LIMITS)],
@@ -81,9 +81,9 @@ const REFUSED: Case<'static> = Case {
         Step::Stage(Form::Apply, &[1], None, Err(PlanFault::SourceNotLower)),
         Step::Stage(Form::Apply, &[0], None, Err(PlanFault::FunctionMissing)),
         Step::Stage(Form::AllOf, &[0], Some(0), Err(PlanFault::FunctionUnwanted)),
-        Step::Limit(1, 5, LimitKind::Timeout, Err(PlanFault::NoSuchStage)),
+        Step::Limit(1, 5, LimitKind::Timeout(0), Err(PlanFault::NoSuchStage)),
         Step::Stage(Form::Apply, &[0], Some(0), Ok(1)),
-        Step::Limit(1, 5, LimitKind::Timeout, Ok(())),
+        Step::Limit(1, 5, LimitKind::Timeout(0), Ok(())),
     ],
     ..NONE
 };
@@ -98,8 +98,8 @@ const TOO_MANY: Case<'static> = Case {
         Step::Stage(Form::AllOf, &[0], None, Err(PlanFault::TooManyEdges)),
         Step::Stage(Form::AllOf, &[], None, Ok(2)),
         Step::Limited(Many::Falling, 4_096),
-        Step::Limit(0, 0, LimitKind::Timeout, Err(PlanFault::TooManyLimits)),
-        Step::Limit(3, 0, LimitKind::Timeout, Err(PlanFault::NoSuchStage)),
+        Step::Limit(0, 0, LimitKind::Timeout(0), Err(PlanFault::TooManyLimits)),
+        Step::Limit(3, 0, LimitKind::Timeout(0), Err(PlanFault::NoSuchStage)),
     ],
     asks: &[
         Ask::Edges(16_384),
@@ -128,13 +128,13 @@ const FULLEST: Case<'static> = Case {
         Step::Limit(
             4_095,
             u32::MAX,
-            LimitKind::Timeout,
+            LimitKind::Timeout(0),
             Err(PlanFault::TooManyLimits),
         ),
         Step::Limit(
             4_096,
             u32::MAX,
-            LimitKind::Timeout,
+            LimitKind::Timeout(0),
             Err(PlanFault::NoSuchStage),
         ),
     ],
@@ -216,7 +216,7 @@ const HUNDRED: Case<'static> = Case {
     room: Some((0, 0)),
     steps: &[
         Step::Adds(Stages::FewNamed, 100),
-        Step::Limit(99, 1, LimitKind::Timeout, Ok(())),
+        Step::Limit(99, 1, LimitKind::Timeout(0), Ok(())),
     ],
     asks: &[Ask::Stages(100), Ask::Edges(197)],
     ..NONE

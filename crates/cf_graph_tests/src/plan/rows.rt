@@ -89,9 +89,9 @@ fn stage_again(
 
 /// Adds a limit in the same way.
 fn limit_again(builder: &mut PlanBuilder) -> Result<(), PlanFault> {
-    let answer = builder.limit(1, 5, LimitKind::Timeout);
+    let answer = builder.limit(1, 5, LimitKind::Timeout(0));
     if answer == Err(PlanFault::NoMemory) && builder.limits().is_empty() {
-        builder.limit(1, 5, LimitKind::Timeout)
+        builder.limit(1, 5, LimitKind::Timeout(0))
     } else {
         answer
     }

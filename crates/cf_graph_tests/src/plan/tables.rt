@@ -10,12 +10,12 @@ use cf_forms::{
 use cf_outcome::{Cause, Outcome, Value};
 
 const RAW: Outcome = Outcome::Fault {
-    cause: Cause::TimedOut,
+    cause: Cause::TimedOut(7),
     wrapped: false,
 };
 
 const WRAPPED: Outcome = Outcome::Fault {
-    cause: Cause::TimedOut,
+    cause: Cause::TimedOut(7),
     wrapped: true,
 };
 
@@ -25,7 +25,7 @@ const THROWN: Outcome = Outcome::Fault {
 };
 
 const BAD: Outcome = Outcome::Fault {
-    cause: Cause::BadAnswer,
+    cause: Cause::BadAnswer(0),
     wrapped: true,
 };
 

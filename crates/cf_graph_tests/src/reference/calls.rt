@@ -11,17 +11,17 @@ fn settling(who: u8, stage: u16, x: u32) -> Event {
             let value = Value::Int(code as i32);
             Event::Complete { who, stage, value }
         }
-        1 => failing(who, stage, code),
+        1 => failing(who, stage, code, x >> 12 & 3),
         2 => Event::Cancel { who, stage },
         _ => Event::Tick { who, moment: code },
     }
 }
 
-/// Fails a stage with a code, as timed out or with a bad answer.
-fn failing(who: u8, stage: u16, code: u32) -> Event {
+/// Fails a stage with a code, as timed out or with a bad answer, both with a code of their own.
+fn failing(who: u8, stage: u16, code: u32, own: u32) -> Event {
     let failure = match code {
-        2 => Failure::TimedOut,
-        3 => Failure::BadAnswer,
+        2 => Failure::TimedOut(own),
+        3 => Failure::BadAnswer(own),
         _ => return Event::Fail { who, stage, code },
     };
     Event::FailAs {

@@ -149,7 +149,7 @@ fn add(builder: &mut PlanBuilder, new: New) -> Result<u16, PlanFault> {
 
 const GIVE: LimitKind = LimitKind::Give(Value::Int(9));
 
-const TWO_LIMITS: [(u16, u32, LimitKind); 2] = [(0, 1, GIVE), (1, 2, LimitKind::Timeout)];
+const TWO_LIMITS: [(u16, u32, LimitKind); 2] = [(0, 1, GIVE), (1, 2, LimitKind::Timeout(1))];
 
 /// Two sources with a limit each.
 pub(crate) fn two_sources(rt: &impl Abort, alloc: Global) -> Plan {
@@ -157,9 +157,9 @@ pub(crate) fn two_sources(rt: &impl Abort, alloc: Global) -> Plan {
 }
 
 const THREE_LIMITS: [(u16, u32, LimitKind); 3] = [
-    (2, 2, LimitKind::Timeout),
+    (2, 2, LimitKind::Timeout(0)),
     (0, 1, GIVE),
-    (1, 2, LimitKind::Timeout),
+    (1, 2, LimitKind::Timeout(7)),
 ];
 
 /// Two sources, these stages, and three limits.
@@ -195,9 +195,9 @@ fn add_by(builder: &mut PlanBuilder, k: u16, x: u32) -> Result<u16, PlanFault> {
 }
 
 const LARGER_LIMITS: [(u16, u32, LimitKind); 3] = [
-    (2, 2, LimitKind::Timeout),
+    (2, 2, LimitKind::Timeout(0)),
     (0, 1, GIVE),
-    (4, 2, LimitKind::Timeout),
+    (4, 2, LimitKind::Timeout(4294967295)),
 ];
 
 /// The larger plan of a number: two sources, 6 to 14 stages of all forms over lower ones, and three limits.

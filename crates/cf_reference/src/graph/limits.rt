@@ -76,8 +76,8 @@ fn outcome_of_limit(kind: LimitKind) -> Outcome
     ensures { result ≡ limit_outcome kind }
 {
     match kind {
-        LimitKind::Timeout => Outcome::Fault {
-            cause: Cause::TimedOut,
+        LimitKind::Timeout(code) => Outcome::Fault {
+            cause: Cause::TimedOut(code),
             wrapped: false,
         },
         LimitKind::Give(v) => Outcome::Value(v),

@@ -1,7 +1,7 @@
 //! What scripts are read as, what is refused, and the ten functions.
 use crate::checks::{holds, must};
 use cf_forms::{Answer, Args, Limit, LimitKind, StageFn};
-use cf_model::{Ask, Event};
+use cf_model::{Ask, Event, Failure};
 use cf_outcome::{Cause, Outcome, Value};
 use cf_plan::PlanFault;
 use cf_script_reading::{
@@ -222,7 +222,7 @@ fn one_byte_too_many_is_read(rt: HostRuntime) {
 const LIMIT: ReadingFault = ReadingFault::Shape(Part::Limit(0));
 
 /// Faults that no row of whole scripts has.
-const REFUSED: [(&[u8], ReadingFault); 12] = [
+const REFUSED: [(&[u8], ReadingFault); 15] = [
     (
         b"{\"cf\":1,\"stages\":[],\"\xff\":1}",
         ReadingFault::NotJson,
@@ -249,6 +249,18 @@ const REFUSED: [(&[u8], ReadingFault); 12] = [
     (
         b"{\"cf\":1,\"stages\":[{\"form\":\"source\"}],\"limits\":[{\"stage\":0,\"at\":1,\"kind\":\"value\"}]}",
         LIMIT,
+    ),
+    (
+        b"{\"cf\":1,\"stages\":[{\"form\":\"source\"}],\"limits\":[{\"stage\":0,\"at\":1,\"kind\":\"timeout\",\"code\":null}]}",
+        LIMIT,
+    ),
+    (
+        b"{\"cf\":1,\"stages\":[{\"form\":\"source\"}],\"limits\":[{\"stage\":0,\"at\":1,\"kind\":\"timeout\",\"code\":4294967296}]}",
+        LIMIT,
+    ),
+    (
+        b"{\"cf\":3,\"stages\":[{\"form\":\"source\"}],\"steps\":[[\"failAs\",0,\"timeout\",7],[\"failAs\",0,\"timeout\",-1]]}",
+        ReadingFault::Step(1),
     ),
     (
         b"{\"cf\":1,\"stages\":[{\"form\":\"source\"},{\"form\":\"apply\",\"of\":[0,0],\"fn\":\"neg\"}]}",
@@ -305,7 +317,7 @@ const PARTS: Parts = Parts {
     limits: &[Limit {
         stage: 1,
         at: 9,
-        kind: LimitKind::Timeout,
+        kind: LimitKind::Timeout(0),
     }],
     room: 0,
     functions: &[Func::Add(5)],
@@ -320,8 +332,55 @@ const PARTS: Parts = Parts {
     ],
 };
 
+const CODED: &str =
+    r#"{"cf":3,"stages":[{"form":"source"}],"limits":[{"stage":0,"at":9,"kind":"timeout","code":4294967295},{"stage":0,"at":9,"kind":"value","value":null,"code":"unread"}],"steps":[["failAs",0,"timeout",7],["failAs",0,"badanswer",4294967295],["failAs",0,"timeout",0],["failAs",0,"badanswer"]]}"#;
+
+const CODED_PARTS: Parts = Parts {
+    stages: 1,
+    limits: &[
+        Limit {
+            stage: 0,
+            at: 9,
+            kind: LimitKind::Timeout(4_294_967_295),
+        },
+        Limit {
+            stage: 0,
+            at: 9,
+            kind: LimitKind::Give(Value::Nil),
+        },
+    ],
+    room: 0,
+    functions: &[],
+    steps: &[
+        Step::Does(Event::FailAs {
+            who: 0,
+            stage: 0,
+            failure: Failure::TimedOut(7),
+        }),
+        Step::Does(Event::FailAs {
+            who: 0,
+            stage: 0,
+            failure: Failure::BadAnswer(4_294_967_295),
+        }),
+        Step::Does(Event::FailAs {
+            who: 0,
+            stage: 0,
+            failure: Failure::TimedOut(0),
+        }),
+        Step::Does(Event::FailAs {
+            who: 0,
+            stage: 0,
+            failure: Failure::BadAnswer(0),
+        }),
+    ],
+};
+
+const READ: [(&str, Parts); 2] = [(SCRIPT, PARTS), (CODED, CODED_PARTS)];
+
 #[test]
 fn reads_a_script(rt: HostRuntime) {
-    let script = must(&rt, read_script(rt.alloc(), SCRIPT.as_bytes()));
-    assert!(rt; is_read(script, PARTS));
+    for (text, parts) in &READ {
+        let script = must(&rt, read_script(rt.alloc(), text.as_bytes()));
+        holds(&rt, is_read(script, *parts), text);
+    }
 }

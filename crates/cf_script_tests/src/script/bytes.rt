@@ -14,7 +14,7 @@ struct Row {
     ended: Result<(), ScriptFault>,
 }
 
-const ROWS: [Row; 8] = [
+const ROWS: [Row; 9] = [
     Row {
         name: "an empty plan prints no byte",
         script: r#"{"cf":1,"stages":[]}"#,
@@ -31,6 +31,12 @@ const ROWS: [Row; 8] = [
         name: "a fault goes down a chain, wrapped once",
         script: r#"{"cf":1,"stages":[{"form":"source"},{"form":"apply","of":[0],"fn":{"add":1}},{"form":"apply","of":[1],"fn":{"add":1}}],"steps":[["fail",0,7],["now",0],["now",2]]}"#,
         report: "true / completion thrown 7 / completion thrown 7 / stage 0 fault thrown 7 raw / stage 1 fault thrown 7 wrapped / stage 2 fault thrown 7 wrapped",
+        ended: Ok(()),
+    },
+    Row {
+        name: "a time-out's code goes down a chain, and a limit's to who claims",
+        script: r#"{"cf":3,"stages":[{"form":"source"},{"form":"apply","of":[0],"fn":{"add":1}},{"form":"source"},{"form":"handle","of":[2],"fn":{"rescue":0}}],"limits":[{"stage":2,"at":5,"kind":"timeout","code":4294967295}],"steps":[["failAs",0,"badanswer",7],["now",1],["tick",5],["claim",1,3]]}"#,
+        report: "true / completion badanswer 7 / fired 1 / granted got fault timeout 4294967295 raw / stage 0 fault badanswer 7 raw / stage 1 fault badanswer 7 wrapped / stage 2 fault timeout 4294967295 raw / stage 3 pending",
         ended: Ok(()),
     },
     Row {
