@@ -83,8 +83,9 @@ static void plans(void) {
     cf_reply reply;
     plan_of(&plan, 1, 0, 1, 0);
     for (uint32_t k = 0; k < SIZES[i]; ++k)
-      wants(cf_builder_limit(&plan, 0, 5 - k % 3, k % 2, (cf_value){CF_INT, 1}), CF_OK, "builder_limit", SIZES[i], k);
-    if (SIZES[i] == LIMITS) wants(cf_builder_limit(&plan, 0, 1, 0, (cf_value){CF_INT, 1}), CF_TOO_MANY_LIMITS, "builder_limit", LIMITS, 0);
+      wants(cf_builder_limit(&plan, 0, 5 - k % 3, k % 2, k, (cf_value){CF_INT, 1}), CF_OK, "builder_limit", SIZES[i], k);
+    if (SIZES[i] == LIMITS)
+      wants(cf_builder_limit(&plan, 0, 1, 0, 0, (cf_value){CF_INT, 1}), CF_TOO_MANY_LIMITS, "builder_limit", LIMITS, 0);
     wants(cf_build(&plan), CF_OK, "build", 1, SIZES[i]);
     wants(cf_graph_new(&plan, 0, &graph), CF_OK, "graph_new", 1, 0);
     wants(cf_tick(&graph, 9, &reply), CF_OK, "tick", 9, 0);

@@ -107,7 +107,7 @@ int main(void) {
   asked = 0;
   takes("a builder with room", cf_builder_new(&plan, STAGES, STAGES), 2464);
   takes("stages in that room", chain(&plan), 0);
-  takes("a limit", cf_builder_limit(&plan, 0, 5, CF_TIMEOUT, (cf_value){CF_INT, 1}), 80);
+  takes("a limit", cf_builder_limit(&plan, 0, 5, CF_TIMEOUT, 0, (cf_value){CF_INT, 1}), 80);
   takes("the plan", cf_build(&plan), 1558);
   takes("a builder without room", cf_builder_new(&grown, 0, 0), 664);
   takes("stages without room", chain(&grown), 4536);

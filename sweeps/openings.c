@@ -38,10 +38,10 @@ static uint32_t add(cf_handle *builder, uint32_t form, size_t n, uint32_t functi
 
 /* Gives a stage a limit, in the same way. */
 static uint32_t limit(cf_handle *builder, long *again) {
-  uint32_t code = cf_builder_limit(builder, 2, 10, CF_TIMEOUT, (cf_value){CF_NIL, 0});
+  uint32_t code = cf_builder_limit(builder, 2, 10, CF_TIMEOUT, 7, (cf_value){CF_NIL, 0});
   if (code == CF_NO_MEMORY) {
     ++*again;
-    code = cf_builder_limit(builder, 2, 10, CF_TIMEOUT, (cf_value){CF_NIL, 0});
+    code = cf_builder_limit(builder, 2, 10, CF_TIMEOUT, 7, (cf_value){CF_NIL, 0});
   }
   return code;
 }
@@ -277,7 +277,7 @@ static uint32_t call_request(cf_handle *request, const request_step *step, cf_ta
     *n = gathering.told;
     return code;
   case FOLLOW: return cf_request_follow(request, step->first, step->second, told, 2, n);
-  case DEADLINE: return cf_request_deadline(request, step->first, step->second, CF_TIMEOUT, (cf_value){CF_NIL, 0});
+  case DEADLINE: return cf_request_deadline(request, step->first, step->second, CF_TIMEOUT, 7, (cf_value){CF_NIL, 0});
   case PASS: return cf_request_pass(request, step->first, told, 2, n);
   case REFUSE: return cf_request_refuse(request, (uint8_t)step->first, 7, told, 2, n);
   case CANCEL: return cf_request_cancel_all(request, (uint8_t)step->first, told, 2, n);
@@ -573,7 +573,7 @@ static void call_desk(cf_handle callers[CALLERS]) {
   cf_now now = {0}, joined = {0};
   cf_event event = {0};
   uint16_t stage = 0, function = 0, seen = 0, left = 0;
-  uint8_t number = 0, text[32];
+  uint8_t number = 0, text[34];
   uint64_t word = 0;
   size_t length = 0;
   tell(cf_desk_attach(a, CF_THEN_RUN, first, 1, 0, &reply), &reply);

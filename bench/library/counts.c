@@ -224,7 +224,7 @@ COUNTED request_idle(cf_handle *request) {
   must_be(cf_request_next(request, &turn, &task, told, 4) == CF_NOTHING, "a step that finds nothing");
 }
 
-COUNTED request_deadline(cf_handle *request, uint16_t stage) { MUST(cf_request_deadline(request, stage, stage, CF_TIMEOUT, number(0))); }
+COUNTED request_deadline(cf_handle *request, uint16_t stage) { MUST(cf_request_deadline(request, stage, stage, CF_TIMEOUT, 0, number(0))); }
 
 COUNTED request_attach(cf_handle *request, uint64_t word) { MUST(cf_request_apply(request, word, 0, &applied, told, 4)); }
 

@@ -170,7 +170,7 @@ static void plan_booking(cf_handle *plan) {
   stage(plan, CF_COMBINE, FLIGHT, HOTEL, 2, F_SUM);
   stage(plan, CF_COMBINE, BEDS, CAR, 2, F_SUM);
   stage(plan, CF_APPLY, TOTAL, 0, 1, F_PAY);
-  DO(cf_builder_limit(plan, HOTEL, LATEST, CF_GIVE_VALUE, number(HOTEL_FALLBACK)));
+  DO(cf_builder_limit(plan, HOTEL, LATEST, CF_GIVE_VALUE, 0, number(HOTEL_FALLBACK)));
   DO(cf_build(plan));
 }
 
@@ -229,7 +229,7 @@ int main(void) {
   DO(cf_stages(closed, &stages));
   for (uint16_t i = 0; i < stages; i++) {
     cf_outcome outcome;
-    uint8_t text[32];
+    uint8_t text[34];
     size_t length;
     DO(cf_get(closed, i, &outcome));
     DO(cf_outcome_text(outcome, text, sizeof text, &length));

@@ -14,8 +14,8 @@ int main(void) {
   cf_builder_stage(&plan, CF_SOURCE, NULL, 0, CF_NO_FUNCTION, &source);
   if (cf_build(&plan) != CF_OK || cf_desk_open(&plan, callers, CALLERS, 8, 8) != CF_OK) return 1;
   cf_desk_complete(&callers[1], source, (cf_value){CF_INT, 5}, &reply);
-  cf_desk_cancel(&callers[0], source, &reply);                /* too late */
-  cf_desk_fail_as(&callers[0], source, CF_TIMED_OUT, &reply); /* and so is this */
+  cf_desk_cancel(&callers[0], source, &reply);                   /* too late */
+  cf_desk_fail_as(&callers[0], source, CF_TIMED_OUT, 0, &reply); /* and so is this */
   cf_desk_read(&callers[0], source, &outcome);
 
   cf_close_begin(desk);

@@ -100,6 +100,7 @@ static void steps_refused(cf_handle *plan) {
   cf_handle empty = {0}, callers[2] = {{0}};
   cf_task task, other;
   cf_reply reply;
+  cf_outcome outcome;
   memset(&task, 0, sizeof task), memset(&other, 0, sizeof other);
   row("desk", cf_desk_open(plan, callers, 2, LOG, CALLS), CF_OK);
   row("no caller", cf_desk_next(NULL, &task), CF_NULL);
@@ -134,6 +135,9 @@ static void steps_refused(cf_handle *plan) {
   other.answer = (cf_answer){.kind = CF_THROW, .code = 9};
   row("a throw", cf_desk_next(&callers[1], &other), CF_NOTHING);
   holds("it won", other.finished == CF_WON && !other.held);
+  row("a time-out", cf_desk_fail_as(callers, 2, CF_TIMED_OUT, 7, &reply), CF_OK);
+  row("what depends on it", cf_desk_read(&callers[1], FEW + 2, &outcome), CF_OK);
+  holds("it timed out with the same code", outcome.kind == CF_TIMED_OUT && outcome.code == 7 && outcome.wrapped == 1);
   for (int i = 0; i < 2; i++) cf_free(&callers[i]);
 }
 

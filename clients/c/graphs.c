@@ -2,7 +2,7 @@
 #include "cf.h"
 #include <stdio.h>
 
-enum { ME, DOUBLE };
+enum { ME, DOUBLE, SLOW = 7 };
 
 int main(void) {
   cf_handle plan = {0}, graph = {0};
@@ -32,9 +32,9 @@ int main(void) {
   printf("%s %u\n", now.kind == CF_COMPLETION ? "CompletionException" : "?", now.outcome.code);
 
   cf_restart(&graph);
-  cf_fail_as(&graph, source, CF_TIMED_OUT, &reply);
+  cf_fail_as(&graph, source, CF_TIMED_OUT, SLOW, &reply);
   cf_get(&graph, twice, &outcome);
-  printf("%s\n", outcome.kind == CF_TIMED_OUT ? "timed out" : "?");
+  printf("%s %u\n", outcome.kind == CF_TIMED_OUT ? "timed out" : "?", outcome.code);
   cf_free(&graph);
   cf_free(&plan);
   return 0;

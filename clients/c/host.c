@@ -6,10 +6,10 @@
 #include <stdlib.h>
 #include <time.h>
 
-enum { STOCK, PRICE, TOTAL, ANSWER, MAIL, STAGES }; /* MAIL is attached */
-enum { WORKERS, MAILER, LANES, ME = 1, OWN = 0, ROW = 2, NOBODY_MAILS = 503 };
+enum { STOCK, PRICE, TOTAL, ANSWER, COUPON, GIFT, MAIL, STAGES }; /* MAIL is attached */
+enum { WORKERS, MAILER, LANES, ME = 1, OWN = 0, ROW = 2, NOBODY_MAILS = 503, NO_COUPON = 408 };
 enum { ASK_STOCK, MULTIPLY, SEND };
-static const char *const names[STAGES] = {"stock", "price", "total", "answer", "mail"};
+static const char *const names[STAGES] = {"stock", "price", "total", "answer", "coupon", "gift", "mail"};
 
 #define DO(call)                                                                                                                           \
   do {                                                                                                                                     \
@@ -30,7 +30,7 @@ static cf_answer call(const cf_task *task) {
 static void wake(cf_handle *request, cf_told *told, size_t n) {
   for (;; cf_request_told(request, told, ROW, &n)) {
     for (size_t k = 0; k < n && k < ROW; k++) {
-      uint8_t text[31];
+      uint8_t text[34];
       size_t length;
       DO(cf_outcome_text(told[k].outcome, text, sizeof text, &length));
       printf("%s: %.*s\n", names[told[k].stage], (int)length, (const char *)text);
@@ -80,20 +80,26 @@ int main(void) {
   const cf_request_sizes sizes = {.room = 1, .lanes = LANES, .own = OWN};
   cf_handle plan = {0}, request = {0};
   cf_told told[ROW];
+  cf_deadline next;
   uint16_t stage, ready;
   size_t n;
   DO(cf_builder_new(&plan, 0, 0));
   DO(cf_builder_stage(&plan, CF_SUPPLY, NULL, 0, ASK_STOCK, &stage));
   DO(cf_builder_stage(&plan, CF_SOURCE, NULL, 0, CF_NO_FUNCTION, &stage));
   DO(cf_builder_stage(&plan, CF_COMBINE, (uint16_t[]){STOCK, PRICE}, 2, MULTIPLY, &stage));
-  DO(cf_builder_stage(&plan, CF_SOURCE, NULL, 0, CF_NO_FUNCTION, &stage));
+  for (stage = TOTAL; stage < GIFT;) DO(cf_builder_stage(&plan, CF_SOURCE, NULL, 0, CF_NO_FUNCTION, &stage));
   DO(cf_build(&plan));
-  DO(cf_request_new(&plan, &sizes, (uint8_t[]){WORKERS, WORKERS, WORKERS, WORKERS}, 4, &request));
+  DO(cf_request_new(&plan, &sizes, (uint8_t[]){WORKERS, WORKERS, WORKERS, WORKERS, WORKERS, WORKERS}, MAIL, &request));
   cf_free(&plan);
 
   DO(cf_request_follow(&request, ANSWER, TOTAL, told, ROW, &n)); /* the customer waits for the answer */
   wake(&request, told, n);
-  DO(cf_request_deadline(&request, PRICE, 20, CF_GIVE_VALUE, (cf_value){CF_INT, 7})); /* the price that it gets by then */
+  DO(cf_request_follow(&request, GIFT, COUPON, told, ROW, &n)); /* the gift that the coupon is for */
+  wake(&request, told, n);
+  DO(cf_request_deadline(&request, PRICE, 20, CF_GIVE_VALUE, 0, (cf_value){CF_INT, 7})); /* the price that it gets by then */
+  DO(cf_request_deadline(&request, COUPON, 10, CF_TIMEOUT, NO_COUPON, (cf_value){CF_NIL, 0}));
+  DO(cf_request_next_deadline(&request, &next));
+  printf("%s: times out after %u ms, with %u\n", names[next.stage], (unsigned)next.moment, (unsigned)next.code);
   attach(&request);
   serve(&request);
 

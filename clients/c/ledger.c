@@ -6,6 +6,7 @@
 #include <string.h>
 
 enum { ME = 1, STOCK = 0, PRICE = 1, TOTAL = 2, LATE = 3, STAGES = 4, WORDS = 16, BUDGET = 30 };
+#define TOO_LATE UINT32_MAX
 
 static const char *const names[] = {"stock", "price", "total", "receipt"};
 
@@ -37,7 +38,7 @@ static void build(cf_handle *plan) {
   row("stock", cf_builder_stage(plan, CF_SOURCE, NULL, 0, CF_NO_FUNCTION, &stage), CF_OK);
   row("price", cf_builder_stage(plan, CF_SOURCE, NULL, 0, CF_NO_FUNCTION, &stage), CF_OK);
   row("total", cf_builder_stage(plan, CF_COMBINE, (uint16_t[]){STOCK, PRICE}, 2, 0, &stage), CF_OK);
-  row("limit", cf_builder_limit(plan, PRICE, BUDGET, CF_TIMEOUT, (cf_value){CF_NIL, 0}), CF_OK);
+  row("limit", cf_builder_limit(plan, PRICE, BUDGET, CF_TIMEOUT, TOO_LATE, (cf_value){CF_NIL, 0}), CF_OK);
   row("build", cf_build(plan), CF_OK);
 }
 
@@ -46,7 +47,7 @@ static void print_stage(uint16_t stage, const cf_stage *now) {
   printf("  %s is %s", names[stage], kinds[now->kind]);
   if (now->who != CF_NOBODY) printf(" by %u", now->who);
   if (now->kind == CF_IS_SETTLED) {
-    uint8_t text[31];
+    uint8_t text[34];
     size_t length;
     row("text", cf_outcome_text(now->outcome, text, sizeof text, &length), CF_OK);
     printf(": %.*s", (int)length, text);
@@ -154,6 +155,13 @@ static void refused(cf_handle *plan, cf_handle *ledger) {
   holds("one stage changed", n == 1 && reply.answer == CF_GRANTED);
 }
 
+/* The same plan again, whose price isn't told within its limit. */
+static void late(cf_handle *ledger) {
+  row("restart", cf_ledger_restart(ledger), CF_OK);
+  apply(ledger, "stock is 4", complete(STOCK, 4));
+  apply(ledger, "the price is late", word_of((cf_event){.call = CF_CALL_TICK, .now = BUDGET}));
+}
+
 int main(void) {
   cf_handle plan = {0}, ledger = {0};
   build(&plan);
@@ -162,6 +170,7 @@ int main(void) {
   grow(&ledger);
   again(&plan, &ledger);
   refused(&plan, &ledger);
+  late(&ledger);
   cf_free(&plan);
   cf_free(&ledger);
   return end_rows();

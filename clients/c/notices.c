@@ -47,7 +47,7 @@ static void *second(void *caller) {
   cf_desk_seen(caller, &before);
   const uint32_t heeded = cf_desk_heed(caller, &notice);
   cf_desk_seen(caller, &after);
-  cf_desk_fail_as(caller, 0, CF_TIMED_OUT, &reply);
+  cf_desk_fail_as(caller, 0, CF_TIMED_OUT, 0, &reply);
   printf("%s: %d events seen, then %d; the notice is %s; timed out: %u\n", cf_code_name(heeded), before, after,
       notice.full ? "there" : "used up", reply.answer);
   return NULL;

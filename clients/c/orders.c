@@ -112,7 +112,7 @@ static uint32_t open_shop(struct shop *shop) {
     uint16_t number;
     TRY(cf_builder_stage(&shop->plan, stages[i].form, stages[i].of, stages[i].n, stages[i].function, &number));
     if (number != i) return said("the stage's number", CF_NO_STAGE);
-    if (stages[i].limit != 0) TRY(cf_builder_limit(&shop->plan, number, stages[i].limit, CF_TIMEOUT, (cf_value){CF_NIL, 0}));
+    if (stages[i].limit != 0) TRY(cf_builder_limit(&shop->plan, number, stages[i].limit, CF_TIMEOUT, 0, (cf_value){CF_NIL, 0}));
   }
   TRY(cf_build(&shop->plan));
   TRY(cf_graph_new(&shop->plan, 0, &shop->graph));

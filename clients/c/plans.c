@@ -11,7 +11,7 @@ int main(void) {
   cf_builder_stage(&plan, CF_SOURCE, NULL, 0, CF_NO_FUNCTION, &item);
   cf_builder_stage(&plan, CF_SOURCE, NULL, 0, CF_NO_FUNCTION, &pieces);
   cf_builder_stage(&plan, CF_COMBINE, (const uint16_t[]){item, pieces}, 2, TIMES, &price);
-  cf_builder_limit(&plan, price, 50, CF_GIVE_VALUE, (cf_value){CF_INT, 0});
+  cf_builder_limit(&plan, price, 50, CF_GIVE_VALUE, 0, (cf_value){CF_INT, 0});
   printf("stages %d, %d and %d\n", item, pieces, price);
   printf("%s\n", cf_code_name(cf_builder_stage(&plan, CF_APPLY, (const uint16_t[]){7}, 1, TIMES, &refused)));
   printf("%s\n", cf_code_name(cf_build(&plan)));

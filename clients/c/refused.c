@@ -65,7 +65,7 @@ static const uint16_t many_of[] = {SOURCE, TWICE, NOT_THERE};
 
 static void builder_calls(cf_handle *h, uint32_t wanted) {
   ROW(cf_builder_stage(h, CF_APPLY, &of, 1, 0, &out.number), wanted);
-  ROW(cf_builder_limit(h, SOURCE, 1, CF_TIMEOUT, value), wanted);
+  ROW(cf_builder_limit(h, SOURCE, 1, CF_TIMEOUT, 7, value), wanted);
   ROW(cf_build(h), wanted);
 }
 
@@ -86,7 +86,7 @@ static void graph_calls(cf_handle *h, uint32_t wanted) {
   cf_handle empty = {0};
   ROW(cf_complete(h, SOURCE, value, &out.reply), wanted);
   ROW(cf_fail(h, SOURCE, 1, &out.reply), wanted);
-  ROW(cf_fail_as(h, SOURCE, CF_TIMED_OUT, &out.reply), wanted);
+  ROW(cf_fail_as(h, SOURCE, CF_TIMED_OUT, 7, &out.reply), wanted);
   ROW(cf_cancel(h, SOURCE, &out.reply), wanted);
   ROW(cf_claim(h, 0, TWICE, &out.reply), wanted);
   ROW(cf_finish_with(h, 0, TWICE, &given, &out.reply), wanted);
@@ -138,7 +138,7 @@ static void request_calls(cf_handle *h, uint32_t wanted) {
   ROW(cf_request_link(h, &out.linking, &out.task, out.told, 2), wanted);
   ROW(cf_request_next(h, &out.turn, &out.task, out.told, 2), wanted);
   ROW(cf_request_follow(h, SOURCE, TWICE, out.told, 2, &out.n), wanted);
-  ROW(cf_request_deadline(h, SOURCE, 1, CF_TIMEOUT, value), wanted);
+  ROW(cf_request_deadline(h, SOURCE, 1, CF_TIMEOUT, 7, value), wanted);
   ROW(cf_request_pass(h, 1, out.told, 2, &out.n), wanted);
   ROW(cf_request_next_deadline(h, &out.deadline), wanted);
   ROW(cf_request_refuse(h, 0, 1, out.told, 2, &out.n), wanted);
@@ -175,7 +175,7 @@ static void caller_calls(cf_handle *h, uint32_t wanted) {
   cf_handle empty = {0};
   ROW(cf_desk_complete(h, SOURCE, value, &out.reply), wanted);
   ROW(cf_desk_fail(h, SOURCE, 1, &out.reply), wanted);
-  ROW(cf_desk_fail_as(h, SOURCE, CF_TIMED_OUT, &out.reply), wanted);
+  ROW(cf_desk_fail_as(h, SOURCE, CF_TIMED_OUT, 7, &out.reply), wanted);
   ROW(cf_desk_cancel(h, SOURCE, &out.reply), wanted);
   ROW(cf_desk_claim(h, TWICE, &out.reply), wanted);
   ROW(cf_desk_finish_with(h, TWICE, &given, &out.reply), wanted);
@@ -315,7 +315,7 @@ static void by_pointers(void) {
   ROW(cf_desk_open_with(plan, &empty, 1, NULL), CF_NULL);
   ROW(cf_complete(graph, SOURCE, value, NULL), CF_NULL);
   ROW(cf_fail(graph, SOURCE, 1, NULL), CF_NULL);
-  ROW(cf_fail_as(graph, SOURCE, CF_TIMED_OUT, NULL), CF_NULL);
+  ROW(cf_fail_as(graph, SOURCE, CF_TIMED_OUT, 7, NULL), CF_NULL);
   ROW(cf_cancel(graph, SOURCE, NULL), CF_NULL);
   ROW(cf_claim(graph, 0, TWICE, NULL), CF_NULL);
   ROW(cf_finish_with(graph, 0, TWICE, NULL, &out.reply), CF_NULL);
@@ -413,7 +413,7 @@ static void by_pointers(void) {
   ROW(cf_history_text(&held[HISTORY], CF_LINES, out.text, TEXT, NULL), CF_NULL);
   ROW(cf_desk_complete(caller, SOURCE, value, NULL), CF_NULL);
   ROW(cf_desk_fail(caller, SOURCE, 1, NULL), CF_NULL);
-  ROW(cf_desk_fail_as(caller, SOURCE, CF_TIMED_OUT, NULL), CF_NULL);
+  ROW(cf_desk_fail_as(caller, SOURCE, CF_TIMED_OUT, 7, NULL), CF_NULL);
   ROW(cf_desk_cancel(caller, SOURCE, NULL), CF_NULL);
   ROW(cf_desk_claim(caller, TWICE, NULL), CF_NULL);
   ROW(cf_desk_finish_with(caller, TWICE, NULL, &out.reply), CF_NULL);
@@ -463,10 +463,10 @@ static void by_numbers(uint16_t stage) {
   cf_event event = {.call = CF_CALL_CANCEL, .stage = stage};
   fill();
   ROW(cf_builder_stage(builder, CF_APPLY, &stage, 1, 0, &out.number), CF_SOURCE_NOT_LOWER);
-  ROW(cf_builder_limit(builder, stage, 1, CF_TIMEOUT, value), CF_NO_SUCH_STAGE);
+  ROW(cf_builder_limit(builder, stage, 1, CF_TIMEOUT, 7, value), CF_NO_SUCH_STAGE);
   ROW(cf_complete(graph, stage, value, &out.reply), CF_NO_STAGE);
   ROW(cf_fail(graph, stage, 1, &out.reply), CF_NO_STAGE);
-  ROW(cf_fail_as(graph, stage, CF_TIMED_OUT, &out.reply), CF_NO_STAGE);
+  ROW(cf_fail_as(graph, stage, CF_TIMED_OUT, 7, &out.reply), CF_NO_STAGE);
   ROW(cf_cancel(graph, stage, &out.reply), CF_NO_STAGE);
   ROW(cf_claim(graph, 0, stage, &out.reply), CF_NO_STAGE);
   ROW(cf_finish_with(graph, 0, stage, &given, &out.reply), CF_NO_STAGE);
@@ -485,7 +485,7 @@ static void by_numbers(uint16_t stage) {
   ROW(cf_request_next(asked, &turn, &task, out.told, 2), CF_NO_STAGE);
   ROW(cf_request_follow(asked, stage, SOURCE, out.told, 2, &out.n), CF_NO_STAGE);
   ROW(cf_request_follow(asked, SOURCE, stage, out.told, 2, &out.n), CF_NO_STAGE);
-  ROW(cf_request_deadline(asked, stage, 1, CF_TIMEOUT, value), CF_NO_STAGE);
+  ROW(cf_request_deadline(asked, stage, 1, CF_TIMEOUT, 7, value), CF_NO_STAGE);
   ROW(cf_ledger_stage(asked, stage, &out.stage), CF_NO_STAGE);
   ROW(cf_ledger_stage(&held[VIEW], stage, &out.stage), CF_NO_STAGE);
   ROW(cf_row_open_claim(&held[VIEW], stage, &out.claim), CF_NOTHING);
@@ -495,7 +495,7 @@ static void by_numbers(uint16_t stage) {
   ROW(cf_row_next_claim(&held[VIEW], &task, stage, &out.number), CF_NOTHING);
   ROW(cf_desk_complete(caller, stage, value, &out.reply), CF_NO_STAGE);
   ROW(cf_desk_fail(caller, stage, 1, &out.reply), CF_NO_STAGE);
-  ROW(cf_desk_fail_as(caller, stage, CF_TIMED_OUT, &out.reply), CF_NO_STAGE);
+  ROW(cf_desk_fail_as(caller, stage, CF_TIMED_OUT, 7, &out.reply), CF_NO_STAGE);
   ROW(cf_desk_cancel(caller, stage, &out.reply), CF_NO_STAGE);
   ROW(cf_desk_claim(caller, stage, &out.reply), CF_NO_STAGE);
   ROW(cf_desk_finish_with(caller, stage, &given, &out.reply), CF_NO_STAGE);
@@ -616,10 +616,10 @@ static void by_other_numbers(void) {
   ROW(cf_apply(graph, UINT64_MAX, &out.reply), CF_NO_WORD);
   ROW(cf_event_of(0, &out.event), CF_NO_WORD);
   ROW(cf_word_of_event(&event, &out.word), CF_NO_SUCH_NUMBER);
-  event.call = CF_CALL_FAIL_AS, event.code = CF_CANCELLED;
+  event.call = CF_CALL_FAIL_AS, event.kind = CF_CANCELLED, event.code = CF_TIMED_OUT;
   ROW(cf_word_of_event(&event, &out.word), CF_NO_SUCH_NUMBER);
-  ROW(cf_fail_as(graph, SOURCE, CF_CANCELLED, &out.reply), CF_NO_SUCH_NUMBER);
-  ROW(cf_desk_fail_as(&held[CALLER], SOURCE, CF_VALUE, &out.reply), CF_NO_SUCH_NUMBER);
+  ROW(cf_fail_as(graph, SOURCE, CF_CANCELLED, 7, &out.reply), CF_NO_SUCH_NUMBER);
+  ROW(cf_desk_fail_as(&held[CALLER], SOURCE, CF_VALUE, 7, &out.reply), CF_NO_SUCH_NUMBER);
   event.call = CF_CALL_ATTACH, event.form = 19;
   ROW(cf_word_of_event(&event, &out.word), CF_NO_SUCH_NUMBER);
   event.form = CF_APPLY, event.sources = 3;
@@ -743,6 +743,7 @@ static void by_buffers(void) {
   static const char report[] = "true\nstage 0 value 3\n";
   cf_handle *ledger = &held[LEDGER];
   const cf_outcome thrown = {.kind = CF_THROWN, .code = 7};
+  const cf_outcome longest = {.kind = CF_BAD_ANSWER, .wrapped = 1, .code = UINT32_MAX};
   const cf_event event = {.call = CF_CALL_COMPLETE, .stage = SOURCE, .value = {CF_INT, 5}};
   uint64_t words[2] = {0, 77}, word;
   cf_news news[2];
@@ -758,6 +759,8 @@ static void by_buffers(void) {
   memset(text, '#', TEXT);
   ROW(cf_text_of_outcome(&thrown, text, 5, &n), CF_OK);
   HOLDS(n == 18 && !memcmp(text, "fault#", 6));
+  ROW(cf_text_of_outcome(&longest, text, TEXT, &n), CF_OK);
+  HOLDS(n == 34 && !memcmp(text, "fault badanswer 4294967295 wrapped", 34));
   memset(text, '#', TEXT);
   ROW(cf_run_script((const uint8_t *)script, strlen(script), text, 5, &n), CF_OK);
   HOLDS(n == strlen(report) && !memcmp(text, "true\n#", 6));

@@ -51,7 +51,7 @@ int main(void) {
   uint16_t answers[BACKENDS], replicas[2];
   for (int i = 0; i < BACKENDS; i++) {
     answers[i] = stage(&plan, CF_SOURCE, 0, 0, CF_NO_FUNCTION);
-    must(cf_builder_limit(&plan, answers[i], LIMIT, CF_GIVE_VALUE, (cf_value){CF_INT, 0}), "limit");
+    must(cf_builder_limit(&plan, answers[i], LIMIT, CF_GIVE_VALUE, 0, (cf_value){CF_INT, 0}), "limit");
   }
   uint16_t sum = answers[0];
   for (int i = 0; i < BACKENDS; i++) {

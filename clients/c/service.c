@@ -181,7 +181,7 @@ static uint32_t open_service(struct service *service) {
     uint16_t number;
     TRY(cf_builder_stage(&service->plan, stages[i].form, stages[i].of, stages[i].n, stages[i].function, &number));
     if (number != i) return said("the stage's number", CF_NO_STAGE);
-    TRY(cf_builder_limit(&service->plan, number, stages[i].limit, stages[i].kind, (cf_value){CF_INT, bit(number)}));
+    TRY(cf_builder_limit(&service->plan, number, stages[i].limit, stages[i].kind, 0, (cf_value){CF_INT, bit(number)}));
   }
   TRY(cf_build(&service->plan));
   TRY(cf_desk_open_growing(&service->plan, service->callers, THREADS, LOG, CALLS, ROOM, FUNCTIONS));

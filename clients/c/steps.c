@@ -80,7 +80,7 @@ static void refused(cf_handle *plan, cf_handle *graph) {
   task.answer = (cf_answer){.kind = CF_LINK, .stage = 0};
   row("a link that supply can't give", cf_next(graph, ME, &task), CF_NOTHING);
   cf_outcome outcome;
-  holds("it is a bad answer", cf_get(graph, 1, &outcome) == CF_OK && outcome.kind == CF_BAD_ANSWER);
+  holds("it is a bad answer", cf_get(graph, 1, &outcome) == CF_OK && outcome.kind == CF_BAD_ANSWER && outcome.code == 0);
 }
 
 int main(void) {

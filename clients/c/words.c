@@ -22,9 +22,9 @@ int main(void) {
   }
   cf_get(&graph, source, &outcome);
   printf("value %d\n", outcome.value.number);
-  event = (cf_event){.call = CF_CALL_FAIL_AS, .who = 3, .code = CF_TIMED_OUT};
+  event = (cf_event){.call = CF_CALL_FAIL_AS, .kind = CF_TIMED_OUT, .who = 3, .code = 7};
   if (cf_word_of(event, &word) != CF_OK || cf_event_of(word, &back) != CF_OK) return 1;
-  printf("%" PRIu64 ": caller %d times stage %d out: %d\n", word, back.who, back.stage, back.code == CF_TIMED_OUT);
+  printf("%" PRIu64 ": caller %d times stage %d out with %u: %d\n", word, back.who, back.stage, back.code, back.kind == CF_TIMED_OUT);
   cf_apply(&graph, word, &reply);
   printf("answer %u\n", reply.answer);
   printf("%s\n", cf_code_name(cf_apply(&graph, 0, &reply)));

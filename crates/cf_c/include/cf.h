@@ -201,8 +201,8 @@ typedef struct { uint32_t kind; int32_t number; } cf_value;
  *   - CF_LINK: the stage waits for the other stage and takes over its outcome. Only CF_COMPOSE and
  *     CF_EXCEPTIONALLY_COMPOSE can link. The other stage's number has to be below the stage's own. So a planned stage
  *     never links to an attached one.
- *   - Three answers make it end as CF_BAD_ANSWER: a link to any other stage, a link by any other form, and a value
- *     given by CF_COMPOSE or CF_EXCEPTIONALLY_COMPOSE. */
+ *   - Three answers make it end as CF_BAD_ANSWER with the code 0: a link to any other stage, a link by any other form,
+ *     and a value given by CF_COMPOSE or CF_EXCEPTIONALLY_COMPOSE. */
 enum { CF_GIVE = 0, CF_THROW = 1, CF_LINK = 2 };
 typedef struct { uint32_t kind; uint32_t code; cf_value value; uint16_t stage; } cf_answer;
 
@@ -211,7 +211,8 @@ typedef struct { uint32_t kind; uint32_t code; cf_value value; uint16_t stage; }
  *     CF_BAD_ANSWER.
  *   - wrapped: 1 if it is a fault inside a CompletionException, as Java has it, else 0. On the stage that a call
  *     failed, timed out or cancelled, or that a limit timed out, the fault isn't wrapped. On every other stage it is.
- *   - code: the code of the exception, if the kind is CF_THROWN.
+ *   - code: the code of the exception, the time-out or the bad answer, if the kind is CF_THROWN, CF_TIMED_OUT or
+ *     CF_BAD_ANSWER. A time-out or a bad answer to which nobody gave a code has 0.
  *   - value: the value, if the kind is CF_VALUE. */
 enum { CF_PENDING = 0, CF_VALUE = 1, CF_THROWN = 2, CF_CANCELLED = 3, CF_TIMED_OUT = 4, CF_BAD_ANSWER = 5 };
 typedef struct { uint32_t kind; uint32_t wrapped; uint32_t code; cf_value value; } cf_outcome;
@@ -325,11 +326,12 @@ uint32_t cf_builder_stage(cf_handle *builder, uint32_t form, const uint16_t *of,
  *   - stage: a stage that was added before.
  *   - at: the moment, in a unit of your choice.
  *   - kind: CF_TIMEOUT if the stage is to time out. Any other kind is read as CF_GIVE_VALUE.
+ *   - code: the code with which the stage times out, which may be any number. It is ignored for CF_GIVE_VALUE.
  *   - value: the value that the stage gets. It is ignored for CF_TIMEOUT.
  *
  * Codes: CF_NO_SUCH_STAGE, CF_TOO_MANY_LIMITS, CF_NO_MEMORY. */
 enum { CF_TIMEOUT = 0, CF_GIVE_VALUE = 1 };
-uint32_t cf_builder_limit(cf_handle *builder, uint16_t stage, uint32_t at, uint32_t kind, cf_value value);
+uint32_t cf_builder_limit(cf_handle *builder, uint16_t stage, uint32_t at, uint32_t kind, uint32_t code, cf_value value);
 
 /* Makes the builder behind the handle a plan.
  *
@@ -372,9 +374,10 @@ uint32_t cf_fail(cf_handle *graph, uint16_t stage, uint32_t code, cf_reply *repl
 /* Fails a stage as timed out, or with a bad answer.
  *   - kind: the kind of the outcome, which is CF_TIMED_OUT or CF_BAD_ANSWER. CF_BAD_ANSWER is meant for a stage that
  *     stands in for another one, such as one of another graph: your program ends it as the other one has ended.
+ *   - code: the code of the time-out or the bad answer, which may be any number.
  *
  * Codes: CF_NO_SUCH_NUMBER for any other kind, and then CF_NO_STAGE. */
-uint32_t cf_fail_as(cf_handle *graph, uint16_t stage, uint32_t kind, cf_reply *reply);
+uint32_t cf_fail_as(cf_handle *graph, uint16_t stage, uint32_t kind, uint32_t code, cf_reply *reply);
 
 /* Cancels a stage. */
 uint32_t cf_cancel(cf_handle *graph, uint16_t stage, cf_reply *reply);
@@ -590,7 +593,7 @@ uint32_t cf_desk_complete(cf_handle *caller, uint16_t stage, cf_value value, cf_
 uint32_t cf_desk_fail(cf_handle *caller, uint16_t stage, uint32_t code, cf_reply *reply);
 
 /* Fails a stage as timed out, or with a bad answer, as cf_fail_as does. */
-uint32_t cf_desk_fail_as(cf_handle *caller, uint16_t stage, uint32_t kind, cf_reply *reply);
+uint32_t cf_desk_fail_as(cf_handle *caller, uint16_t stage, uint32_t kind, uint32_t code, cf_reply *reply);
 
 /* Cancels a stage, as cf_cancel does. A function that runs for this stage isn't stopped. Its caller can learn of it
  * by reading the stage. */
@@ -766,11 +769,11 @@ uint32_t cf_closed_graph(cf_handle *closed);
 
 /* An event. A field that isn't named here for a call is ignored, and the library writes 0 there.
  *   - call: which call it is.
+ *   - kind: for CF_CALL_FAIL_AS, CF_TIMED_OUT or CF_BAD_ANSWER.
  *   - who: the number of the caller.
  *   - stage: the stage, for all calls but CF_CALL_TICK and CF_CALL_ATTACH.
  *   - value: for CF_CALL_COMPLETE.
- *   - code: for CF_CALL_FAIL the code of the exception, and for CF_CALL_FAIL_AS the kind, CF_TIMED_OUT or
- *     CF_BAD_ANSWER.
+ *   - code: for CF_CALL_FAIL the code of the exception, and for CF_CALL_FAIL_AS that of the time-out or the bad answer.
  *   - answer: for CF_CALL_FINISH.
  *   - now: for CF_CALL_TICK, the moment.
  *   - form, function: for CF_CALL_ATTACH. If there is no function, the library writes CF_NO_FUNCTION.
@@ -780,7 +783,7 @@ enum {
   CF_CALL_FAIL_AS = 7
 };
 typedef struct {
-  uint32_t call; uint8_t who; uint16_t stage; cf_value value; uint32_t code; cf_answer answer; uint32_t now;
+  uint32_t call; uint32_t kind; uint8_t who; uint16_t stage; cf_value value; uint32_t code; cf_answer answer; uint32_t now;
   uint32_t form; uint32_t sources; uint16_t first; uint16_t second; uint32_t function;
 } cf_event;
 
@@ -1097,7 +1100,7 @@ typedef struct { uint8_t who; uint8_t lane; size_t told; } cf_request_step;
 uint32_t cf_request_next(cf_handle *request, cf_request_step *step, cf_task *task, cf_told *told, size_t room);
 
 /* From now on a stage ends as another stage of the request does, unless it is settled before. It gets the same value,
- * or a fault of the same cause: a cancellation cancels it, a time-out times it out.
+ * or a fault of the same cause and code: a cancellation cancels it, a time-out times it out.
  *   - relay: the stage that follows.
  *   - stage: the stage that it follows.
  *   - told, room, n: a row, as said above.
@@ -1108,10 +1111,10 @@ uint32_t cf_request_follow(cf_handle *request, uint16_t relay, uint16_t stage, c
 /* Sets a moment by which a stage has to be settled. If it is open then, cf_request_pass settles it. A stage may have
  * several, and attached stages may have some, too.
  *   - moment: the moment, in a unit of your choice.
- *   - kind, value: as for cf_builder_limit.
+ *   - kind, code, value: as for cf_builder_limit.
  *
  * Codes: CF_NO_MEMORY, and CF_NO_STAGE if there is no such stage. */
-uint32_t cf_request_deadline(cf_handle *request, uint16_t stage, uint64_t moment, uint32_t kind, cf_value value);
+uint32_t cf_request_deadline(cf_handle *request, uint16_t stage, uint64_t moment, uint32_t kind, uint32_t code, cf_value value);
 
 /* Lets time pass up to a moment. All open stages whose deadline has come are settled, in the order of their moments,
  * and those of one moment in the order in which the deadlines were set. A stage that follows another one that is
@@ -1121,8 +1124,9 @@ uint32_t cf_request_deadline(cf_handle *request, uint16_t stage, uint64_t moment
  * Codes: CF_NO_MEMORY, and CF_PAST_MOMENT if the moment is before that of the last cf_request_pass. */
 uint32_t cf_request_pass(cf_handle *request, uint64_t moment, cf_told *told, size_t room, size_t *n);
 
-/* A deadline: the stage, the moment, CF_TIMEOUT or CF_GIVE_VALUE, and the value, which is CF_NIL for CF_TIMEOUT. */
-typedef struct { uint16_t stage; uint64_t moment; uint32_t kind; cf_value value; } cf_deadline;
+/* A deadline: the stage, the moment, CF_TIMEOUT or CF_GIVE_VALUE, the code, which is 0 for CF_GIVE_VALUE, and the value,
+ * which is CF_NIL for CF_TIMEOUT. */
+typedef struct { uint16_t stage; uint64_t moment; uint32_t kind; uint32_t code; cf_value value; } cf_deadline;
 
 /* Tells the deadline that comes next, of those whose stage is open. Your program sleeps until its moment, and then makes a
  * cf_request_pass to it. If the deadline was set for a moment before that of the last cf_request_pass, it is due at once,
@@ -1172,7 +1176,7 @@ uint32_t cf_request_restart(cf_handle *request);
  *   - CF_DO_NEXT: cf_request_next, with who, lane and task. It writes task. If no stage of the lane was ready, the task
  *     holds nothing; that is no refusal here.
  *   - CF_DO_FOLLOW: cf_request_follow, with relay and stage.
- *   - CF_DO_DEADLINE: cf_request_deadline, with stage, moment, kind and value.
+ *   - CF_DO_DEADLINE: cf_request_deadline, with stage, moment, kind, code and value.
  *   - CF_DO_PASS: cf_request_pass, with moment.
  *   - CF_DO_REFUSE: cf_request_refuse, with lane and code.
  *   - CF_DO_CANCEL_ALL: cf_request_cancel_all, with who.
@@ -1435,8 +1439,9 @@ uint32_t cf_history_text(cf_handle *history, uint32_t kind, uint8_t *text, size_
  *   - CF_BAD_SCRIPT: the script has a fault. Its line is in `report`. */
 uint32_t cf_run_script(const uint8_t *text, size_t n, uint8_t *report, size_t room, size_t *length);
 
-/* Writes an outcome as reports have it, such as "pending", "value 3" or "fault timeout raw". The text has at most 31
- * bytes. A kind above CF_BAD_ANSWER is read as CF_BAD_ANSWER. */
+/* Writes an outcome as reports have it, such as "pending", "value 3" or "fault timeout 7 raw". A time-out and a bad
+ * answer with the code 0 are written without it: "fault timeout raw". The text has at most 34 bytes. A kind above
+ * CF_BAD_ANSWER is read as CF_BAD_ANSWER. */
 uint32_t cf_text_of_outcome(const cf_outcome *outcome, uint8_t *text, size_t room, size_t *length);
 static inline uint32_t cf_outcome_text(cf_outcome outcome, uint8_t *text, size_t room, size_t *length) {
   return cf_text_of_outcome(&outcome, text, room, length);
@@ -1452,13 +1457,13 @@ uint32_t cf_code_text(uint32_t code, uint8_t *text, size_t room, size_t *length)
 /* The version of this header. A library of a later version with the same first number has all that stands here,
  * unchanged. */
 #define CF_VERSION_MAJOR 1
-#define CF_VERSION_MINOR 8
+#define CF_VERSION_MINOR 9
 #define CF_VERSION_PATCH 0
 
 /* None of the next four calls answers a cf_code. The texts that they answer are static and end in a zero byte. Your
  * program doesn't free them. */
 
-/* Answers the version of the library, such as "1.8.0". */
+/* Answers the version of the library, such as "1.9.0". */
 const char *cf_version(void);
 
 /* Answers whether a program that was written for this version of the header runs with the library. */

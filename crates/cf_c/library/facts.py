@@ -2,8 +2,8 @@
 """Writes what the library tells of itself, by cf.h.
 
     facts.py HEADER              in C: its version, the names of codes, the sizes of structs and the offsets of their fields
-    facts.py --version HEADER    the version, as 1.8.0
-    facts.py --script HEADER     for the linker: what the shared library exports, each call with the version in which it came
+    facts.py --version HEADER    the version, as 1.9.0
+    facts.py --script HEADER     for the linker: what the shared library exports, each call with the version in which it came or changed
 
 The header is the only table: a code is named by its constant, CF_NO_STAGE as NoStage, and the compiler says sizes and offsets.
 """
@@ -15,21 +15,21 @@ sys.dont_write_bytecode = True
 from nulls import TOLD, declarations  # noqa: E402
 from same import numbers_of, structs_of_header  # noqa: E402
 
-# The calls that came after 1.0, each with its version.
+# The oldest minor version whose programs run with the library: 1.9 changed calls and structs.
+OLDEST = 9
+# The calls that came or changed after 1.0, each with its version.
 LATER: Dict[str, str] = {
     **dict.fromkeys(["cf_restart_with", "cf_plan_of", "cf_ledger_step", "cf_ledger_apply_all", "cf_ledger_restart"], "1.1"),
     **dict.fromkeys(["cf_round", "cf_desk_next", "cf_desk_complete_many"], "1.2"),
     **dict.fromkeys(["cf_sweep_begin", "cf_sweep_next", "cf_sweep_end"], "1.3"),
-    **dict.fromkeys(["cf_fail_as", "cf_desk_fail_as", "cf_desk_notice", "cf_desk_heed"], "1.4"),
+    **dict.fromkeys(["cf_desk_notice", "cf_desk_heed"], "1.4"),
     **dict.fromkeys(
         [
             "cf_request_new",
             "cf_request_apply",
             "cf_request_next",
             "cf_request_follow",
-            "cf_request_deadline",
             "cf_request_pass",
-            "cf_request_next_deadline",
             "cf_request_refuse",
             "cf_request_told",
             "cf_request_ready",
@@ -59,6 +59,10 @@ LATER: Dict[str, str] = {
         ],
         "1.8",
     ),
+    **dict.fromkeys(
+        ["cf_builder_limit", "cf_fail_as", "cf_desk_fail_as", "cf_word_of_event", "cf_event_of", "cf_request_deadline", "cf_request_next_deadline"],
+        "1.9",
+    ),
 }
 TEXT = """#include "cf.h"
 #include <string.h>
@@ -66,8 +70,8 @@ TEXT = """#include "cf.h"
 const char *cf_version(void) {{ return "{version}"; }}
 
 bool cf_fits(uint32_t major, uint32_t minor) {{
-  const uint32_t ours = CF_VERSION_MINOR;
-  return major == CF_VERSION_MAJOR && minor <= ours;
+  const uint32_t oldest = {oldest}, ours = CF_VERSION_MINOR;
+  return major == CF_VERSION_MAJOR && oldest <= minor && minor <= ours;
 }}
 
 const char *cf_code_name(uint32_t code) {{
@@ -125,7 +129,8 @@ def main() -> None:
     elif sys.argv[1] == "--script":
         print("\n".join(script(text)))
     else:
-        print(TEXT.format(version=".".join(version(header)), names="\n".join(names(text)), layouts="\n".join(layouts(text))), end="")
+        parts = {"names": "\n".join(names(text)), "layouts": "\n".join(layouts(text))}
+        print(TEXT.format(version=".".join(version(header)), oldest=OLDEST, **parts), end="")
 
 
 if __name__ == "__main__":

@@ -66,18 +66,20 @@ pub extern "C" fn cf_desk_fail(
     tell!(alloc, h, reply, held => caller::act(&mut held, Ok(call)))
 }
 
-/// Fails a stage with the outcome of this kind: as timed out, or with a bad answer, for a stage that stands in for another.
+/// Fails a stage with the outcome of this kind and code: as timed out, or with a bad answer, for a stage that stands in for
+/// another.
 #[unsafe(no_mangle)]
 pub extern "C" fn cf_desk_fail_as(
     alloc: Global,
     h: &mut CfHandle,
     stage: u16,
     kind: u32,
+    code: u32,
     reply: &mut CfReply,
 ) -> u32
-    ensures { CallerTells (Acts (failing_call stage (failure_of kind))) h.old h.new result reply.old reply.new }
+    ensures { CallerTells (Acts (failing_call stage (failure_of kind code))) h.old h.new result reply.old reply.new }
 {
-    let call = failing_call(stage, kind);
+    let call = failing_call(stage, kind, code);
     tell!(alloc, h, reply, held => caller::act(&mut held, call))
 }
 

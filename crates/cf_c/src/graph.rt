@@ -84,18 +84,20 @@ pub extern "C" fn cf_fail(
     tell!(alloc, h, reply, held => asking::answer(&mut held, Ok(event)))
 }
 
-/// Fails a stage with the outcome of this kind: as timed out, or with a bad answer, for a stage that stands in for another.
+/// Fails a stage with the outcome of this kind and code: as timed out, or with a bad answer, for a stage that stands in for
+/// another.
 #[unsafe(no_mangle)]
 pub extern "C" fn cf_fail_as(
     alloc: Global,
     h: &mut CfHandle,
     stage: u16,
     kind: u32,
+    code: u32,
     reply: &mut CfReply,
 ) -> u32
-    ensures { GraphReplies (failing 0 stage (failure_of kind)) h.old h.new result reply.old reply.new }
+    ensures { GraphReplies (failing 0 stage (failure_of kind code)) h.old h.new result reply.old reply.new }
 {
-    let event = failing_event(stage, kind);
+    let event = failing_event(stage, kind, code);
     tell!(alloc, h, reply, held => asking::answer(&mut held, event))
 }
 

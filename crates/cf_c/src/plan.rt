@@ -55,11 +55,12 @@ pub extern "C" fn cf_builder_limit(
     stage: u16,
     at: u32,
     kind: u32,
+    code: u32,
     value: CfValue,
 ) -> u32
-    ensures { HandleDoes (AddsLimit stage at (kind_of kind value)) builder.old builder.new result }
+    ensures { HandleDoes (AddsLimit stage at (kind_of kind code value)) builder.old builder.new result }
 {
-    let kind = kind_of(kind, value);
+    let kind = kind_of(kind, code, value);
     ask!(alloc, builder, held => add_limit(&mut held, stage, at, kind))
 }
 

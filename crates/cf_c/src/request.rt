@@ -162,12 +162,13 @@ pub extern "C" fn cf_request_deadline(
     stage: u16,
     moment: u64,
     kind: u32,
+    code: u32,
     value: CfValue,
 ) -> u32
-    ensures { HandleDoes (SetsDeadlineIn (record { stage = stage; moment = moment; kind = kind_of kind value }))
+    ensures { HandleDoes (SetsDeadlineIn (record { stage = stage; moment = moment; kind = kind_of kind code value }))
         h.old h.new result }
 {
-    let kind = kind_of(kind, value);
+    let kind = kind_of(kind, code, value);
     let deadline = Deadline {
         stage,
         moment,

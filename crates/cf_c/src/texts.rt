@@ -33,7 +33,7 @@ pub extern "C" fn cf_run_script(
     }
 }
 
-/// The text of an outcome, as reports have it: "pending" if there is none, and otherwise at most 31 bytes. A kind above 5 counts
+/// The text of an outcome, as reports have it: "pending" if there is none, and otherwise at most 34 bytes. A kind above 5 counts
 /// as 5.
 #[unsafe(no_mangle)]
 pub extern "C" fn cf_text_of_outcome(

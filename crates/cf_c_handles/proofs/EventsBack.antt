@@ -45,8 +45,8 @@ attach_back who form of function f s number a b c = rw a (rw b (ap (λ (x : Opti
 told_back : (e : Event) → IsEvent e → event_of (as_event e) ≡ Ok e
 told_back (Completes who i v) is = ap (λ (x : Value). Ok (Completes who i x)) (value_back v)
 told_back (Fails who i code) is = refl
-told_back (FailsAs who i TimedOut) is = refl
-told_back (FailsAs who i BadAnswer) is = refl
+told_back (FailsAs who i (TimedOut code)) is = refl
+told_back (FailsAs who i (BadAnswer code)) is = refl
 told_back (Cancels who i) is = refl
 told_back (Claims who i) is = refl
 told_back (Finishes who i answer) is = ap (λ (x : Answer). Ok (Finishes who i x)) (answer_back answer)

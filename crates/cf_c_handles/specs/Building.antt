@@ -70,9 +70,9 @@ AddsStage (Some form) of function (Builder b) (Ok stage) new = IsAdded b (planne
 AddsStage (Some form) of function (Builder b) (Err fault) new = IsNotAdded b (planned form of function) fault new
 AddsStage form of function held r new = (r ≡ Err WrongKind) × (new ≡ held)
 
--- a time-out where the kind is 0, and else a value to give
-abbrev pub kind_of : ℕ → CfValue → LimitKind
-kind_of kind value = if kind == 0 then Timeout else Give (value_of value)
+-- a time-out with this code where the kind is 0, and else a value to give
+abbrev pub kind_of : ℕ → ℕ → CfValue → LimitKind
+kind_of kind code value = if kind == 0 then Timeout code else Give (value_of value)
 
 abbrev pub IsLimited : Draft → ℕ → ℕ → LimitKind → Option PlanFault → Result (Unit {0}) Code → Object → Type 0
 IsLimited b stage at kind (Some fault) r new = (r ≡ Err (plan_code fault)) × IsBuilderOf b.plan b new

@@ -19,9 +19,9 @@ use Rattle.cf_c_handles.specs.declared.code.Code.{Code}
 use Rattle.cf_c_handles.specs.declared.code.Code.TheVariants.{NoSuchNumber, NoWord}
 use Rattle.cf_c_handles.specs.declared.values.event.CfEvent.{CfEvent}
 
--- the failure that C means by the kind of an outcome, if there is one
-abbrev pub failure_of : ℕ → Option Failure
-failure_of kind = if kind == 4 then Some TimedOut else (if kind == 5 then Some BadAnswer else None)
+-- the failure with a code that C means by the kind of an outcome, if there is one
+abbrev pub failure_of : ℕ → ℕ → Option Failure
+failure_of kind code = if kind == 4 then Some (TimedOut code) else (if kind == 5 then Some (BadAnswer code) else None)
 
 -- the failing of a stage so by a caller, as an event and as a call, or that no failure has the number
 abbrev pub failing : ℕ → ℕ → Option Failure → Result Event Code
@@ -42,28 +42,28 @@ event_of e =
     else (if e.call == 4 then Ok (Finishes e.who e.stage (answer_of e.answer))
     else (if e.call == 5 then Ok (Ticks e.who e.now)
     else (if e.call == 6 then event_with e.who (parts_with (form_of e.form) (sources_with e.sources e.first e.second) e.function)
-    else (if e.call == 7 then failing e.who e.stage (failure_of e.code)
+    else (if e.call == 7 then failing e.who e.stage (failure_of e.kind e.code)
     else Err NoSuchNumber)))))))
 
 -- an event of this call by this caller, on this stage, with nothing else
 abbrev pub bare : ℕ → ℕ → ℕ → CfEvent
-bare call who stage = record { call = call; who = who; stage = stage; value = as_value Nil; code = 0; answer = as_answer (Give Nil); now = 0; form = 0; sources = 0; first = 0; second = 0; function = 0 }
+bare call who stage = record { call = call; kind = 0; who = who; stage = stage; value = as_value Nil; code = 0; answer = as_answer (Give Nil); now = 0; form = 0; sources = 0; first = 0; second = 0; function = 0 }
 
 -- the same with what an attach has besides
 abbrev pub attaching : ℕ → Of → ℕ → CfEvent → CfEvent
 attaching form of function bare =
     record bare { form = form; sources = count_of of; first = first_of of; second = second_of of; function = function }
 
--- a failure for C
-abbrev pub as_failure : Failure → ℕ
-as_failure TimedOut = 4
-as_failure BadAnswer = 5
+-- the same with what a failure has besides
+abbrev pub with_failure : Failure → CfEvent → CfEvent
+with_failure (TimedOut code) bare = record bare { kind = 4; code = code }
+with_failure (BadAnswer code) bare = record bare { kind = 5; code = code }
 
 -- an event for C: what its call doesn't have is 0
 abbrev pub as_event : Event → CfEvent
 as_event (Completes who i v) = record (bare 0 who i) { value = as_value v }
 as_event (Fails who i code) = record (bare 1 who i) { code = code }
-as_event (FailsAs who i failure) = record (bare 7 who i) { code = as_failure failure }
+as_event (FailsAs who i failure) = with_failure failure (bare 7 who i)
 as_event (Cancels who i) = bare 2 who i
 as_event (Claims who i) = bare 3 who i
 as_event (Finishes who i answer) = record (bare 4 who i) { answer = as_answer answer }

@@ -36,7 +36,7 @@ call_of number =
     else None))))))
 
 abbrev pub deadline_of : CfRequestCall → Deadline
-deadline_of c = record { stage = c.stage; moment = c.moment; kind = kind_of c.kind c.value }
+deadline_of c = record { stage = c.stage; moment = c.moment; kind = kind_of c.kind c.code c.value }
 
 -- a word is done, and C has its reply
 pub record HasReply (m : Machine) (had : CfRequestCall) (new : Machine) (has : CfRequestCall) : Type 0 where

@@ -23,17 +23,21 @@ use Rattle.cf_c_handles.specs.declared.values.request.CfTold.{CfTold}
 
 -- ---- what C has
 
--- what becomes of a stage at its moment: it times out, or it gets a value
+-- what becomes of a stage at its moment: it times out with a code, or it gets a value
 abbrev pub limit_number : LimitKind → ℕ
-limit_number Timeout = 0
+limit_number (Timeout code) = 0
 limit_number (Give v) = 1
 
+abbrev pub limit_code : LimitKind → ℕ
+limit_code (Timeout code) = code
+limit_code (Give v) = 0
+
 abbrev pub limit_value : LimitKind → CfValue
-limit_value Timeout = as_value Nil
+limit_value (Timeout code) = as_value Nil
 limit_value (Give v) = as_value v
 
 abbrev pub as_deadline : Deadline → CfDeadline
-as_deadline d = record { stage = d.stage; moment = d.moment; kind = limit_number d.kind; value = limit_value d.kind }
+as_deadline d = record { stage = d.stage; moment = d.moment; kind = limit_number d.kind; code = limit_code d.kind; value = limit_value d.kind }
 
 abbrev pub told_as : ℕ → Option Outcome → CfTold
 told_as i outcome = record { stage = i; outcome = as_outcome outcome }

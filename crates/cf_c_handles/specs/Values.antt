@@ -52,12 +52,12 @@ fault_with kind wrapped code = record { kind = kind; wrapped = bit wrapped; code
 abbrev pub as_fault : Cause → Bool → CfOutcome
 as_fault (Thrown code) wrapped = fault_with 2 wrapped code
 as_fault Cancelled wrapped = fault_with 3 wrapped 0
-as_fault TimedOut wrapped = fault_with 4 wrapped 0
-as_fault BadAnswer wrapped = fault_with 5 wrapped 0
+as_fault (TimedOut code) wrapped = fault_with 4 wrapped code
+as_fault (BadAnswer code) wrapped = fault_with 5 wrapped code
 
 -- the cause that C means: none of these numbers is a bad answer's, too
 abbrev pub cause_of : ℕ → ℕ → Cause
-cause_of kind code = if kind == 2 then Thrown code else (if kind == 3 then Cancelled else (if kind == 4 then TimedOut else BadAnswer))
+cause_of kind code = if kind == 2 then Thrown code else (if kind == 3 then Cancelled else (if kind == 4 then TimedOut code else BadAnswer code))
 
 -- the outcome that C means, or that there is none: a value where the kind is 1, and else a fault, which is raw where `wrapped` is 0
 abbrev pub outcome_of : CfOutcome → Option Outcome

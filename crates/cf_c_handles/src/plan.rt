@@ -42,12 +42,12 @@ pub fn add_limit(held: &mut Object, stage: u16, at: u32, kind: LimitKind) -> Res
     }
 }
 
-/// A time-out where the kind is 0, and else a value to give.
-pub fn kind_of(kind: u32, value: CfValue) -> LimitKind
-    ensures { result ≡ kind_of kind value }
+/// A time-out with this code where the kind is 0, and else a value to give.
+pub fn kind_of(kind: u32, code: u32, value: CfValue) -> LimitKind
+    ensures { result ≡ kind_of kind code value }
 {
     if kind == 0 {
-        LimitKind::Timeout
+        LimitKind::Timeout(code)
     } else {
         LimitKind::Give(value_of(value))
     }

@@ -43,7 +43,8 @@ pub struct CfAnswer {
     pub stage: u16,
 }
 
-/// An outcome: none yet (kind 0), a value (1), or a fault: thrown (2), cancelled (3), timed out (4), a bad answer (5).
+/// An outcome: none yet (kind 0), a value (1), or a fault: thrown (2), cancelled (3), timed out (4), a bad answer (5). All faults
+/// but a cancellation have a code.
 #[repr(C)]
 #[derive(Clone, Copy)]
 pub struct CfOutcome {
@@ -161,8 +162,8 @@ fn fault(cause: Cause, wrapped: bool) -> CfOutcome
     let (kind, code) = match cause {
         Cause::Thrown(code) => (2, code),
         Cause::Cancelled => (3, 0),
-        Cause::TimedOut => (4, 0),
-        Cause::BadAnswer => (5, 0),
+        Cause::TimedOut(code) => (4, code),
+        Cause::BadAnswer(code) => (5, code),
     };
     CfOutcome {
         kind,
@@ -222,8 +223,8 @@ fn cause_of(kind: u32, code: u32) -> Cause
     match kind {
         2 => Cause::Thrown(code),
         3 => Cause::Cancelled,
-        4 => Cause::TimedOut,
-        _ => Cause::BadAnswer,
+        4 => Cause::TimedOut(code),
+        _ => Cause::BadAnswer(code),
     }
 }
 

@@ -145,7 +145,7 @@ fn deadline_of(call: &CfRequestCall) -> Deadline
     Deadline {
         stage: call.stage,
         moment: call.moment,
-        kind: kind_of(call.kind, call.value),
+        kind: kind_of(call.kind, call.code, call.value),
     }
 }
 

@@ -10,7 +10,7 @@ use crate::values::{CfReply, CfValue};
 /// | word | `word`, `lane` | `reply` |
 /// | step | `who`, `lane`, `task` | `task` |
 /// | relay | `relay`, `stage` | |
-/// | deadline | `stage`, `moment`, `kind`, `value` | |
+/// | deadline | `stage`, `moment`, `kind`, `code`, `value` | |
 /// | moment | `moment` | |
 /// | refused lane | `lane`, `code` | |
 /// | all cancelled | `who` | |

@@ -1,6 +1,6 @@
 //! Changing calls as C has them, as events, and the words of events.
 ghost use Rattle.std.specs.Prelude.{◌≡◌, IfOk, Ok};
-ghost use Rattle.cf_c_handles.specs.EventWords.{HasWord, IsWordOf, as_event, as_failure, attaching, bare, event_at, event_of, failing, failing_call, failure_of, told_event};
+ghost use Rattle.cf_c_handles.specs.EventWords.{HasWord, IsWordOf, as_event, attaching, bare, event_at, event_of, failing, failing_call, failure_of, told_event, with_failure};
 
 use crate::code::Code;
 use crate::values::attaching::{as_function, event_with, parts_with, sources_with};
@@ -19,7 +19,7 @@ use cf_outcome::Value;
 /// | cancel, claim | `stage` |
 /// | finish | `stage`, `answer` |
 /// | tick | `now` |
-/// | fail as | `stage`, and in `code` the kind of the outcome: 4 for timed out, 5 for a bad answer |
+/// | fail as | `stage`, the `kind` of the outcome, 4 for timed out or 5 for a bad answer, and its `code` |
 /// | attach | `form`, how many `sources`, the `first` and the `second` of them, `function` |
 ///
 /// What a call doesn't have isn't looked at, and is 0 where an event is told.
@@ -27,6 +27,7 @@ use cf_outcome::Value;
 #[derive(Clone, Copy)]
 pub struct CfEvent {
     pub call: u32,
+    pub kind: u32,
     pub who: u8,
     pub stage: u16,
     pub value: CfValue,
@@ -66,18 +67,18 @@ pub fn event_of(e: CfEvent) -> Result<Event, Code>
             let of = sources_with(e.sources, e.first, e.second);
             event_with(who, parts_with(Form::numbered(e.form), of, e.function))
         }
-        7 => failing(who, stage, failure_of(e.code)),
+        7 => failing(who, stage, failure_of(e.kind, e.code)),
         _ => Err(Code::NoSuchNumber),
     }
 }
 
-/// The failure that C means by the kind of an outcome, if there is one.
-fn failure_of(kind: u32) -> Option<Failure>
-    ensures { result ≡ failure_of kind }
+/// The failure with this code that C means by the kind of an outcome, if there is one.
+fn failure_of(kind: u32, code: u32) -> Option<Failure>
+    ensures { result ≡ failure_of kind code }
 {
     match kind {
-        4 => Some(Failure::TimedOut),
-        5 => Some(Failure::BadAnswer),
+        4 => Some(Failure::TimedOut(code)),
+        5 => Some(Failure::BadAnswer(code)),
         _ => None,
     }
 }
@@ -96,30 +97,21 @@ fn failing(who: u8, stage: u16, failure: Option<Failure>) -> Result<Event, Code>
     }
 }
 
-/// The event by which the caller of a graph fails a stage with an outcome of this kind, or the code if no failure has the kind.
-pub fn failing_event(stage: u16, kind: u32) -> Result<Event, Code>
-    ensures { result ≡ failing 0 stage (failure_of kind) }
+/// The event by which the caller of a graph fails a stage with an outcome of this kind and code, or that no failure has the
+/// kind.
+pub fn failing_event(stage: u16, kind: u32, code: u32) -> Result<Event, Code>
+    ensures { result ≡ failing 0 stage (failure_of kind code) }
 {
-    failing(0, stage, failure_of(kind))
+    failing(0, stage, failure_of(kind, code))
 }
 
-/// The call that fails a stage with an outcome of this kind, or the code if no failure has the kind.
-pub fn failing_call(stage: u16, kind: u32) -> Result<Call, Code>
-    ensures { result ≡ failing_call stage (failure_of kind) }
+/// The call that fails a stage with an outcome of this kind and code, or that no failure has the kind.
+pub fn failing_call(stage: u16, kind: u32, code: u32) -> Result<Call, Code>
+    ensures { result ≡ failing_call stage (failure_of kind code) }
 {
-    match failure_of(kind) {
+    match failure_of(kind, code) {
         Some(failure) => Ok(Call::FailAs(stage, failure)),
         None => Err(Code::NoSuchNumber),
-    }
-}
-
-/// A failure for C: the kind of its outcome.
-fn as_failure(failure: Failure) -> u32
-    ensures { result ≡ as_failure failure }
-{
-    match failure {
-        Failure::TimedOut => 4,
-        Failure::BadAnswer => 5,
     }
 }
 
@@ -140,10 +132,7 @@ pub(crate) fn as_event(e: Event) -> CfEvent
             who,
             stage,
             failure,
-        } => CfEvent {
-            code: as_failure(failure),
-            ..bare(7, who, stage)
-        },
+        } => with_failure(failure, bare(7, who, stage)),
         Event::Cancel { who, stage } => bare(2, who, stage),
         Event::Claim { who, stage } => bare(3, who, stage),
         Event::Finish { who, stage, answer } => CfEvent {
@@ -166,6 +155,17 @@ pub(crate) fn as_event(e: Event) -> CfEvent
             bare(6, who, 0),
         ),
     }
+}
+
+/// The failing of a stage so: the kind of its outcome, and the code.
+fn with_failure(failure: Failure, bare: CfEvent) -> CfEvent
+    ensures { result ≡ with_failure failure bare }
+{
+    let (kind, code) = match failure {
+        Failure::TimedOut(code) => (4, code),
+        Failure::BadAnswer(code) => (5, code),
+    };
+    CfEvent { kind, code, ..bare }
 }
 
 /// The attaching of a stage of this form to these sources.
@@ -193,6 +193,7 @@ fn bare(call: u32, who: u8, stage: u16) -> CfEvent
 {
     CfEvent {
         call,
+        kind: 0,
         who,
         stage,
         value: as_value(Value::Nil),

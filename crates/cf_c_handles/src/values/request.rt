@@ -79,13 +79,14 @@ pub struct CfRequestStep {
     pub told: usize,
 }
 
-/// A moment by which a stage has to be settled, and whether it times out (kind 0) or gets a value then.
+/// A moment by which a stage has to be settled, and whether it times out (kind 0), with which code, or gets a value then.
 #[repr(C)]
 #[derive(Clone, Copy)]
 pub struct CfDeadline {
     pub stage: u16,
     pub moment: u64,
     pub kind: u32,
+    pub code: u32,
     pub value: CfValue,
 }
 
@@ -93,14 +94,15 @@ pub struct CfDeadline {
 pub(crate) fn as_deadline(deadline: Deadline) -> CfDeadline
     ensures { result ≡ as_deadline deadline }
 {
-    let (kind, value) = match deadline.kind {
-        LimitKind::Timeout => (0, Value::Nil),
-        LimitKind::Give(value) => (1, value),
+    let (kind, code, value) = match deadline.kind {
+        LimitKind::Timeout(code) => (0, code, Value::Nil),
+        LimitKind::Give(value) => (1, 0, value),
     };
     CfDeadline {
         stage: deadline.stage,
         moment: deadline.moment,
         kind,
+        code,
         value: as_value(value),
     }
 }
