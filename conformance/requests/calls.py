@@ -157,7 +157,9 @@ class Draws:
         return stage, self.answer(stage)
 
     def outcome(self) -> machine.Outcome:
-        return ("value", self.rng.choice(random_runs.VALUES)) if self.rng.random() < 0.5 else ("fault", ("timeout",), False)
+        if self.rng.random() < 0.5:
+            return ("value", self.rng.choice(random_runs.VALUES))
+        return ("fault", model.caused("timeout", self.rng.choice(random_runs.CODES)), False)
 
     def moment(self) -> int:
         """A moment near the last one, seldom before it, and very seldom the last of all."""
@@ -208,7 +210,7 @@ class Draws:
         elif kind == "fail":
             rest = (self.rng.choice(random_runs.CODES),)
         elif kind == "failAs":
-            rest = (self.rng.choice(histories.FAILURES),)
+            rest = (self.rng.choice(histories.FAILURES), self.rng.choice(random_runs.CODES))
         elif kind == "finish":
             rest = (self.answer(stage),)
         return (kind, who, stage, *rest)

@@ -11,6 +11,7 @@ from typing import Any, Dict, List, Optional, Sequence, Tuple, Union
 
 import histories
 import machine
+import model
 from calls import Difference, Opening
 
 sys.path.insert(1, str(Path(__file__).resolve().parents[2] / "clients/python"))
@@ -81,7 +82,7 @@ class CRequestStep(c.Structure):
 
 
 class CDeadline(c.Structure):
-    _fields_ = [("stage", c.c_uint16), ("moment", c.c_uint64), ("kind", c.c_uint32), ("value", CValue)]
+    _fields_ = [("stage", c.c_uint16), ("moment", c.c_uint64), ("kind", c.c_uint32), ("code", c.c_uint32), ("value", CValue)]
 
 
 class CCall(c.Structure):
@@ -123,7 +124,7 @@ TOLD = [P(CTold), SIZE]
 CALLS: Dict[str, List[Any]] = {
     "cf_builder_new": [H, U16, U16],
     "cf_builder_stage": [H, U32, P(U16), SIZE, U32, P(U16)],
-    "cf_builder_limit": [H, U16, U32, U32, CValue],
+    "cf_builder_limit": [H, U16, U32, U32, U32, CValue],
     "cf_build": [H],
     "cf_ledger_of": [H, U16, P(U64), SIZE, H, P(SIZE)],
     "cf_ledger_stage": [H, U16, P(CStage)],
@@ -136,7 +137,7 @@ CALLS: Dict[str, List[Any]] = {
     "cf_request_link": [H, P(CRequestLinking), P(CTask), *TOLD],
     "cf_request_next": [H, P(CRequestStep), P(CTask), *TOLD],
     "cf_request_follow": [H, U16, U16, *TOLD, P(SIZE)],
-    "cf_request_deadline": [H, U16, U64, U32, CValue],
+    "cf_request_deadline": [H, U16, U64, U32, U32, CValue],
     "cf_request_pass": [H, U64, *TOLD, P(SIZE)],
     "cf_request_next_deadline": [H, P(CDeadline)],
     "cf_request_refuse": [H, U8, U32, *TOLD, P(SIZE)],
@@ -205,7 +206,7 @@ def outcome_of(outcome: COutcome) -> Optional[machine.Outcome]:
         return None
     if outcome.kind == VALUE:
         return ("value", value_of(outcome.value))
-    cause = ("thrown", outcome.code) if outcome.kind == THROWN else (CAUSES[outcome.kind],)
+    cause = ("thrown", outcome.code) if outcome.kind == THROWN else model.caused(CAUSES[outcome.kind], outcome.code)
     return ("fault", cause, bool(outcome.wrapped))
 
 
@@ -332,7 +333,7 @@ class Library:
         if code == NOTHING:
             return None
         check(code)
-        outcome = ("value", value_of(told.value)) if told.kind else ("fault", ("timeout",), False)
+        outcome = ("value", value_of(told.value)) if told.kind else ("fault", model.caused("timeout", told.code), False)
         return machine.Deadline(told.stage, told.moment, outcome)
 
     def ready(self, lane: int) -> int:
@@ -443,7 +444,7 @@ def call_in(name: str, given: Tuple[Any, ...]) -> CCall:
         row.relay, row.stage = given
     elif name == "deadline":
         row.stage, row.moment = given[0].stage, given[0].moment
-        row.kind, row.value = limit_in(given[0].outcome)
+        row.kind, row.code, row.value = limit_in(given[0].outcome)
     elif name == "pass_to":
         row.moment = given[0]
     elif name == "refuse":
@@ -486,6 +487,6 @@ def check_handles() -> int:
     return count
 
 
-def limit_in(outcome: machine.Outcome) -> Tuple[int, CValue]:
-    """What a limit or a deadline does."""
-    return (1, value_in(outcome[1])) if outcome[0] == "value" else (0, value_in(None))
+def limit_in(outcome: machine.Outcome) -> Tuple[int, int, CValue]:
+    """What a limit or a deadline does, and by which code."""
+    return (1, 0, value_in(outcome[1])) if outcome[0] == "value" else (0, (*outcome[1][1:], 0)[0], value_in(None))

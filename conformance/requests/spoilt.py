@@ -152,6 +152,23 @@ class ACancellationIsAFailure(Machine):
         super().settle(who, stage, ("fault", ("thrown", 0), False) if is_cancelled else outcome)
 
 
+def without_code(outcome: Outcome) -> Outcome:
+    """The outcome with the code 0, if it is a time-out or a bad answer."""
+    return outcome if outcome[0] == "value" or outcome[1][0] == "thrown" else ("fault", outcome[1][:1], outcome[2])
+
+
+class ARelayLosesTheCode(Machine):
+    def due_relay(self) -> Optional[Tuple[int, Outcome]]:
+        due = super().due_relay()
+        return None if due is None else (due[0], without_code(due[1]))
+
+
+class ADeadlineFiresWithoutItsCode(Machine):
+    def settle(self, who: int, stage: int, outcome: Outcome) -> None:
+        is_due = any(deadline[:3:2] == (stage, outcome) for deadline in self.deadlines)
+        super().settle(who, stage, without_code(outcome) if is_due else outcome)
+
+
 class AnotherSettles(Machine):
     def settle(self, who: int, stage: int, outcome: Outcome) -> None:
         super().settle(1, stage, outcome)

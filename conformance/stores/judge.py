@@ -14,7 +14,7 @@ from plain_graph import Graph
 from replies import outcome_text, reply_text, shape
 
 from cf.events import event_of
-from cf.service.words import ATTACH, CLAIM, COMPLETE, FAIL, FINISH, FORMS, PENDING, OutcomeNumbers
+from cf.service.words import ATTACH, CLAIM, COMPLETE, FAIL, FAIL_AS, FINISH, FORMS, PENDING, OutcomeNumbers
 from cf.store import Broken, connect
 
 CALLERS = 64
@@ -120,7 +120,7 @@ class Judge:
 
     def word(self, name, place, word, token, reply, payloads, granted):
         kind, tag, low = word >> 56, word >> 32 & 0xF, word & 0xFFFFFFFF
-        if kind in (COMPLETE, FINISH) and tag == 1 or kind == FAIL or kind == FINISH and tag == 2:
+        if kind in (COMPLETE, FINISH) and tag == 1 or kind in (FAIL, FAIL_AS) or kind == FINISH and tag == 2:
             if low != place:
                 self.wrong.append(f"{name}: place {place} names {low}")
             elif place not in payloads or json.loads(payloads[place])["at"] != place:

@@ -187,7 +187,7 @@ class MixedJudge(Judge):
         self.key, self.payloads, self.entries = key, payloads, entries
         self.stages = list(plan["stages"])
         self.came = [(0, None)] * len(self.stages)  # where each was attached, and by which session
-        self.places, self.failed = {}, {}  # where each was settled, and by which word each timed out, itself or what it has it from
+        self.places = {}  # where each was settled
         self.claimed, self.finished, self.open, self.links, self.called_with = [], {}, {}, {}, {}
         self.tokens, self.put_at, self.labels = {}, {}, {it["kwargs"]["where"] for it in self.stages if "kwargs" in it}
         self.has = {kind for kind, note in (("timed", "timer"), ("called back", "called back"), ("opened again", "again")) if self.told[(note, *key)]}
@@ -211,7 +211,7 @@ class MixedJudge(Judge):
     def word(self, name, place, word, token, reply, payloads, granted):
         """One word, once the plain graph has done it."""
         kind, stage, tag, low, graph = word >> 56, word >> 36 & 0xFFF, word >> 32 & 0xF, word & 0xFFFFFFFF, self.graph
-        names = kind in (COMPLETE, FINISH) and tag == 1 or kind == FAIL or kind == FINISH and tag == 2
+        names = kind in (COMPLETE, FINISH) and tag == 1 or kind == FAIL or kind == FAIL_AS and low != 0 or kind == FINISH and tag == 2
         if names and (low != place or place not in payloads):
             self.wrong.append(f"{name}: place {place} names {low}" if low != place else f"{name}: no payload at {place}")
             return
@@ -233,35 +233,28 @@ class MixedJudge(Judge):
         for k in range(graph.stages):
             if k not in self.places and graph.settled(k):
                 self.places[k] = place
-                if graph.told[k][:2] == ("fault", "timeout"):
-                    linked = [low] if kind == FINISH and tag == LINKS else []
-                    self.failed[k] = place if kind == FAIL_AS else self.failed_of(linked + graph.of[k])
 
     def thing(self, place):
         """What a payload holds, a value or what is said of an error."""
         return None if place in (None, "nil") else json.loads(self.payloads[int(place)])
 
-    def failed_of(self, of):
-        return next((self.failed[it] for it in of if it in self.failed), None)
-
-    def error(self, cause, of):
-        """What is said of the error of a cause, which one of these stages ended in."""
-        place = cause.split()[1] if cause.startswith("thrown") else self.failed_of(of) if cause == "timeout" else None
-        if place is not None:
-            said = self.thing(place)
+    def error(self, cause):
+        """What is said of the error of a cause. Its code is the place of that."""
+        if " " in cause:
+            said = self.thing(cause.split()[1])
             return {"error": said["error"], "text": said["text"]}
         return {"error": {"cancelled": "CancelledError", "badanswer": "BadAnswer"}.get(cause, "TimeoutError"), "text": ""}
 
     def outcome(self, stage):
         """A stage's value and error by the plain graph, of which one is None."""
         told = self.graph.told[stage]
-        return (self.thing(told[1]), None) if told[0] == "value" else (None, self.error(told[1], [stage]))
+        return (self.thing(told[1]), None) if told[0] == "value" else (None, self.error(told[1]))
 
     def claim(self, stage, session, reply):
         """What a claim's function is called with, and whether it is called."""
         said, words = self.stages[stage], reply.split()[1:]
         if words[0] == "got":
-            got = (self.thing(words[2]), None) if words[1] == "value" else (None, self.error(" ".join(words[2:-1]), self.graph.of[stage]))
+            got = (self.thing(words[2]), None) if words[1] == "value" else (None, self.error(" ".join(words[2:-1])))
             args = got[1:] if self.graph.form[stage] in ("exceptionally", "exceptionallyCompose") else got
         else:
             args = tuple(self.thing(it) for it in words[1:])
@@ -367,7 +360,7 @@ class MixedJudge(Judge):
         if not is_meant and is_relay:
             to = self.links.get(stage)
             told = None if to is None else self.graph.told[to]
-            is_alike = told is not None and (kind == FAIL_AS) == (told[:2] == ("fault", "timeout"))
+            is_alike = told is not None and (kind == FAIL_AS) == (told[0] == "fault" and told[1].startswith("timeout"))
             if not is_alike or self.outcome(to) != ((given, None) if kind == COMPLETE else (None, {"error": given["error"], "text": text})):
                 self.misfit(place, f"stage {stage} isn't settled as stage {to} is")
             return

@@ -23,6 +23,11 @@ def wrap(outcome):
     return outcome if outcome[0] == "value" else ("fault", outcome[1], True)
 
 
+def cause_text(name, code):
+    """The cause of a time-out or of a bad answer, without a code where that is 0."""
+    return f"{name} {code}" if code else name
+
+
 def value_text(value):
     return "nil" if value is None else str(value)
 
@@ -172,7 +177,7 @@ class Graph:
         if kind == FAIL:
             return "true" if self._direct(stage, ("fault", f"thrown {low}", False)) else "false"
         if kind == FAIL_AS:
-            return "true" if self._direct(stage, ("fault", ("timeout", "badanswer")[tag], False)) else "false"
+            return "true" if self._direct(stage, ("fault", cause_text(("timeout", "badanswer")[tag], low), False)) else "false"
         if kind == CANCEL:
             raw = ("fault", "cancelled", False)
             return "true" if self._direct(stage, raw) or self.told[stage] == raw else "false"
@@ -224,5 +229,6 @@ class Graph:
         while self.used < len(self.limits) and self.limits[self.used]["at"] <= now:
             limit = self.limits[self.used]
             self.used += 1
-            fired += self._direct(limit["stage"], ("fault", "timeout", False) if limit["kind"] == "timeout" else ("value", limit["value"]))
+            fault = ("fault", cause_text("timeout", limit.get("code", 0)), False)
+            fired += self._direct(limit["stage"], fault if limit["kind"] == "timeout" else ("value", limit["value"]))
         return f"fired {fired}"

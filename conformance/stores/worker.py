@@ -12,7 +12,7 @@ import time
 from plans import plan_of
 from process import Process, sure
 
-from cf.service.words import ATTACH, CANCEL, CLAIM, COMPLETE, FAIL, FAIL_AS, FINISH, FORMS, GIVES, LINKS, THROWS, THROWN, TICK, VALUE
+from cf.service.words import ATTACH, CANCEL, CLAIM, COMPLETE, FAIL, FAIL_AS, FAILURES, FINISH, FORMS, GIVES, LINKS, THROWS, THROWN, TICK, VALUE
 from cf.store import Put, RowView, StoreError, Unknown, Watcher, connect, new_session
 
 WINDOW = int(os.environ.get("WINDOW", "12"))
@@ -63,7 +63,7 @@ class Worker(Process):
                 (kind in (1, 2) and first_some, first),
                 (kind == 2 and second_some, second),
                 (kind == 3 and got == VALUE and some, number),
-                (kind == 3 and got == THROWN, code),
+                (kind == 3 and got in (THROWN, *FAILURES), code),
             )
             if is_there
         ]
@@ -124,8 +124,7 @@ class Worker(Process):
             elif rng.random() < 0.6:
                 put(FAIL, stage, {"error": "no"})
             else:
-                failure = rng.randrange(2)
-                desk.act(lambda desk: [(word(FAIL_AS, desk, stage, failure << 32), None)])
+                put(FAIL_AS, stage, {"error": "late"}, rng.randrange(2))
         elif pick < 0.65:
             desk.act(lambda desk: [(word(CANCEL, desk, stage), None)])
         elif pick < 0.72 and many < len(desk.plan.rows) + 3:

@@ -6,7 +6,7 @@ from types import SimpleNamespace
 from typing import Any, Callable, Dict, List, Sequence
 
 NO_FUNCTION = 0xFFFFFFFF
-VERSION = (1, 8)  # of the library that this module is written for
+VERSION = (1, 9)  # of the library that this module is written for
 
 # The kinds in the structures: of a value, an answer, an outcome, what a function is called with, and a record; and what
 # a record asked.
@@ -111,6 +111,7 @@ class CRequestStep(c.Structure):
 class CEvent(c.Structure):
     _fields_ = [
         ("call", c.c_uint32),
+        ("kind", c.c_uint32),
         ("who", c.c_uint8),
         ("stage", c.c_uint16),
         ("value", CValue),
@@ -163,12 +164,12 @@ CALLS: Dict[str, List[Any]] = {
     "cf_free": [_H],
     "cf_builder_new": [_H, _U16, _U16],
     "cf_builder_stage": [_H, _U32, _OF, _SIZE, _U32, _U16_OUT],
-    "cf_builder_limit": [_H, _U16, _U32, _U32, CValue],
+    "cf_builder_limit": [_H, _U16, _U32, _U32, _U32, CValue],
     "cf_build": [_H],
     "cf_graph_new": [_H, _U16, _H],
     "cf_complete": [_H, _U16, CValue, _R],
     "cf_fail": [_H, _U16, _U32, _R],
-    "cf_fail_as": [_H, _U16, _U32, _R],
+    "cf_fail_as": [_H, _U16, _U32, _U32, _R],
     "cf_cancel": [_H, _U16, _R],
     "cf_claim": [_H, _U8, _U16, _R],
     "cf_finish_with": [_H, _U8, _U16, _ANSWER, _R],
@@ -188,7 +189,7 @@ CALLS: Dict[str, List[Any]] = {
     "cf_desk_open_with": [_H, _H, _SIZE, c.POINTER(CDeskSizes)],
     "cf_desk_complete": [_H, _U16, CValue, _R],
     "cf_desk_fail": [_H, _U16, _U32, _R],
-    "cf_desk_fail_as": [_H, _U16, _U32, _R],
+    "cf_desk_fail_as": [_H, _U16, _U32, _U32, _R],
     "cf_desk_cancel": [_H, _U16, _R],
     "cf_desk_claim": [_H, _U16, _R],
     "cf_desk_finish_with": [_H, _U16, _ANSWER, _R],
@@ -246,7 +247,7 @@ CALLS: Dict[str, List[Any]] = {
     "cf_request_gather": [_H, c.POINTER(CGathering), _OF, _SIZE, *_TOLD],
     "cf_request_next": [_H, c.POINTER(CRequestStep), c.POINTER(CTask), *_TOLD],
     "cf_request_follow": [_H, _U16, _U16, *_TOLD, _SIZE_OUT],
-    "cf_request_deadline": [_H, _U16, _U64, _U32, CValue],
+    "cf_request_deadline": [_H, _U16, _U64, _U32, _U32, CValue],
     "cf_request_pass": [_H, _U64, *_TOLD, _SIZE_OUT],
     "cf_request_refuse": [_H, _U8, _U32, *_TOLD, _SIZE_OUT],
     "cf_request_told": [_H, *_TOLD, _SIZE_OUT],

@@ -43,11 +43,12 @@ class Fail:
 
 @dataclass(frozen=True)
 class FailAs:
-    """A caller settles a stage as timed out, or with a bad answer."""
+    """A caller settles a stage as timed out, or with a bad answer, with a code."""
 
     who: int
     stage: int
     failure: Failure
+    code: int = 0
 
 
 @dataclass(frozen=True)
@@ -113,7 +114,7 @@ def _event_in(event: Event) -> CEvent:
     elif isinstance(event, Fail):
         known.code = in_range(event.code, 2**32 - 1)
     elif isinstance(event, FailAs):
-        known.code = in_range(event.failure, 2**32 - 1)
+        known.kind, known.code = in_range(event.failure, 2**32 - 1), in_range(event.code, 2**32 - 1)
     elif isinstance(event, Finish):
         known.answer = answer_in(event.answer)
     return known
@@ -126,7 +127,7 @@ def _event_out(event: CEvent) -> Event:
     if call is Fail:
         return Fail(who, stage, event.code)
     if call is FailAs:
-        return FailAs(who, stage, Failure(event.code))
+        return FailAs(who, stage, Failure(event.kind), event.code)
     if call is Finish:
         return Finish(who, stage, answer_out(event.answer))
     if call is Tick:

@@ -115,10 +115,10 @@ class GraphCalls(Handle):
         """Settles a stage with a thrown code, and says whether it did."""
         return flag_out(self._do("fail", stage, code))
 
-    def fail_as(self, stage: int, failure: Failure) -> bool:
-        """Settles a stage as timed out, or, where it stands in for another, with a bad answer, and says whether it
-        did."""
-        return flag_out(self._do("fail_as", stage, failure))
+    def fail_as(self, stage: int, failure: Failure, code: int = 0) -> bool:
+        """Settles a stage as timed out, or, where it stands in for another, with a bad answer, with this code, and says
+        whether it did."""
+        return flag_out(self._do("fail_as", stage, failure, code))
 
     def cancel(self, stage: int) -> bool:
         """Cancels a stage, and says whether it is cancelled then."""

@@ -30,13 +30,13 @@ class Plan(Handle):
         """Adds a stage to these sources, and tells its number."""
         return self._call_for("cf_builder_stage", c.c_uint16(), form, numbers(of), len(of), function_in(function)).value
 
-    def timeout(self, stage: int, at: int) -> None:
-        """The stage times out at this moment, if it isn't settled by then."""
-        self._call("cf_builder_limit", stage, at, 0, value_in(None))
+    def timeout(self, stage: int, at: int, code: int = 0) -> None:
+        """The stage times out at this moment, with this code, if it isn't settled by then."""
+        self._call("cf_builder_limit", stage, at, 0, code, value_in(None))
 
     def complete_on_timeout(self, stage: int, at: int, value: Value) -> None:
         """The stage gets the value at this moment, if it isn't settled by then."""
-        self._call("cf_builder_limit", stage, at, 1, value_in(value))
+        self._call("cf_builder_limit", stage, at, 1, 0, value_in(value))
 
     def build(self) -> "Plan":
         """Makes it a plan, of which graphs and desks may be opened; opening one does it, too."""

@@ -2,7 +2,7 @@
 import enum
 from concurrent.futures import CancelledError
 from dataclasses import dataclass
-from typing import Any, Iterable, NamedTuple, Optional, Tuple, Union
+from typing import Any, Dict, Iterable, NamedTuple, Optional, Tuple, Type, Union
 
 from ._library import (
     BAD_ANSWER,
@@ -58,7 +58,7 @@ class Code(enum.IntEnum):
 
 
 class Failure(enum.IntEnum):
-    """A cause, other than a thrown code and a cancellation, with which a caller fails a stage."""
+    """A cause, other than a throw and a cancellation, with which a caller fails a stage. It has a code, too."""
 
     TIMED_OUT, BAD_ANSWER = 4, 5
 
@@ -80,10 +80,11 @@ class Misfit(Refused):
 
 
 class Fault(Exception):
-    """A stage ended in a fault; `wrapped` where it took it over from another stage. Two faults of one cause are
+    """A stage ended in a fault; `wrapped` where it took it over from another stage. Two faults of one cause and code are
     equal."""
 
     wrapped = False
+    code: int = 0
 
     def __eq__(self, other: object) -> bool:
         if not isinstance(other, Fault):
@@ -103,11 +104,20 @@ class Thrown(Fault):
 
 
 class TimedOut(Fault):
-    """A limit fired, or a caller failed the stage as timed out."""
+    """A limit fired, or a caller failed the stage as timed out. `code` is 0 where nobody gave one."""
+
+    def __init__(self, code: int = 0) -> None:
+        self.code: int = code
+        super().__init__(*([f"timed out {code}"] if code else []))
 
 
 class BadAnswer(Fault):
-    """A function answered what its form can't take, or a caller failed the stage as one that stands in for such."""
+    """A function answered what its form can't take, or a caller failed the stage as one that stands in for such. `code`
+    is 0 where nobody gave one."""
+
+    def __init__(self, code: int = 0) -> None:
+        self.code: int = code
+        super().__init__(*([f"bad answer {code}"] if code else []))
 
 
 class Cancelled(Fault, CancelledError):
@@ -237,11 +247,11 @@ def task_out(told: CTask) -> Optional[Task]:
     return Task(told.stage, told.function, args_out(told.args)) if told.held else None
 
 
-FAULTS = {CANCELLED: Cancelled, TIMED_OUT: TimedOut, BAD_ANSWER: BadAnswer}
+FAULTS: Dict[int, Type[Fault]] = {THROWN: Thrown, CANCELLED: Cancelled, TIMED_OUT: TimedOut, BAD_ANSWER: BadAnswer}
 
 
 def _fault_out(outcome: COutcome, wrapped: bool) -> Fault:
-    fault: Fault = Thrown(outcome.code) if outcome.kind == THROWN else FAULTS[outcome.kind]()
+    fault = Cancelled() if outcome.kind == CANCELLED else FAULTS[outcome.kind](outcome.code)
     fault.wrapped = wrapped
     return fault
 
@@ -260,9 +270,8 @@ def outcome_in(outcome: Optional[Outcome]) -> COutcome:
     fault = outcome.fault
     if fault is None:
         return COutcome(kind=VALUE, value=value_in(outcome.value))
-    if isinstance(fault, Thrown):
-        return COutcome(kind=THROWN, wrapped=fault.wrapped, code=in_range(fault.code, 2**32 - 1))
-    return COutcome(kind=next(kind for kind, cause in FAULTS.items() if isinstance(fault, cause)), wrapped=fault.wrapped)
+    kind = next(kind for kind, cause in FAULTS.items() if isinstance(fault, cause))
+    return COutcome(kind=kind, wrapped=fault.wrapped, code=in_range(fault.code, 2**32 - 1))
 
 
 def now_out(now: CNow) -> Now:

@@ -37,7 +37,7 @@ enum { DEEPER = 200, TRIES = 100 };
 /* How many machines of a plan are kept for its next requests: of requests of few stages, and of others, which have so many
  * stages at most. */
 enum { KEPT = 1024, FEW = 4, LARGE_KEPT = 32, MOST_KEPT = 256 };
-/* The kinds of words; and how a stage is failed with a bad answer, where by FAIL_AS it times out. */
+/* The kinds of words; and how a stage is failed with a bad answer, which is a FAIL_AS, too. */
 enum { COMPLETE = 1, FAIL = 2, CANCEL = 3, CLAIM = 4, FINISH = 5, ATTACH = 7, FAIL_AS = 8, FAIL_BADLY = 9 };
 enum { GIVING = 1, RAISING = 2, LINKING = 3 }; /* how a stage is finished: GIVES, THROWS and LINKS of words.py */
 #define KIND(kind) ((uint64_t)(kind) << 56)
@@ -46,7 +46,6 @@ enum { GIVING = 1, RAISING = 2, LINKING = 3 }; /* how a stage is finished: GIVES
 #define GIVES (1ULL << 32)
 #define THROWS (2ULL << 32)
 #define LINKS (3ULL << 32)
-#define BAD_ANSWER (1ULL << 32)
 
 static _Thread_local int caller;  /* which caller this thread is */
 static const uint8_t lanes[MOST]; /* each stage is of the only lane */
@@ -66,25 +65,21 @@ typedef struct {
 } State;
 
 /* A plan, which `owner` keeps, and machines of requests of it that are over, which start again for the next ones.
- * `numbers` are, of each of its stages, where its sources end, then of each its form, then all sources. */
+ * `forms` are those of its stages. */
 typedef struct {
   uint32_t many, most, stages;
   cf_handle *machines[KEPT], *plan;
   PyObject *owner;
-  uint16_t numbers[];
+  uint8_t forms[];
 } Pool;
 static const char POOL[] = "cf._cf.pool";
 
-/* What stands beside a stage. `told` is pending until the stage is settled. `error` is one more than the number of the
- * exception of a stage that timed out or has a bad answer, which its outcome doesn't tell; 0 where nobody gave one. `of`
- * are the stages from which it may have that: `many`, or those of the plan. `stage` is its future, which is held until
+/* What stands beside a stage. `told` is pending until the stage is settled. `stage` is its future, which is held until
  * all was told of it, and may be missing of a planned one. */
-enum { PLANNED = 3 };
 typedef struct {
   cf_outcome told;
-  uint32_t error;
-  uint16_t of[2], next_settled;
-  uint8_t many, form;
+  uint16_t next_settled;
+  uint8_t form;
   bool running;
   PyObject *stage;
 } Row;
@@ -121,15 +116,12 @@ typedef struct {
   PyObject *given, *call, *args, *kwargs, *callbacks, *condition, *waiters;
 } Stage;
 
-/* The stages that calls settled, as a list through their rows, and whether functions may have become ready. `error` is
- * the one that the stage `own` times out with by the next call, or has a bad answer with, as in its row. Those behind
- * it take that of their first source that has one. */
+/* The stages that calls settled, as a list through their rows, and whether functions may have become ready. */
 typedef struct {
-  uint16_t settled, last_settled, own;
+  uint16_t settled, last_settled;
   bool is_ready;
-  uint32_t error;
 } News;
-static const News NO_NEWS = {NONE, NONE, NONE, false, 0};
+static const News NO_NEWS = {NONE, NONE, false};
 
 /* Raises that a request has all the stages that it may have. */
 static PyObject *full(Request *self) {
@@ -170,9 +162,9 @@ static PyObject *item(PyObject *list, uint32_t number) {
 
 static PyObject *value_out(Request *self, cf_value value) { return item(self->values, value.kind ? (uint32_t)value.number : UINT32_MAX); }
 
-/* The exception that somebody gave for an outcome, with what its stage's row says of one; None where nobody did. */
-static PyObject *error_out(Request *self, cf_outcome outcome, uint32_t error) {
-  return item(self->errors, outcome.kind == CF_THROWN ? outcome.code : error - 1);
+/* The exception that somebody gave for an outcome; None where nobody did. */
+static PyObject *error_out(Request *self, cf_outcome outcome) {
+  return item(self->errors, outcome.kind == CF_THROWN || outcome.code ? outcome.code : UINT32_MAX);
 }
 
 static bool composes(long form) { return form == CF_COMPOSE || form == CF_EXCEPTIONALLY_COMPOSE; }
@@ -180,7 +172,7 @@ static bool gathers(long form) { return form == CF_ALL_OF || form == CF_ANY_OF; 
 
 /* Lets the future of a stage tell what its row does. */
 static void publish(Request *self, Stage *stage, const Row *row) {
-  stage->given = row->told.kind == CF_VALUE ? value_out(self, row->told.value) : error_out(self, row->told, row->error);
+  stage->given = row->told.kind == CF_VALUE ? value_out(self, row->told.value) : error_out(self, row->told);
   stage->is_cancelled = row->told.kind == CF_CANCELLED && !row->told.wrapped;
   stage->ended = (uint8_t)row->told.kind;
 }
@@ -208,18 +200,6 @@ static void stamp(Request *self, size_t words) {
   while (self->events < least) self->times[self->events++] = now.tv_sec * 1000000000LL + now.tv_nsec;
 }
 
-/* What the row of the first source says of an exception whose outcome is of this kind; 0 where none is. */
-static uint32_t error_of_sources(Request *self, uint16_t i, uint32_t kind) {
-  const Row *row = &self->rows[i];
-  const uint16_t *of = row->of, *end = of + row->many, *ends = self->pool->numbers;
-  if (row->many == PLANNED) {
-    of = ends + 2 * self->pool->stages + (i ? ends[i - 1] : 0);
-    end = ends + 2 * self->pool->stages + ends[i];
-  }
-  while (of < end && self->rows[*of].told.kind != kind) of++;
-  return of < end ? self->rows[*of].error : 0;
-}
-
 /* Writes down a call that did so many words, and told so many stages. */
 static void note(Request *self, size_t words, size_t n, News *news) {
   stamp(self, words);
@@ -227,10 +207,6 @@ static void note(Request *self, size_t words, size_t n, News *news) {
     const cf_told *told = &self->state->told[k];
     Row *row = &self->rows[told->stage];
     row->told = told->outcome;
-    bool has_code = row->told.kind != CF_TIMED_OUT && row->told.kind != CF_BAD_ANSWER;
-    if (has_code) row->error = 0;
-    else if (told->stage == news->own && news->error) row->error = news->error;
-    else if (row->told.wrapped || !row->error) row->error = error_of_sources(self, told->stage, row->told.kind);
     if (row->stage) publish(self, (Stage *)row->stage, row);
     row->next_settled = NONE;
     if (news->last_settled == NONE) news->settled = told->stage;
@@ -240,13 +216,11 @@ static void note(Request *self, size_t words, size_t n, News *news) {
   news->is_ready |= n > 0;
 }
 
-/* Does a word, and adds what it settled to the news. The code of the library. If the word came too late for the stage
- * `own`, that has no exception by it, though it may be told now what it was settled with before. */
+/* Does a word, and adds what it settled to the news. The code of the library. */
 static uint32_t apply(Request *self, uint64_t word, cf_reply *reply, News *news) {
   cf_applied applied;
   uint32_t code = cf_request_apply(self->machine, word, 0, &applied, self->state->told, MOST);
   if (code) return code;
-  if (!applied.reply.answer) news->error = 0;
   note(self, 1, applied.told, news);
   *reply = applied.reply;
   return CF_OK;
@@ -551,7 +525,7 @@ static int Request_init(Request *self, PyObject *args, PyObject *Py_UNUSED(kwarg
     refused(self, code);
     return -1;
   }
-  for (uint32_t i = 0; i < stages; i++) rows[i] = (Row){.many = PLANNED, .form = (uint8_t)pool->numbers[stages + i]};
+  for (uint32_t i = 0; i < stages; i++) rows[i].form = pool->forms[i];
   self->values = values;
   self->errors = errors;
   self->room = stages + room;
@@ -708,10 +682,7 @@ static PyObject *attach(Request *self, long form, const uint16_t *of, size_t n, 
     Py_DECREF(stage);
     return refused(self, code);
   }
-  for (uint32_t k = relays; k < many; k++)
-    self->rows[at + k] = (Row){
-        .form = (uint8_t)form, .many = n < 2 ? (uint8_t)n : 2, .of = {k > relays ? (uint16_t)(at + k - 1) : of[0], of[k - relays + 1]}};
-  if (relays) self->rows[at] = (Row){.form = CF_SOURCE};
+  for (uint32_t k = 0; k < many; k++) self->rows[at + k] = (Row){.form = k < relays ? CF_SOURCE : (uint8_t)form};
   self->stages += many;
   stage->number = (uint16_t)last;
   stage->form = (uint8_t)form;
@@ -767,16 +738,13 @@ static PyObject *Request_change(Request *self, PyObject *const *args, Py_ssize_t
   cf_reply reply;
   if (who < 0 || (kind == COMPLETE && value_in(self, args[3], &low))) return NULL;
   if (kind == FAIL || kind >= FAIL_AS) {
-    if (kept(self->errors, args[3], &number)) return NULL;
-    if (kind == FAIL) low = number;
-    else {
-      news.error = number + 1;
-      news.own = (uint16_t)stage;
-    }
-    if (kind == FAIL_BADLY) {
-      kind = FAIL_AS;
-      low = BAD_ANSWER;
-    }
+    bool is_first = kind >= FAIL_AS && !PyList_GET_SIZE(self->errors); /* 0 is the code of those that have none */
+    if ((is_first && kept(self->errors, Py_None, &number)) || kept(self->errors, args[3], &number)) return NULL;
+    low = number;
+  }
+  if (kind >= FAIL_AS) {
+    low |= (uint64_t)(kind - FAIL_AS) << 32;
+    kind = FAIL_AS;
   }
   const Row *row = &self->rows[stage];
   if (kind == CANCEL && args[3] == Py_True && row->stage && ((Stage *)row->stage)->running && !row->told.kind) Py_RETURN_FALSE;
@@ -784,25 +752,6 @@ static PyObject *Request_change(Request *self, PyObject *const *args, Py_ssize_t
   if (code) return refused(self, code);
   if (tell(self, news)) return NULL;
   return PyBool_FromLong(reply.answer);
-}
-
-/* _set_failure_source(stage, other, code): if a stage times out from now on, or has a bad answer, it has that by another one or with
- * an exception, whose numbers these are; -1 stands for neither. */
-static PyObject *Request_takes(Request *self, PyObject *const *args, Py_ssize_t n) {
-  if (n != 3) return PyErr_Format(PyExc_TypeError, "_set_failure_source takes 3");
-  int stage = stage_in(self, args[0]);
-  long other = stage < 0 ? -1 : PyLong_AsLong(args[1]), code = PyErr_Occurred() ? -1 : PyLong_AsLong(args[2]);
-  if (PyErr_Occurred()) return NULL;
-  if (other >= (long)self->stages || code >= PyList_GET_SIZE(self->errors))
-    return PyErr_Format(PyExc_IndexError, "no such stage or exception");
-  Row *row = &self->rows[stage];
-  if (other >= 0) {
-    row->many = 1;
-    row->of[0] = (uint16_t)other;
-  }
-  if (code >= 0 && !row->told.kind) row->error = (uint32_t)code + 1;
-  self->counts = true;
-  Py_RETURN_NONE;
 }
 
 /* _add_error(error), _add_value(value): the number of an exception or a value. */
@@ -814,8 +763,8 @@ static PyObject *Request_code(Request *self, PyObject *error) { return number_of
 static PyObject *Request_keep(Request *self, PyObject *value) { return number_of(self->values, value); }
 
 /* The exception that a function is told which takes one: None where there is a value. */
-static PyObject *error_told(Request *self, uint16_t i, cf_outcome got) {
-  PyObject *given = error_out(self, got, got.kind == CF_VALUE ? 0 : error_of_sources(self, i, got.kind));
+static PyObject *error_told(Request *self, cf_outcome got) {
+  PyObject *given = error_out(self, got);
   if (given != Py_None || got.kind == CF_VALUE) return given;
   Py_DECREF(given);
   return PyObject_CallMethod((PyObject *)self, "_default_error", "I", got.kind);
@@ -848,7 +797,7 @@ static Called to_call(Request *self, uint16_t i, const cf_args *args) {
   if (args->kind == CF_TWO) given[many++] = value_out(self, args->second);
   if (args->kind == CF_GOT && form != CF_EXCEPTIONALLY && form != CF_EXCEPTIONALLY_COMPOSE)
     given[many++] = value_out(self, got.kind == CF_VALUE ? got.value : (cf_value){0});
-  if (args->kind == CF_GOT) given[many++] = error_told(self, i, got);
+  if (args->kind == CF_GOT) given[many++] = error_told(self, got);
   if (!it.args && (!many || given[many - 1])) it.args = PyTuple_Pack(many, given[0], given[1]);
   Py_XDECREF(given[0]);
   Py_XDECREF(given[1]);
@@ -896,12 +845,7 @@ static int end(Request *self, uint16_t i, int who, long kind, PyObject *given, i
     if (kept(self->errors, given, &number)) return -1;
     low = THROWS | number;
   }
-  if (kind == LINKING) {
-    Row *row = &self->rows[i];
-    row->many = 1; /* it takes that one's exception */
-    row->of[0] = ((Stage *)given)->number;
-    low = LINKS | row->of[0];
-  }
+  if (kind == LINKING) low = LINKS | ((Stage *)given)->number;
   uint32_t code = apply(self, KIND(FINISH) | WHO(who) | OF(i) | low, &reply, &news);
   if (code) {
     refused(self, code);
@@ -1025,7 +969,6 @@ static PyObject *Request_at(Request *self, void *Py_UNUSED(which)) {
 static PyMethodDef request_methods[] = {{"_attach", FAST(Request_attach), METH_FASTCALL, "Attaches a stage."},
     {"_attach_all", FAST(Request_attach_all), METH_FASTCALL, "Attaches stages that wait for all of some, or for one."},
     {"_change", FAST(Request_change), METH_FASTCALL, "Completes, fails or cancels a stage."},
-    {"_set_failure_source", FAST(Request_takes), METH_FASTCALL, "Lets a stage have another one's exception, or this one."},
     {"_add_error", (PyCFunction)Request_code, METH_O, "The number of an exception."},
     {"_add_value", (PyCFunction)Request_keep, METH_O, "The number of a value."}, {"_run", (PyCFunction)Request_run, METH_O, "Uses a turn."},
     {"_work", (PyCFunction)Request_work, METH_O, "Runs all that is ready."},
@@ -1170,34 +1113,31 @@ static void empty_pool(PyObject *capsule) {
   PyMem_Free(pool);
 }
 
-/* pool(owner, at, most, stages, numbers): the Pool of a plan, by the address of its handle and who keeps that. */
+/* pool(owner, at, most, forms): the Pool of a plan, by the address of its handle, who keeps that, and the form of each
+ * stage. */
 static PyObject *pool_of(PyObject *Py_UNUSED(module), PyObject *args) {
   PyObject *owner, *at;
-  unsigned int most, stages;
-  const char *numbers;
-  Py_ssize_t size;
-  if (!PyArg_ParseTuple(args, "OOIIy#", &owner, &at, &most, &stages, &numbers, &size)) return NULL;
+  unsigned int most;
+  const char *forms;
+  Py_ssize_t stages;
+  if (!PyArg_ParseTuple(args, "OOIy#", &owner, &at, &most, &forms, &stages)) return NULL;
   void *plan = PyLong_AsVoidPtr(at);
-  uint32_t edges = (uint32_t)size / 2 - 2 * stages, begin = 0;
-  bool is_right = plan && most <= MOST && stages <= most && size >= 4 * (Py_ssize_t)stages;
-  Pool *pool = is_right ? PyMem_Calloc(1, sizeof *pool + (size_t)size) : NULL;
-  if (pool) {
-    pool->most = most;
-    pool->stages = stages;
-    pool->plan = plan;
-    memcpy(pool->numbers, numbers, (size_t)size);
-  } else if (is_right) return PyErr_NoMemory();
-  for (uint32_t i = 0; is_right && i < stages; begin = pool->numbers[i++]) {
-    const uint16_t *its = &pool->numbers[i], *of = &pool->numbers[2 * stages];
-    is_right = begin <= *its && *its <= edges && its[stages] <= CF_EXCEPTIONALLY_COMPOSE;
-    for (uint32_t k = begin; is_right && k < *its; k++) is_right = of[k] < i;
+  bool is_right = plan && most <= MOST && stages <= (Py_ssize_t)most;
+  for (Py_ssize_t i = 0; is_right && i < stages; i++) is_right = (uint8_t)forms[i] <= CF_EXCEPTIONALLY_COMPOSE;
+  if (!is_right) return PyErr_Occurred() ? NULL : PyErr_Format(PyExc_TypeError, "no plan");
+  Pool *pool = PyMem_Calloc(1, sizeof *pool + (size_t)stages);
+  if (!pool) return PyErr_NoMemory();
+  PyObject *made = PyCapsule_New(pool, POOL, empty_pool);
+  if (!made) {
+    PyMem_Free(pool);
+    return NULL;
   }
-  PyObject *made = is_right ? PyCapsule_New(pool, POOL, empty_pool) : NULL;
-  if (made) {
-    Py_INCREF(owner);
-    pool->owner = owner;
-  } else PyMem_Free(pool);
-  if (!is_right && !PyErr_Occurred()) PyErr_SetString(PyExc_TypeError, "no plan");
+  pool->most = most;
+  pool->stages = (uint32_t)stages;
+  pool->plan = plan;
+  memcpy(pool->forms, forms, (size_t)stages);
+  Py_INCREF(owner);
+  pool->owner = owner;
   return made;
 }
 

@@ -59,6 +59,7 @@ class Callers(DeskCase):
             (lambda: self.one.fail(self.source, 9), cf.Thrown(9)),
             (lambda: self.one.cancel(self.source), cf.Cancelled()),
             (lambda: self.one.fail_as(self.source, cf.Failure.TIMED_OUT), cf.TimedOut()),
+            (lambda: self.one.fail_as(self.source, cf.Failure.BAD_ANSWER, 9), cf.BadAnswer(9)),
         ]:
             with self.subTest(fault=fault):
                 self.setUp()
@@ -149,7 +150,9 @@ class Words(unittest.TestCase):
             (Finish(5, 7, cf.Link(9)), 5 << 56 | head | 3 << 32 | 9),
             (Tick(5, 70), 6 << 56 | 5 << 48 | 70),
             (FailAs(5, 7, cf.Failure.TIMED_OUT), 8 << 56 | head),
+            (FailAs(5, 7, cf.Failure.TIMED_OUT, 9), 8 << 56 | head | 9),
             (FailAs(5, 7, cf.Failure.BAD_ANSWER), 8 << 56 | head | 1 << 32),
+            (FailAs(5, 7, cf.Failure.BAD_ANSWER, 2**32 - 1), 8 << 56 | head | 1 << 32 | 0xFFFFFFFF),
         ]:
             with self.subTest(event=event):
                 self.assertEqual((hex(cf.word_of(event)), cf.event_of(word)), (hex(word), event))

@@ -95,24 +95,25 @@ class Steps(unittest.TestCase):
 
     def test_timed_out_and_with_a_bad_answer(self):
         for tag, (failure, fault) in enumerate([(cf.Failure.TIMED_OUT, cf.TimedOut), (cf.Failure.BAD_ANSWER, cf.BadAnswer)]):
-            ledger, event = cf.Ledger(self.plan), FailAs(WORKER, self.source, failure)
-            word = FAIL_AS << 56 | WORKER << 48 | self.source << 36 | tag << 32
+            ledger, event = cf.Ledger(self.plan), FailAs(WORKER, self.source, failure, 7)
+            word = FAIL_AS << 56 | WORKER << 48 | self.source << 36 | tag << 32 | 7
             self.assertEqual((cf.word_of(event), cf.event_of(word)), (word, event))
             told = ledger.apply_event(event)
             self.assertEqual((told.reply, len(told.news)), (True, ledger.stages()))
-            self.assertEqual([(type(it.outcome.fault), it.outcome.fault.wrapped) for it in told.news], [(fault, it.number > 0) for it in told.news])
+            faults = [(type(it.outcome.fault), it.outcome.fault.code, it.outcome.fault.wrapped) for it in told.news]
+            self.assertEqual(faults, [(fault, 7, it.number > 0) for it in told.news])
             self.assertEqual(ledger.apply_event(event), cf.EventResult(False, []))
             self.assertEqual(self.stages(cf.Ledger.from_words(self.plan, [word])), self.stages(ledger))
         for wrong in (0, 3, 6):
             with self.assertRaises(cf.Refused) as refused:
                 cf.word_of(FailAs(WORKER, 0, wrong))
             self.assertEqual(refused.exception.code, cf.Code.NO_SUCH_NUMBER)
-        for word in (FAIL_AS << 56 | 2 << 32, FAIL_AS << 56 | 1):
-            with self.assertRaises(cf.Refused) as refused:
-                cf.event_of(word)
-            self.assertEqual(refused.exception.code, cf.Code.NO_WORD)
-        with self.assertRaises(OverflowError):
-            cf.word_of(FailAs(WORKER, 0, -1))
+        with self.assertRaises(cf.Refused) as refused:
+            cf.event_of(FAIL_AS << 56 | 2 << 32)
+        self.assertEqual(refused.exception.code, cf.Code.NO_WORD)
+        for wrong in (FailAs(WORKER, 0, -1), FailAs(WORKER, 0, cf.Failure.TIMED_OUT, -1), FailAs(WORKER, 0, cf.Failure.TIMED_OUT, 2**32)):
+            with self.assertRaises(OverflowError):
+                cf.word_of(wrong)
 
     def test_refused_steps_change_nothing(self):
         self.ledger.apply_event(Complete(0, self.source, 1))

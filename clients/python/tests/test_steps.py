@@ -57,11 +57,14 @@ class Graphs(unittest.TestCase):
 
     def test_timed_out_and_with_a_bad_answer(self):
         for failure, fault in [(cf.Failure.TIMED_OUT, cf.TimedOut), (cf.Failure.BAD_ANSWER, cf.BadAnswer)]:
-            plan, last = chain(1)
-            graph = cf.Graph(plan)
-            self.assertEqual((graph.fail_as(0, failure), graph.fail_as(0, failure)), (True, False))
-            faults = [graph.outcome(stage).fault for stage in (0, last)]
-            self.assertEqual([(type(it), it.wrapped) for it in faults], [(fault, False), (fault, True)])
+            for code in (0, 7, 2**32 - 1):
+                plan, last = chain(1)
+                graph = cf.Graph(plan)
+                self.assertEqual((graph.fail_as(0, failure, code), graph.fail_as(0, failure, 8)), (True, False))
+                faults = [graph.outcome(stage).fault for stage in (0, last)]
+                self.assertEqual([(type(it), it.code, it.wrapped) for it in faults], [(fault, code, False), (fault, code, True)])
+            with self.assertRaises(OverflowError):
+                graph.fail_as(0, failure, 2**32)
             for stage, wrong, code in [(0, 3, Code.NO_SUCH_NUMBER), (9, failure, Code.NO_STAGE)]:
                 with self.assertRaises(cf.Refused) as refused:
                     graph.fail_as(stage, wrong)
@@ -152,17 +155,18 @@ class Desks(unittest.TestCase):
         with plan.open_desk(2, 8, 8) as desk:
             one, other = desk.callers
             self.assertEqual(
-                (one.fail_as(0, cf.Failure.TIMED_OUT), other.fail_as(2, cf.Failure.BAD_ANSWER), other.fail_as(0, cf.Failure.BAD_ANSWER)),
+                (one.fail_as(0, cf.Failure.TIMED_OUT), other.fail_as(2, cf.Failure.BAD_ANSWER, 7), other.fail_as(0, cf.Failure.BAD_ANSWER)),
                 (True, True, False),
             )
             with self.assertRaises(cf.Refused) as refused:
                 one.fail_as(0, 2)
             self.assertEqual(refused.exception.code, Code.NO_SUCH_NUMBER)
             closed = desk.close()
-            event = cf.events.FailAs(1, 2, cf.Failure.BAD_ANSWER)
+            event = cf.events.FailAs(1, 2, cf.Failure.BAD_ANSWER, 7)
             self.assertEqual((closed.records(1)[0].event, closed.records(1)[0].reply), (event, True))
             graph = closed.graph()
-        self.assertEqual([type(graph.outcome(stage).fault) for stage in range(3)], [cf.TimedOut, cf.TimedOut, cf.BadAnswer])
+        faults = [graph.outcome(stage).fault for stage in range(3)]
+        self.assertEqual([(type(it), it.code) for it in faults], [(cf.TimedOut, 0), (cf.TimedOut, 0), (cf.BadAnswer, 7)])
 
     def test_completes_a_row_up_to_what_is_refused(self):
         plan = cf.Plan()

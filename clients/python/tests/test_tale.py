@@ -27,7 +27,7 @@ def plan_of(case):
         plan.stage(Form(FORMS.index(stage["form"])), *stage.get("of", []), function=number if stage.get("fn") else None)
     for limit in case.get("limits", []):
         if limit["kind"] == "timeout":
-            plan.timeout(limit["stage"], limit["at"])
+            plan.timeout(limit["stage"], limit["at"], limit.get("code", 0))
         else:
             plan.complete_on_timeout(limit["stage"], limit["at"], limit["value"])
     return plan

@@ -151,10 +151,11 @@ if TYPE_CHECKING:
         typed_ledger.apply_all([1, 2])
         typed_ledger.restart()
         typed_ledger.step(3, answer="x")  # type: ignore[arg-type]
-        event: cf.Event = cf.events.FailAs(3, 0, cf.Failure.TIMED_OUT)
-        late: bool = cf.Graph(plan).fail_as(0, cf.Failure.BAD_ANSWER)
+        event: cf.Event = cf.events.FailAs(3, 0, cf.Failure.TIMED_OUT, 7)
+        late: bool = cf.Graph(plan).fail_as(0, cf.Failure.BAD_ANSWER, code=7)
+        fault: cf.Fault = cf.BadAnswer(7 + cf.TimedOut().code)
         cf.Graph(plan).fail_as(0, "timeout")  # type: ignore[arg-type]
-        print(event, late)
+        print(event, late, fault)
         print(args, news)
 
 

@@ -70,20 +70,23 @@ if hasattr(os, "register_at_fork"):
 
 
 class Limit:
-    """The time limit of a stage: it gives a value of this number (below 0 for None), or an exception that names the
-    seconds."""
+    """The time limit of a stage: it gives a value, or an exception that names the seconds. `number` is that of the value or
+    the exception until it is handed out, and then, or where it gives None, below 0."""
 
     __slots__ = ("stage", "gives", "is_value", "number", "moment")
 
     def __init__(self, stage: "Stage[Any]", gives: Any, is_value: bool, number: int) -> None:
         self.stage, self.gives, self.is_value, self.number, self.moment = stage, gives, is_value, number, -1
 
-    def release(self, _settled: object = None) -> None:
-        """Forgets the limit of a settled stage, and with the last one the request's alarm."""
+    def release(self, settled: object = None) -> None:
+        """Forgets the limit of a settled stage, and with the last one the request's alarm. The number of an exception
+        that wasn't handed out is free then."""
         request = self.stage.request
         limits = request._limits
         if limits.get(self.moment) is self:
             del limits[self.moment]
+            if settled is not None and not self.is_value and self.number >= 0:
+                limits.free.append(self.number)
         if not limits:
             request._works.clock.drop_alarm(request)
 
@@ -94,9 +97,21 @@ class Limits(Dict[int, Limit]):
 
     Attributes:
         passed: The moment up to which time has passed.
-        alarm: The clock's own: the moment and the number of the request's alarm."""
+        alarm: The clock's own: the moment and the number of the request's alarm.
+        free: Numbers of exceptions that limits had which never came."""
 
     passed, alarm = -1, (0, -1)
+
+    def __init__(self) -> None:
+        super().__init__()
+        self.free: List[int] = []
+
+    def free_number(self) -> int:
+        """Takes a number that is free, or 0 where none is."""
+        try:
+            return self.free.pop()
+        except IndexError:
+            return 0
 
     def add(self, limit: Limit, moment: int) -> None:
         """Keeps a limit by this moment, or by the next one that is free and hasn't passed. Another thread may let time
@@ -130,7 +145,7 @@ class MachineCalls:
         _plan: Optional[PlanCore]
         _names: List[str]
         _values: List[Any]
-        _errors: List[BaseException]
+        _errors: List[Optional[BaseException]]  # None for that of a time limit that hasn't come
         _times: Any  # of each word, in nanoseconds, as a buffer
         _turns: int
         _counts: bool  # whether words are counted, as the machine may have done some by itself
@@ -139,16 +154,13 @@ class MachineCalls:
         def _at(self) -> int:
             """The address of the machine's handle."""
 
-        def _add_error(self, error: BaseException) -> int:
+        def _add_error(self, error: Optional[BaseException]) -> int:
             ...
 
         def _add_value(self, value: Any) -> int:
             ...
 
         def _attach_all(self, form: int, of: bytes, name: str) -> "Stage[Any]":
-            ...
-
-        def _set_failure_source(self, stage: int, other: int, code: int) -> None:
             ...
 
         def _link(self, stage: "Stage[Any]", who: int, to: Any) -> bool:
@@ -182,6 +194,12 @@ class MachineCalls:
             raise TypeError("no stage of this request")
         return self._attach_all(form, array("H", [source.number for source in of]).tobytes(), name)
 
+    def _add_failure(self, error: Optional[BaseException]) -> int:
+        """The number of the exception of a time-out or a bad answer. It isn't 0, the code of one that has none."""
+        if not self._errors:
+            self._add_error(None)
+        return self._add_error(error)
+
     @staticmethod
     def _default_error(kind: int) -> BaseException:
         """A new exception for an outcome of this kind."""
@@ -201,7 +219,7 @@ class MachineCalls:
     def _follow_within(self, relay: int, number: int) -> None:
         """Lets a relay end as another stage of this request does."""
         with self._lock:
-            self._set_failure_source(relay, number, -1)
+            self._counts = True
             check(_follow(self._at, relay, number, _untold, 0, _many))
         self._announce_settled()
 
@@ -229,8 +247,10 @@ class MachineCalls:
         If it raises, nothing has changed."""
         clock: Any = self._works.clock
         limits, number = self._limits if hasattr(self, "_limits") else self._first_limits(), -1
-        if is_value and gives is not None:
-            with self._lock:
+        with self._lock:
+            if not is_value:
+                number = limits.free_number() or self._add_failure(None)
+            elif gives is not None:
                 number = self._add_value(None)
         limit = Limit(stage, gives if is_value else seconds, is_value, number)
         limits.add(limit, clock.now(self) + int(min(max(seconds, 0), _LONGEST) * 1e9))
@@ -239,7 +259,7 @@ class MachineCalls:
             stage.add_done_callback(limit.release)
             given = _NIL if number < 0 else CValue(1, number)
             with self._lock:
-                check(_deadline(self._at, stage.number, limit.moment, is_value, given))
+                check(_deadline(self._at, stage.number, limit.moment, is_value, 0 if is_value else number, given))
         except BaseException:
             limit.release()
             raise
@@ -257,10 +277,10 @@ class MachineCalls:
         stages, and asks the clock for the next alarm."""
         limits = self._limits
         now = limits.passed = max(now, limits.passed)
-        due = sorted(moment for moment in list(limits) if moment <= now)
         with self._lock:
-            for moment in reversed(due):  # (of two of one stage the first one decides)
-                self._hand_out(limits.get(moment))
+            for moment in list(limits):
+                if moment <= now:
+                    self._hand_out(limits.get(moment))
             self._counts = True
             check(_pass(self._at, now, _untold, 0, _many))
         try:
@@ -271,11 +291,14 @@ class MachineCalls:
                 clock.ask_for_alarm(self, min(left))
 
     def _hand_out(self, limit: Optional[Limit]) -> None:
-        """Provides the value or the exception of a limit for its stage. The lock is held."""
-        if limit is not None and not limit.is_value:
-            self._set_failure_source(limit.stage.number, -1, self._add_error(limit.stage._timed_out(limit.gives)))
-        elif limit is not None and limit.number >= 0:
+        """Provides the value or the exception of a limit, once. The lock is held."""
+        if limit is None or limit.number < 0:
+            return
+        if limit.is_value:
             self._values[limit.number] = limit.gives
+        else:
+            self._errors[limit.number] = limit.stage._timed_out(limit.gives)
+        limit.number = -1
 
     def _ready_stages(self) -> List[int]:
         """The stages whose functions are ready."""
@@ -306,7 +329,7 @@ class MachineCalls:
         check(_words(self._at, 0, words.buffer_info()[0], many.value, c.addressof(many)))
         return words[: many.value]
 
-    def _facts(self) -> "Tuple[array[int], array[int], List[str], List[Any], List[BaseException]]":
+    def _facts(self) -> "Tuple[array[int], array[int], List[str], List[Any], List[Optional[BaseException]]]":
         """The words, the time of each in nanoseconds, and names, values and errors. Words that the machine did to a
         relay by itself have RELAY as caller."""
         with self._lock:

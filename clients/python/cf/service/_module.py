@@ -2,10 +2,8 @@
 import contextlib
 import os
 import threading
-from array import array
 from concurrent.futures import CancelledError, TimeoutError
 from concurrent.futures import _base
-from itertools import accumulate, chain
 from typing import TYPE_CHECKING, Any, Callable, ContextManager, Optional, Sequence, Tuple
 
 from .. import _cf
@@ -30,10 +28,8 @@ class PlanCore(_machine.PlanCore):
 
     def __init__(self, rows: "Sequence[Tuple[int, Tuple[int, ...], Optional[Callable[..., Any]], str]]") -> None:
         super().__init__(rows)
-        forms, sources, calls, names = zip(*self.rows) if self.rows else ((), (), (), ())
-        # Of each stage where its sources end, then of each its form, then all sources.
-        numbers = array("H", chain(accumulate(map(len, sources)), forms, *sources))
-        self.kept = _cf.pool(self._plan, self.at, self.most, len(self.rows), numbers.tobytes()), calls, list(names)
+        forms, _, calls, names = zip(*self.rows) if self.rows else ((), (), (), ())
+        self.kept = _cf.pool(self._plan, self.at, self.most, bytes(forms)), calls, list(names)
 
 
 _nothing = PlanCore([])

@@ -19,7 +19,7 @@ from array import array
 from concurrent.futures import Future
 from concurrent.futures._base import CANCELLED_AND_NOTIFIED, FINISHED, RUNNING
 from time import monotonic_ns
-from typing import TYPE_CHECKING, Any, Callable, Dict, List, Optional, Sequence, Tuple
+from typing import TYPE_CHECKING, Any, Callable, Dict, List, Optional, Tuple
 
 from .._library import CApplied, CGathering, CHandle, CRequestSizes, CRequestStep, CStage, CTask, CTold
 from ..values import Code, Form, Refused, check
@@ -36,8 +36,6 @@ from .words import (
     COMPOSE_FORMS,
     FAIL,
     FAIL_AS,
-    FAIL_BADLY,
-    FAILURES,
     FINISH,
     GIVES,
     GOT,
@@ -174,15 +172,12 @@ if hasattr(os, "register_at_fork"):
 
 class _StageRow:
     """What a request keeps of a stage. `stage` is its future until it is settled; a planned stage may have none. `kind`
-    is the kind of its outcome. `error` is the number of the exception of a stage that timed out or has a bad answer, or
-    None. `of` are the stages that it may inherit that exception from."""
+    is the kind of its outcome."""
 
-    __slots__ = ("form", "of", "stage", "kind", "error", "running")
+    __slots__ = ("form", "stage", "kind", "running")
 
-    def __init__(self, form: int, of: Sequence[int], stage: "Optional[Stage[Any]]" = None) -> None:
-        self.form, self.of, self.stage = form, of, stage
-        self.kind, self.running = PENDING, False
-        self.error: Optional[int] = None
+    def __init__(self, form: int, stage: "Optional[Stage[Any]]" = None) -> None:
+        self.form, self.stage, self.kind, self.running = form, stage, PENDING, False
 
 
 if TYPE_CHECKING:
@@ -263,8 +258,7 @@ class StageCore(_Future):
             elif told.kind == CANCELLED and not told.wrapped:
                 self._state, note = CANCELLED_AND_NOTIFIED, "add_cancelled"
             else:
-                error = self.request._error(told, self.request._rows[self.number].error)
-                self._exception, self._state, note = error, FINISHED, "add_exception"
+                self._exception, self._state, note = self.request._error(told), FINISHED, "add_exception"
             for waiter in self._waiters:
                 getattr(waiter, note)(self)
             self._condition.notify_all()
@@ -359,12 +353,12 @@ class RequestCore(MachineCalls):
     def __init__(self, works: "Works", title: str, room: int, keeps: object = None, plan: Optional[PlanCore] = None) -> None:
         self._works, self._title, self._keeps, self._plan = works, title, keeps, plan
         self._lock: "threading.Lock | _LockOfParent" = threading.Lock()
-        self._rows: List[_StageRow] = [] if plan is None else [_StageRow(form, of) for form, of, _, _ in plan.rows]
+        self._rows: List[_StageRow] = [] if plan is None else [_StageRow(form) for form, _, _, _ in plan.rows]
         self._names: List[str] = [] if plan is None else [name for _, _, _, name in plan.rows]
         self._most = (plan or _nothing).most
         self._machine = _Machine(plan, min(max(room, plan is None), self._most - len(self._rows)))
         self._values: List[Any] = []
-        self._errors: List[BaseException] = []
+        self._errors: List[Optional[BaseException]] = []
         self._times, self._counts, self._turns, self._chooses = array("q"), False, 0, False
         if plan is not None:
             self._take_in_settled(self._machine.load_more_settled(), [])
@@ -392,16 +386,15 @@ class RequestCore(MachineCalls):
 
     # One call of the machine, under the lock.
 
-    def _apply(self, word: int, settled: "List[Stage[Any]]", error: Optional[int] = None) -> memoryview:
-        """Does a word, and shows the stages that it settled. `error` is the number of the exception for a stage that the
-        word times out or gives a bad answer. A word that comes too late doesn't set it."""
+    def _apply(self, word: int, settled: "List[Stage[Any]]") -> memoryview:
+        """Does a word, and shows the stages that it settled."""
         machine = self._machine
         code = _apply(machine.at, word, 0, machine.applied, machine.told, ROWS)
         if code:
             check(code)
         self._note_times(1)
         if machine.numbers[_APPLIED_TOLD]:
-            self._take_in_settled(machine.numbers[_APPLIED_TOLD], settled, word >> 36 & 4095, error if machine.numbers[_REPLY + ANSWER] else None)
+            self._take_in_settled(machine.numbers[_APPLIED_TOLD], settled)
         return machine.numbers
 
     def _attach_row(self, row: _StageRow, name: str, word: int, settled: "List[Stage[Any]]") -> None:
@@ -423,10 +416,8 @@ class RequestCore(MachineCalls):
             words = self._machine.words_from(len(self._times))
         self._times.extend([monotonic_ns()] * words)
 
-    def _take_in_settled(self, many: int, settled: "List[Stage[Any]]", own: int = -1, error: Optional[int] = None) -> None:
-        """Publishes the outcomes of these stages, and adds the stages to `settled`. The stage `own` gets the exception of
-        the number `error`. A stage that timed out by its limit has one already. The stages behind inherit it from their
-        first source that has one."""
+    def _take_in_settled(self, many: int, settled: "List[Stage[Any]]") -> None:
+        """Publishes the outcomes of these stages, and adds the stages to `settled`."""
         machine, rows = self._machine, self._rows
         while many:
             told = machine.numbers[_TOLD : _TOLD + _TOLD_NUMBERS * min(many, ROWS)].tolist()
@@ -434,21 +425,11 @@ class RequestCore(MachineCalls):
                 number, outcome = told[k] & 0xFFFF, OutcomeNumbers(*told[k + 1 : k + 6])
                 row = rows[number]
                 row.kind = outcome.kind
-                if outcome.kind not in FAILURES:
-                    row.error = None
-                elif number == own and error is not None:
-                    row.error = error
-                elif outcome.wrapped or row.error is None:
-                    row.error = self._error_of(row, outcome.kind)
                 stage, row.stage = row.stage, None
                 if stage is not None:
                     stage._publish(outcome)
                     settled.append(stage)
             many = machine.load_more_settled() if many > ROWS else 0
-
-    def _error_of(self, row: _StageRow, kind: int) -> Optional[int]:
-        """The number of the exception of the first source with an outcome of this kind."""
-        return next((self._rows[source].error for source in row.of if self._rows[source].kind == kind), None)
 
     @staticmethod
     def _show_running(row: _StageRow) -> None:
@@ -482,11 +463,11 @@ class RequestCore(MachineCalls):
             if len(self._rows) + 1 + composes > self._most:
                 self._refuse_stage()
             if composes:
-                self._attach_row(_StageRow(Form.SOURCE, ()), "relay", ATTACH << 56 | _here.who << 48, settled)
+                self._attach_row(_StageRow(Form.SOURCE), "relay", ATTACH << 56 | _here.who << 48, settled)
             stage.number = number = len(self._rows)
             sources = (*of, 0, 0)
             self._attach_row(
-                _StageRow(form, of, stage),
+                _StageRow(form, stage),
                 name,
                 ATTACH << 56 | _here.who << 48 | sources[0] << 36 | len(of) << 32 | form << 24 | sources[1] << 12 | (0 if call is None else number),
                 settled,
@@ -515,9 +496,7 @@ class RequestCore(MachineCalls):
                     machine.grow()
             check(code)
             stage.number = at + many - 1
-            self._rows += [
-                _StageRow(form, numbers[:2] if not k else (at + k - 1, numbers[k + 1]), stage if k == many - 1 else None) for k in range(many)
-            ]
+            self._rows += [_StageRow(form) for _ in range(many - 1)] + [_StageRow(form, stage)]
             self._names += [name] * many
             self._note_times(many)
             self._take_in_settled(machine.numbers[_GATHERED_TOLD], settled)
@@ -533,22 +512,13 @@ class RequestCore(MachineCalls):
             row = self._rows[number]
             if kind == CANCEL and given is True and row.running and row.kind == PENDING:
                 return False
-            error = self._add_error(given) if kind >= FAIL_AS else None
-            low = self._value_bits(given) if kind == COMPLETE else self._add_error(given) if kind == FAIL else int(kind == FAIL_BADLY) << 32
-            kind = min(kind, FAIL_AS)
-            numbers = self._apply(kind << 56 | (_here.who if who == THIS_THREAD else who) << 48 | number << 36 | low, settled, error)
+            low = self._value_bits(given) if kind == COMPLETE else self._add_error(given) if kind == FAIL else 0
+            if kind >= FAIL_AS:
+                kind, low = FAIL_AS, (kind - FAIL_AS) << 32 | self._add_failure(given)
+            numbers = self._apply(kind << 56 | (_here.who if who == THIS_THREAD else who) << 48 | number << 36 | low, settled)
             did, is_ready = numbers[_REPLY + ANSWER], bool(numbers[_APPLIED_TOLD])
         self._announce(settled, is_ready)
         return bool(did)
-
-    def _set_failure_source(self, stage: int, other: int, code: int) -> None:
-        """Says where a stage's exception comes from if it times out or has a bad answer: from the stage `other`, or the
-        exception of the number `code`; -1 stands for neither. The lock is held."""
-        row, self._counts = self._rows[stage], True
-        if other >= 0:
-            row.of = (other,)
-        if code >= 0 and row.kind == PENDING:
-            row.error = code
 
     def _run(self, who: int) -> None:
         """Uses a turn: claims a stage, calls its function and finishes it, and goes on where another function became
@@ -631,8 +601,6 @@ class RequestCore(MachineCalls):
             low = (
                 self._value_bits(given) if kind == GIVES else THROWS << 32 | self._add_error(given) if kind == THROWS else LINKS << 32 | given.number
             )
-            if kind == LINKS:
-                self._rows[number].of = (given.number,)  # it takes that one's exception
             numbers = self._apply(FINISH << 56 | who << 48 | number << 36 | low, settled)
             is_ready = bool(numbers[_APPLIED_TOLD])
             left = self._machine.ready() - self._turns if is_ready and not self._chooses else 0
@@ -744,9 +712,9 @@ class RequestCore(MachineCalls):
         """The arguments of a function, read from this place of the block."""
         kind, first_some, first, second_some, second, *outcome = self._machine.numbers[at : at + 10]
         if kind == GOT:
-            got, row = OutcomeNumbers(*outcome), self._rows[number]
-            error = None if got.kind == VALUE else self._error(got, self._error_of(row, got.kind))
-            if row.form in _TOLD_FAULT_ALONE:
+            got = OutcomeNumbers(*outcome)
+            error = None if got.kind == VALUE else self._error(got)
+            if self._rows[number].form in _TOLD_FAULT_ALONE:
                 return (error,)
             return (self._value(got.some, got.number) if error is None else None, error)
         return (self._value(first_some, first), self._value(second_some, second))[:kind]
@@ -754,10 +722,10 @@ class RequestCore(MachineCalls):
     def _value(self, some: int, number: int) -> Any:
         return self._values[number] if some else None
 
-    def _error(self, told: OutcomeNumbers, error: Optional[int]) -> BaseException:
-        """The exception of a fault: that of its code, else that of the number `error`, else a new one."""
-        number = told.code if told.kind == THROWN else error
-        return self._default_error(told.kind) if number is None else self._errors[number]
+    def _error(self, told: OutcomeNumbers) -> BaseException:
+        """The exception of a fault: that of its code, or a new one where it has none."""
+        error = self._errors[told.code] if told.kind == THROWN or told.code else None
+        return self._default_error(told.kind) if error is None else error
 
     def _value_bits(self, value: Any) -> int:
         """The last bits of a word that gives a value."""
@@ -767,6 +735,6 @@ class RequestCore(MachineCalls):
         self._values.append(value)
         return len(self._values) - 1
 
-    def _add_error(self, error: BaseException) -> int:
+    def _add_error(self, error: Optional[BaseException]) -> int:
         self._errors.append(error)
         return len(self._errors) - 1

@@ -31,7 +31,7 @@ FORGING = ("Cc", "Cf", "Cs", "Zl", "Zp")  # the categories of characters that co
 SHORT = {"\n": "\\n", "\r": "\\r", "\t": "\\t"}
 Describe = Callable[[object], str]  # what is told of a value or an exception
 CALLERS = {CLIENT: "caller", CLOCK: "clock", RELAY: "relay"}
-CAUSES = {CANCELLED: "cancelled", TIMED_OUT: "timed out", BAD_ANSWER: "a bad answer"}  # of faults without a code
+CAUSES = {CANCELLED: "cancelled", TIMED_OUT: "timed out", BAD_ANSWER: "a bad answer"}  # of faults that aren't told by their code alone
 
 
 class HistoryEntry(NamedTuple):
@@ -119,9 +119,10 @@ class History:
         name: The request's name.
         names: The name of each stage, by its number.
         words: The word of each event.
-        values, errors: What the numbers in the words stand for."""
+        values, errors: What the numbers in the words stand for. An error is None that no word names, as that of a time
+            limit which hasn't come."""
 
-    def __init__(self, name: str, plan: "Optional[Planned]", facts: Tuple[Any, Any, List[str], List[Any], List[BaseException]]) -> None:
+    def __init__(self, name: str, plan: "Optional[Planned]", facts: Tuple[Any, Any, List[str], List[Any], List[Optional[BaseException]]]) -> None:
         words, times, names, values, errors = facts
         self.name: str = name
         self.names: List[str] = names
@@ -141,7 +142,7 @@ class History:
         """The same with what a function tells of values and exceptions. It is called here, and no lock is held."""
         if describe is not describe_all:
             self.values = [_description_by(describe, it) for it in self.values]
-            self.errors = [_description_by(describe, it) for it in self.errors]
+            self.errors = [it if it is None else _description_by(describe, it) for it in self.errors]
             self._describe = describe
         return self
 
@@ -258,7 +259,9 @@ class History:
 
     def fault_text(self, told: OutcomeNumbers) -> str:
         """What a stage failed with."""
-        return self.error_text(told.code) if told.kind == THROWN else CAUSES[told.kind]
+        if told.kind == THROWN:
+            return self.error_text(told.code)
+        return f"{CAUSES[told.kind]}, {self.error_text(told.code)}" if told.code else CAUSES[told.kind]
 
     def _text(self, thing: Any) -> str:
         return _description_by(describe_all, thing) if self._describe is describe_all else str(thing)

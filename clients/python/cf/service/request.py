@@ -63,9 +63,9 @@ Relays
 Time limits
     Each is a deadline of the machine (`_limit`), at a moment of the works' clock that no other limit of the request has.
     The request asks that clock for one alarm at a time, at its first limit. When the alarm rings (`_ring`), the machine
-    lets time pass up to then, and settles the stages that are due, in the name of CLOCK. A stage's `Limit` has the value
-    or the exception for that. A callback releases the limit once the stage is settled; the last one takes the alarm
-    along.
+    lets time pass up to then, and settles the stages that are due, in the name of CLOCK. A deadline names its value or
+    its exception by a number, and the `Limit` puts that there just before. A callback releases the limit once the stage
+    is settled; the last one takes the alarm along.
 
 Room
     A request has at most 4,096 stages, and 16,384 mentions of sources, two of which are set aside for each stage that

@@ -55,7 +55,7 @@ FORMS_WITHOUT_FUNCTION = (int(Form.SOURCE), int(Form.ALL_OF), int(Form.ANY_OF))
 
 class OutcomeNumbers(NamedTuple):
     """The outcome of a stage, in the library's numbers: PENDING, VALUE or another kind; whether it is wrapped; the
-    code of a throw; and whether there is a value, and its number."""
+    code of a fault; and whether there is a value, and its number."""
 
     kind: int
     wrapped: int

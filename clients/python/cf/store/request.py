@@ -598,7 +598,7 @@ class DurableRequest:
         if told.kind == THROWN:
             return FAIL, self._view.payload(told.code)
         if told.kind in FAILURES:
-            return FAIL_AS, self._view.payload_if_any(self._view.place_of_failure((stage,), told.kind))
+            return FAIL_AS, self._view.payload(told.code) if told.code else None
         return FAIL, self._service._error(CancelledError())
 
     def _attach_tree(self, form: Form, of: "Sequence[DurableStage[Any]]", name: str) -> "DurableStage[Any]":
@@ -612,18 +612,14 @@ class DurableRequest:
 
     def _settle(self, kind: int, stage: int, payload: Optional[bytes], waits: bool = False, failure: int = TIMED_OUT) -> bool:
         """Completes, fails or cancels a stage, and returns whether this call settled it. With `waits` not while its
-        function runs. `failure` is the kind of failure of FAIL_AS, whose word doesn't name the payload."""
+        function runs. `failure` is the kind of failure of FAIL_AS."""
 
         def decide(view: RowView) -> Any:
             if view.is_settled(stage) or waits and view.holder(stage) is not None:
                 return None
-            low = (
-                FAILURES.index(failure) << 32
-                if kind == FAIL_AS
-                else 0
-                if payload is None
-                else (GIVES << 32 if kind == COMPLETE else 0) | view.next_place
-            )
+            low = 0 if payload is None else (GIVES << 32 if kind == COMPLETE else 0) | view.next_place
+            if kind == FAIL_AS:
+                low |= FAILURES.index(failure) << 32
             return [(kind << 56 | view.caller_number << 48 | stage << 36 | low, payload)]
 
         try:
@@ -780,7 +776,7 @@ class DurableRequest:
         told = self._view.outcome(stage.number)
         is_cancelled = told.kind == CANCELLED and not told.wrapped
         try:
-            value, error = (None, None) if is_cancelled else self._outcome(told, (stage.number,))
+            value, error = (None, None) if is_cancelled else self._outcome(told)
         except StoreError as broken:
             value, error = None, broken
         except Unknown:
@@ -789,16 +785,13 @@ class DurableRequest:
         self._unshown.discard(stage.number)
         stage._show(value, error, is_cancelled)
 
-    def _outcome(self, told: OutcomeNumbers, of: Sequence[int]) -> Tuple[Any, Optional[BaseException]]:
-        """The value and the exception of an outcome of one of these stages."""
+    def _outcome(self, told: OutcomeNumbers) -> Tuple[Any, Optional[BaseException]]:
+        """The value and the exception of an outcome."""
         if told.kind == VALUE:
             return self._value(told.some, told.number), None
-        if told.kind == THROWN:
+        if told.kind == THROWN or told.code:
             return None, self._view.read_payload(told.code, self._service.codec.read_error)
-        if told.kind == CANCELLED:
-            return None, CancelledError()
-        error = self._view.read_payload_if_any(self._view.place_of_failure(of, told.kind), self._service.codec.read_error)
-        return None, error if error is not None else TimeoutError() if told.kind == TIMED_OUT else BadAnswer()
+        return None, CancelledError() if told.kind == CANCELLED else TimeoutError() if told.kind == TIMED_OUT else BadAnswer()
 
     def _value(self, some: int, place: int) -> Any:
         return self._view.read_payload(place, self._service.codec.read) if some else None

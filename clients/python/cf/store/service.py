@@ -716,7 +716,7 @@ class DurableService(concurrent.futures.Executor):
             told, error = OutcomeNumbers(*done.reply[OUTCOME]), args[0]
             if isinstance(error, Abandoned) and not told.wrapped and view.is_settled(again):
                 told = view.outcomes[again]
-                error = request._outcome(told, (again,))[1] or error
+                error = request._outcome(told)[1] or error
             if not isinstance(error, Abandoned) or told.wrapped:
                 return ClaimedStage(stage, known, (), {}, error, {})
             said, args = view.definition(again), self._args_again(request, again)
@@ -726,7 +726,7 @@ class DurableService(concurrent.futures.Executor):
         """The arguments of the function, by the reply to its claim."""
         kind = reply[ARGS]
         if kind == GOT:
-            value, error = request._outcome(OutcomeNumbers(*reply[OUTCOME]), request._view.forms[stage][1])
+            value, error = request._outcome(OutcomeNumbers(*reply[OUTCOME]))
             return (error,) if request._view.forms[stage][0] in ONLY_FAULT else (value, error)
         first = request._value(reply[FIRST_SOME], reply[FIRST]) if kind in (ONE, TWO) else None
         second = request._value(reply[SECOND_SOME], reply[SECOND]) if kind == TWO else None
@@ -741,9 +741,9 @@ class DurableService(concurrent.futures.Executor):
         form, of = request._view.forms[stage]
         told = [request._view.outcomes[source] for source in of]
         if form in (Form.HANDLE, Form.WHEN_COMPLETE):
-            return request._outcome(told[0], of)
+            return request._outcome(told[0])
         if form == Form.EXCEPTIONALLY:
-            return (request._outcome(told[0], of)[1],)
+            return (request._outcome(told[0])[1],)
         if form == Form.APPLY_EITHER:
             told = [next((it for it in told if it.kind == VALUE), told[0])]
         return tuple(request._value(it.some, it.number) if it.kind == VALUE else None for it in told)

@@ -16,7 +16,6 @@ from ..service.words import (
     COMPOSE_FORMS,
     FAIL,
     FAIL_AS,
-    FAILURES,
     FINISH,
     GIVES,
     IS_PENDING,
@@ -139,8 +138,6 @@ class RowView:
         self.kinds: List[int] = [kind for kind, _ in self.plan.start]
         self.outcomes: List[OutcomeNumbers] = [told for _, told in self.plan.start]
         self.places: List[int] = [0] * len(self.forms)  # where each was settled
-        # the places of the words by which stages, or sources of theirs, timed out or had a bad answer
-        self.failure_places: Dict[int, int] = {}
         self.attach_places: Dict[int, int] = {}  # the place of the word that attached a stage
         # the promises that composing stages were linked to, with the places of those words
         self.links: Dict[int, int] = {}
@@ -341,11 +338,9 @@ class RowView:
             self._add_stage(reply[NUMBER], word, place)
         if kind == CLAIM and not reply[ANSWER]:
             self.granted_replies[word >> 36 & 0xFFF] = reply
-        links = kind == FINISH and word >> 32 & 0xF == LINKS
-        if links and not reply[ANSWER]:
+        if kind == FINISH and word >> 32 & 0xF == LINKS and not reply[ANSWER]:
             self.links[word & 0xFFF] = place
-        failed = place if kind == FAIL_AS else self.failure_places.get(word & 0xFFF, 0) if links else 0
-        done = DoneWord(place, word, token, reply, self._take_news(news, place, failed))
+        done = DoneWord(place, word, token, reply, self._take_news(news, place))
         if token in self._in_doubt:
             self._keep_found_claim(done)
         if self._in_doubt:  # what was to stand here and doesn't never will
@@ -367,18 +362,14 @@ class RowView:
         self.attach_places[number] = place
         self.forms.append((low >> 24, of))  # (last: other threads look whether a stage is there)
 
-    def _take_news(self, news: "Sequence[CNews]", place: int, failed: int) -> List[int]:
-        """Takes in the changes of a word, and returns the stages that it settled. `failed` is the place for
-        `failure_places` of stages that time out by it or have a bad answer, or 0 where they inherit that."""
+    def _take_news(self, news: "Sequence[CNews]", place: int) -> List[int]:
+        """Takes in the changes of a word, and returns the stages that it settled."""
         settled = []
         for it in news:
             number, kind = it.stage, it.now.kind
             if kind == IS_SETTLED and not self.places[number]:
-                told = told_of(it.now)
-                if told.kind in FAILURES:
-                    self.failure_places[number] = failed or self.place_of_failure(self.forms[number][1], told.kind)
                 # first: other threads look whether it is settled
-                self.outcomes[number], self.places[number] = told, place
+                self.outcomes[number], self.places[number] = told_of(it.now), place
                 settled.append(number)
                 if self.forms[number][0] in COMPOSE_FORMS:
                     self.unlinked_stages.add(number)
@@ -388,10 +379,6 @@ class RowView:
             else:
                 self.ready.discard(number)
         return settled
-
-    def place_of_failure(self, sources: Sequence[int], kind: int) -> int:
-        """The failure place of the first of these stages with an outcome of this kind, or 0."""
-        return next((self.failure_places.get(source, 0) for source in sources if self.outcomes[source].kind == kind), 0)
 
     # Room for stages that are attached.
 
@@ -489,11 +476,6 @@ class RowView:
         found: Dict[int, bytes] = self.retrying_for_a_minute(lambda: self.store.payloads(self.name, places, self.opened.number))
         return found
 
-    def read_payload_if_any(self, place: int, reader: Callable[[bytes], T]) -> Optional[T]:
-        """Reads the payload of a word that may have none."""
-        found = self.payload_if_any(place)
-        return None if found is None else self._read_by(place, found, reader)
-
     def payload(self, place: int) -> bytes:
         """The payload of a word. `Broken` where it is missing."""
         found = self.payload_if_any(place)
@@ -557,12 +539,14 @@ def _has_words_of(stands: Sequence[Entry], put: Put) -> bool:
 def _names_payload(word: int) -> bool:
     """Whether a word has a payload, a value or an exception, at its own place."""
     kind, tag = word >> 56, word >> 32 & 0xF
+    if kind == FAIL_AS:
+        return word & 0xFFFFFFFF != 0
     return kind == FAIL or kind in (COMPLETE, FINISH) and tag == GIVES or kind == FINISH and tag == THROWS
 
 
 def _names_error(word: int) -> bool:
     """Whether the payload of a word is an exception."""
-    return word >> 56 == FAIL or word >> 32 & 0xF == THROWS
+    return word >> 56 in (FAIL, FAIL_AS) or word >> 32 & 0xF == THROWS
 
 
 class Watcher:

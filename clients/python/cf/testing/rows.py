@@ -240,12 +240,11 @@ def outcome(view: RowView, stage: int) -> Any:
         return None
     if told.kind == VALUE:
         return view.read_payload(told.number, codec.read) if told.some else None
-    if told.kind == THROWN:
+    if told.kind == THROWN or told.code:
         return view.read_payload(told.code, codec.read_error)
     if told.kind == CANCELLED:
         return codec.read_error(b'{"error":"CancelledError","text":"","args":[]}')
-    found = view.read_payload_if_any(view.place_of_failure((stage,), told.kind), codec.read_error)
-    return found if found is not None else TimeoutError() if told.kind == TIMED_OUT else RuntimeError("a bad answer")
+    return TimeoutError() if told.kind == TIMED_OUT else RuntimeError("a bad answer")
 
 
 def ended(view: RowView, stage: int) -> str:

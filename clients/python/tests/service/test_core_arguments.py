@@ -54,7 +54,7 @@ class CoreArguments(CoreCase):
             )
             self.assertIsNone(made._open())
             self.assertEqual((made._at, made._times), (0, b""))
-            self.refused(lambda: made._set_failure_source(0, -1, -1), made._facts, made._ready_stages, kinds=(IndexError, Refused))
+            self.refused(made._facts, made._ready_stages, kinds=(IndexError, Refused))
 
     def test_an_opening_that_fails(self):
         opened = Request.__new__(Request)
@@ -84,26 +84,24 @@ class CoreArguments(CoreCase):
     def test_plans_that_are_none(self):
         plan = _core.PlanCore([(0, (), None, "x"), (3, (0,), str, "y")])
 
-        def pool(numbers, most=plan.most, stages=2):
-            return _cf.pool(plan, plan.at, most, stages, array("H", numbers).tobytes())
+        def pool(forms, most=plan.most):
+            return _cf.pool(plan, plan.at, most, bytes(forms))
 
         def core(*kept):
             return Request(None, "", 1, None, types.SimpleNamespace(kept=kept))
 
         from cf import _cf
 
-        right = pool([0, 1, 0, 3, 0])  # where sources end, forms, and sources
+        right = pool([0, 3])
         self.assertEqual(core(right, (None, str), ["x", "y"])._stage(1).name, "y")
         self.refused(
-            *[
-                lambda numbers=numbers: pool(numbers)
-                for numbers in ([0, 1, 0, 3, 1], [0, 1, 0, 3, 2], [0, 1, 0, 19, 0], [0, 2, 0, 3, 0], [1, 0, 0, 3, 0], [0, 1, 0, 3], [0, 1, 0], [])
-            ],
-            lambda: pool([0, 1, 0, 3, 0], 4097),
-            lambda: pool([0, 1, 0, 3, 0], 1),
-            lambda: pool([], -1, 0),
-            lambda: _cf.pool(plan, 0, 9, 0, b""),
-            lambda: _cf.pool(plan, plan.at, 9, 0, 7),
+            lambda: pool([0, 19]),
+            lambda: pool([0, 3], 4097),
+            lambda: pool([0, 3], 1),
+            lambda: pool([], -1),
+            lambda: _cf.pool(plan, 0, 9, b""),
+            lambda: _cf.pool(plan, "x", 9, b""),
+            lambda: _cf.pool(plan, plan.at, 9, 7),
             lambda: _cf.pool(),
             lambda: core(),
             lambda: core(right, (), ["x", "y"]),
@@ -169,11 +167,6 @@ class CoreArguments(CoreCase):
             lambda: core._attach_all(16, bytes(2 * 4097), "x"),
             lambda: core._attach_all(3, bytes(4), "x"),
             lambda: core._work(None),
-            lambda: core._set_failure_source(1, 0, -1),
-            lambda: core._set_failure_source(0, 1, -1),
-            lambda: core._set_failure_source(0, 0, 0),
-            lambda: core._set_failure_source(0, 0),
-            lambda: core._set_failure_source(0, None, -1),
             lambda: Request(),
             lambda: Request(1, 2, 3, 4, 5, 6),
             kinds=self.ODD,

@@ -162,7 +162,7 @@ service.request().promise().or_timeout(1000)
                 spec.loader.exec_module(module)
                 class Own(module.StageCore):
                     pass
-                pool = module.pool(plan, plan.at, plan.most, 0, b"")
+                pool = module.pool(plan, plan.at, plan.most, b"")
                 request = module.RequestCore(None, Own, 1, pool, (), [])
                 stage = request._attach(0, None, None, None, None, None, "x")
                 assert type(stage) is Own

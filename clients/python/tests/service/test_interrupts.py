@@ -167,7 +167,7 @@ class InterruptsOfCores(CoreCase):
         request = Request(taking, "r", 8)
         late = request.promise()
         behind = late.then(str)
-        _machine._deadline(request._at, late.number, 5, True, _machine._NIL)
+        _machine._deadline(request._at, late.number, 5, True, 0, _machine._NIL)
 
         def composes(_):
             made = request.promise()

@@ -171,8 +171,8 @@ class Relays(CoreCase):
         """As timed out, or with a bad answer. Where somebody failed it with an exception of such a class, the relay
         fails with that."""
         for kind, error, says, cause in (
-            (FAIL_AS, TimeoutError("x"), "relay times out 0 relay of p of a\n", "timeout"),
-            (FAIL_BADLY, cf.BadAnswer("x"), "relay fails 0 relay of p of a with a bad answer\n", "badanswer"),
+            (FAIL_AS, TimeoutError("x"), "relay times out 0 relay of p of a, TimeoutError('x')\n", "timeout"),
+            (FAIL_BADLY, cf.BadAnswer(7), "relay fails 0 relay of p of a with a bad answer, BadAnswer('bad answer 7')\n", "badanswer"),
         ):
             adopted_stage, b = self.service.request("a").promise("p"), self.service.request("b")
             relays = [b.adopt(adopted_stage)]
@@ -182,7 +182,7 @@ class Relays(CoreCase):
             history = b.history()
             self.assertIn(says, str(history))
             self.assertEqual(
-                [step for step in json.loads(history.script())["steps"] if step[0] != "attach"], [["failAs", 0, cause], ["failAs", 1, cause]]
+                [step for step in json.loads(history.script())["steps"] if step[0] != "attach"], [["failAs", 0, cause, 1], ["failAs", 1, cause, 2]]
             )
             self.fits(b)
             adopted_future, adopted_stage = concurrent.futures.Future(), self.service.request("a").promise("p")

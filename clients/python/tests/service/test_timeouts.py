@@ -17,7 +17,7 @@ import unittest.mock
 from case import Case, fails, inc, leaves, no_thread, starting, until
 import cf
 from cf.service import _machine, Flow, Service, waits
-from cf.service.words import CLIENT, CLOCK, FAIL_AS, FAIL_BADLY
+from cf.service.words import CLIENT, CLOCK, FAIL, FAIL_AS, FAIL_BADLY
 
 
 class Limits(Case):
@@ -217,6 +217,42 @@ class Limits(Case):
         self.assertEqual(self.request.promise().complete_on_timeout(1, 0.05).result(20), 1)
         self.assertFalse(refused.done())
 
+    def test_limits_that_never_come_take_no_room(self):
+        """The number of an exception that is never made is the next limit's. Those of limits that are open differ."""
+        timed = self.request
+        for _ in range(100):
+            timed.promise().or_timeout(1000).complete(1)
+        late, early = timed.promise("late").or_timeout(2000), timed.promise("early").or_timeout(1000)
+        self.assertEqual(len(timed._errors), 3)
+        timed._ring(max(timed._limits))
+        texts = ["late took longer than 2000 s", "early took longer than 1000 s"]
+        self.assertEqual([str(stage.exception(0)) for stage in (late, early)], texts)
+        next_one = timed.promise("next").or_timeout(1)
+        timed._ring(max(timed._limits))
+        self.assertEqual(str(next_one.exception(0)), "next took longer than 1 s")
+        self.assertEqual([str(stage.then(inc).exception(20)) for stage in (late, early)], texts)
+
+    def test_a_limit_that_comes_once_more_before_it_is_let_go(self):
+        """Its stage has been told, and those behind it have the same exception."""
+        timed = self.request
+        late = timed.promise()
+        late.add_done_callback(lambda _: timed._ring(max(timed._limits)))
+        late.or_timeout(1000)
+        timed._ring(max(timed._limits))
+        self.assertIs(late.then(inc).exception(20), late.exception(0))
+
+    def test_a_limit_that_an_interrupt_forgot(self):
+        """Its stage times out all the same, without a text, and no other limit gets its number."""
+        timed = self.request
+        late = timed.promise().or_timeout(1000)
+        (limit,) = timed._limits.values()
+        limit.release()
+        next_one = timed.promise("next").or_timeout(2000)
+        timed._ring(max(timed._limits))
+        self.assertEqual([str(stage.exception(0)) for stage in (late, next_one)], ["", "next took longer than 2000 s"])
+        self.assertEqual([type(stage.exception(0)) for stage in (late, late.then(inc))], [TimeoutError] * 2)
+        self.assertEqual([type(error) for error in timed.history().errors], [type(None), type(None), TimeoutError])
+
     def test_an_alarm_that_is_set_as_those_that_are_left_are_taken_out(self):
         """As what is collected meanwhile may do."""
         clock, late = self.service._works.clock, []
@@ -247,14 +283,16 @@ class Causes(Case):
         self.assertFalse(timed._change(FAIL_AS, CLOCK, late, TimeoutError()))
         late_history = timed.history()
         for part in (
-            "clock times out 0 late\n",
-            "0 late ends: timed out\n",
-            "1 inc ends: timed out, passed on\n",
-            "clock times out 0 late: too late",
+            "clock times out 0 late, TimeoutError('late took longer than 0.01 s')\n",
+            "0 late ends: timed out, TimeoutError('late took longer than 0.01 s')\n",
+            "1 inc ends: timed out, TimeoutError('late took longer than 0.01 s'), passed on\n",
+            "clock times out 0 late, TimeoutError(): too late",
         ):
             self.assertIn(part, str(late_history))
+        told = dict(late_history.entries()[2].told)
+        self.assertEqual(late_history.fault_text(told[1]), "timed out, TimeoutError('late took longer than 0.01 s')")
         script, before = json.loads(late_history.script()), json.loads(late_history.script(2))
-        self.assertEqual((script["cf"], script["steps"]), (3, before["steps"] + [["failAs", 0, "timeout"]] * 2))
+        self.assertEqual((script["cf"], script["steps"]), (3, before["steps"] + [["failAs", 0, "timeout", code] for code in (1, 2)]))
         self.assertEqual((before["cf"], json.loads(late_history.account())["plan"]["cf"]), (2, 2))
         self.assertEqual(cf.run_script(late_history.script()), late_history.report())
 
@@ -319,15 +357,41 @@ class Causes(Case):
             opens.set()
             self.assertTrue(slow.result(20))
 
+    def test_the_code_of_an_exception_that_nobody_gave_is_no_number(self):
+        """That of a first time-out isn't 0, also beside exceptions of which one has this number."""
+        for kind in (FAIL_AS, FAIL_BADLY):
+            timed, errors = self.service.request(), [TimeoutError("one"), ValueError("two"), TimeoutError("three")]
+            promises = [timed.promise() for _ in errors]
+            for promise, change, error in zip(promises, (kind, FAIL, kind), errors):
+                self.assertTrue(timed._change(change, CLIENT, promise, error))
+            self.assertEqual([promise.then(inc).exception(20) for promise in promises], errors)
+            self.assertEqual([word & 0xFFFFFFFF for word in timed.history().words if word >> 56 in (FAIL, FAIL_AS)], [1, 2, 3])
+            first = self.service.request()
+            self.assertTrue(first.promise().fail(errors[1]) and first._change(kind, CLIENT, first.promise(), errors[0]))
+            self.assertEqual([word & 0xFFFFFFFF for word in first.history().words if word >> 56 in (FAIL, FAIL_AS)], [0, 1])
+
+    def test_histories_describe_no_exception_that_is_not_there(self):
+        described = []
+
+        def describe(it):
+            described.append(it)
+            return "so"
+
+        timed = self.service.request(describe=describe)
+        timed.promise().or_timeout(1000)
+        self.assertEqual(timed.history().errors, [None, None])
+        timed._ring(max(timed._limits))
+        self.assertEqual((timed.history().errors, [type(it) for it in described]), ([None, "so"], [TimeoutError]))
+
     def test_a_bad_answer_is_told_as_one(self):
-        timed, bad = self.service.request("r"), cf.BadAnswer("x")
+        timed, bad = self.service.request("r"), cf.BadAnswer(7)
         late_stage = timed.promise("p")
         self.assertTrue(timed._change(FAIL_BADLY, CLIENT, late_stage, bad))
         self.assertIs(late_stage.then(inc).exception(20), bad)
         late_history = timed.history()
-        for part in ("caller fails 0 p with a bad answer\n", "0 p ends: a bad answer\n"):
+        for part in ("caller fails 0 p with a bad answer, BadAnswer('bad answer 7')\n", "0 p ends: a bad answer, BadAnswer('bad answer 7')\n"):
             self.assertIn(part, str(late_history))
-        self.assertIn('["failAs",0,"badanswer"]', late_history.script())
+        self.assertIn('["failAs",0,"badanswer",1]', late_history.script())
         self.assertEqual(cf.run_script(late_history.script()), late_history.report())
 
     def test_the_exception_of_a_timeout(self):

@@ -13,7 +13,7 @@ import shared_functions as f
 from cf import BadAnswer, run_script
 from cf.service import Service
 from cf.service.words import ATTACH, BAD_ANSWER, FAIL, FAIL_AS, TIMED_OUT
-from cf.store import DurableService, Json, Memory, new_session, RowView, service as shared_service, Timer, Unknown
+from cf.store import Broken, DurableService, Json, Memory, new_session, RowView, service as shared_service, Timer, Unknown
 
 
 class DurableTimeouts(Case):
@@ -34,22 +34,25 @@ class DurableTimeouts(Case):
                 self.assertEqual((type(stored_stage.exception(20)), str(stored_stage.exception())), (TimeoutError, "late took longer than 0.05 s"))
             self.assertEqual([stored_stage.result(20) for stored_stage in texts], ["sorry, late took longer than 0.05 s"] * 3)
             history = stored.history()
-            for part in (" times out 0 late\n", "0 late ends: timed out\n", " ends: timed out, passed on\n"):
+            text = "TimeoutError('late took longer than 0.05 s')"
+            for part in (f" times out 0 late, {text}\n", f"0 late ends: timed out, {text}\n", f" ends: timed out, {text}, passed on\n"):
                 self.assertIn(part, str(history))
-            self.assertIn('["failAs",0,"timeout"]', history.script())
+            place = next(place for place, word in enumerate(stored._view.words, 1) if word >> 56 == FAIL_AS)
+            self.assertIn(f'["failAs",0,"timeout",{place}]', history.script())
             self.assertEqual(run_script(history.script()), history.report())
             with Service(1) as plain:
                 relay = plain.request().adopt(late)
                 self.assertIs(relay.exception(0), late.exception())
-                self.assertIn("relay times out 0 relay of a DurableStage\n", str(relay.request.history()))
+                self.assertIn(f"relay times out 0 relay of a DurableStage, {text}\n", str(relay.request.history()))
 
-    def test_promises_of_what_ends_without_a_code(self):
+    def test_promises_of_what_timed_out(self):
         """A stage that composes ends as the one does that its function gives: as timed out, with that one's
-        exception, or with a bad answer."""
+        exception, or with a bad answer. The word names the payload, if there is one."""
         for service, name in self.each():
             for failure, given, kind, text in (
                 (TIMED_OUT, Json().write_error(TimeoutError("x")), TimeoutError, "x"),
                 (TIMED_OUT, None, TimeoutError, ""),
+                (BAD_ANSWER, Json().write_error(KeyError("x")), KeyError, "'x'"),
                 (BAD_ANSWER, None, BadAnswer, ""),
             ):
                 stored = service.request(f"{name} {failure} {given}")
@@ -60,7 +63,9 @@ class DurableTimeouts(Case):
                 self.assertTrue(stored._settle(FAIL_AS, stored["late"].number, given, failure=failure))
                 for stored_stage in (stored["late"], composed, composed.then(f.inc)):
                     self.assertEqual((type(stored_stage.exception(20)), str(stored_stage.exception())), (kind, text))
-                self.assertEqual([word >> 32 & 0xF for word in stored._view.words if word >> 56 == FAIL_AS], [failure - TIMED_OUT] * 2)
+                words = [(word >> 32 & 0xF, word & 0xFFFFFFFF, place) for place, word in enumerate(stored._view.words, 1) if word >> 56 == FAIL_AS]
+                self.assertEqual(words, [(failure - TIMED_OUT, 0 if given is None else place, place) for _, _, place in words])
+                self.assertEqual(len(words), 2)
 
     def test_a_promise_that_timed_out_before_it_was_linked_to(self):
         for service, name in self.each():
@@ -97,7 +102,22 @@ class DurableTimeouts(Case):
         for stored_stage in (stored[0], stored[1], stored[0].then(f.inc), stored[1].then(f.inc)):
             self.assertEqual((type(stored_stage.exception(20)), str(stored_stage.exception())), (TimeoutError, "p took longer than 1 s"))
         self.assertIn("fails 0 p with TimeoutError('p took longer than 1 s')\n", str(stored.history()))
-        self.assertIn(" times out 1 p\n", str(stored.history()))
+        self.assertIn(" times out 1 p, TimeoutError('p took longer than 1 s')\n", str(stored.history()))
+
+    def test_a_payload_that_is_missing(self):
+        """A word that names one is broken then. One that names none has a plain exception."""
+        late_store = Memory()
+        view = RowView(late_store, late_store.open("r", EMPTY), new_session())
+        for low in (0, 0xFFFFFFFF):
+            view.act(lambda view: [(ATTACH << 56 | view.caller_number << 48, b'{"name":"p"}')])
+            view.act(lambda view: [(FAIL_AS << 56 | view.caller_number << 48 | len(view.forms) - 1 << 36 | view.next_place & low, None)])
+        service = DurableService(late_store, 1, functions=f.functions)
+        self.services.append(service)
+        stored = service.open("r")
+        self.assertEqual([type(stored[stage].exception(20)) for stage in (0, 1)], [TimeoutError, Broken])
+        self.assertIn("'r', place 4: no payload is there", str(stored[1].exception(0)))
+        for part in (" times out 0 p\n", " times out 1 p, RuntimeError('no payload')\n"):
+            self.assertIn(part, str(stored.history()))
 
     def test_a_timer_that_fails_once(self):
         """It stays until it has fired."""

@@ -470,7 +470,7 @@ def words_of_nothing():
             events.Attach(0, cf.Form.APPLY, (0,)),
         ]:
             compare(f"a word of {event}", told_or_refused(lambda: cf.word_of(event)), ("refused", "NO_WORD"))
-        for word in [0, 2**64 - 1, 8 * 2**56 + 1, 9 * 2**56]:
+        for word in [0, 2**64 - 1, 8 * 2**56 + 2 * 2**32, 9 * 2**56]:
             compare(f"an event of {word}", told_or_refused(lambda: cf.event_of(word)), ("refused", "NO_WORD"))
             compare(f"doing {word}", told_or_refused(lambda: graph.apply(word)), ("refused", "NO_WORD"))
         other = cf.word_of(events.Claim(0, 1))

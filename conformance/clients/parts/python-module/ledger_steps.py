@@ -12,6 +12,7 @@ from cf._library import CAnswer, CArgs, CNews
 WHO = (0, 0, 0, 1, 1, 2, 63, 63, 64, 255)
 KINDS = ("pending", "ready", "claimed", "linked", "settled")
 VALUES = (None, 0, 7, -(2**31), 2**31 - 1)
+CODES = (0, 7, 2**32 - 1)
 NOBODY, SPARE = 2**32 - 1, 999
 
 
@@ -145,7 +146,7 @@ def run(rng, script, sizes, plan, no_words, seen, compare_all):
         if rng.random() < 0.3:
             i, who = rng.randrange(len(state.stages)), rng.randrange(64)
             kind = rng.choice(["complete"] * 4 + ["fail", "failAs", "cancel"])
-            content = {"complete": (rng.choice(VALUES),), "fail": (3,), "failAs": ("timeout",)}.get(kind, ())
+            content = {"complete": (rng.choice(VALUES),), "fail": (3,), "failAs": ("timeout", rng.choice(CODES))}.get(kind, ())
             recorder.apply((kind, who, i) + content, seen)
         recorder.step(rng, seen)
     compare_all(recorder.ledger, recorder.words, recorder.states)

@@ -42,7 +42,7 @@ def plain(name):
 
 
 def cause_of(fault):
-    return ("thrown", fault.code) if isinstance(fault, cf.Thrown) else (CAUSES[type(fault)],)
+    return ("thrown", fault.code) if isinstance(fault, cf.Thrown) else model.caused(CAUSES[type(fault)], fault.code)
 
 
 def outcome_of(outcome):
@@ -128,7 +128,7 @@ def event_of(event):
         "complete": lambda: (event.value,),
         "fail": lambda: (event.code,),
         "finish": lambda: (answer_of(event.answer),),
-        "failAs": lambda: (next(name for name, failure in FAILURES.items() if failure is event.failure),),
+        "failAs": lambda: (next(name for name, failure in FAILURES.items() if failure is event.failure), event.code),
     }
     return (kind, who, event.stage) + rest.get(kind, tuple)()
 
@@ -156,7 +156,7 @@ def changing(caller, call):
         form, of, function = rest
         return reply_of(kind, caller.attach(FORM.get(form, NO_FORM), *of, function=function))
     if kind == "failAs":
-        return reply_of(kind, caller.fail_as(rest[0], FAILURES[rest[1]]))
+        return reply_of(kind, caller.fail_as(rest[0], FAILURES[rest[1]], rest[2]))
     if kind == "finish":
         rest = (rest[0], answer_in(rest[1]))
     return reply_of(kind, getattr(caller, kind)(*rest))

@@ -211,7 +211,7 @@ def _has_payload(word: int) -> bool:
     from ..view import _names_payload
 
     kind = word >> 56
-    return _names_payload(word) or kind in (7, 8) or kind == 5 and word >> 32 & 0xF == 3
+    return _names_payload(word) or kind == 7 or kind == 5 and word >> 32 & 0xF == 3
 
 
 def _scripts(page: bytes) -> List[bytes]:
