@@ -113,8 +113,9 @@ impl Caller {
 
     /// Fails a stage as timed out, or, where it stands in for another, with a bad answer, and says whether it did.
     pub fn fail_as(&mut self, stage: u16, failure: Failure) -> Result<bool, Refused> {
+        let (kind, code) = failure_in(failure);
         // SAFETY: alone, pointers: `h` and what is told to are this call's.
-        self.flag(|h, reply| unsafe { sys::cf_desk_fail_as(h, stage, failure_in(failure), reply) })
+        self.flag(|h, reply| unsafe { sys::cf_desk_fail_as(h, stage, kind, code, reply) })
     }
 
     /// Cancels a stage, and says whether it is cancelled then.

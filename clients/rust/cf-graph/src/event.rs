@@ -23,7 +23,7 @@ pub enum Call {
     Complete(u16, Value),
     /// Settles a stage with the code of an exception, unless it is settled.
     Fail(u16, u32),
-    /// Lets a stage time out or have a bad answer, unless it is settled.
+    /// Lets a stage time out or have a bad answer, with a code, unless it is settled.
     FailAs(u16, Failure),
     /// Cancels a stage, unless it is settled.
     Cancel(u16),
@@ -71,7 +71,10 @@ fn event_in(event: Event) -> sys::cf_event {
     match event.call {
         Call::Complete(stage, value) => sys::cf_event { call: 0, stage, value: value_in(value), ..none },
         Call::Fail(stage, code) => sys::cf_event { call: 1, stage, code, ..none },
-        Call::FailAs(stage, failure) => sys::cf_event { call: 7, stage, code: failure_in(failure), ..none },
+        Call::FailAs(stage, failure) => {
+            let (kind, code) = failure_in(failure);
+            sys::cf_event { call: 7, kind, stage, code, ..none }
+        }
         Call::Cancel(stage) => sys::cf_event { call: 2, stage, ..none },
         Call::Claim(stage) => sys::cf_event { call: 3, stage, ..none },
         Call::Finish(stage, answer) => sys::cf_event { call: 4, stage, answer: answer_in(answer), ..none },
@@ -95,7 +98,7 @@ fn event_out(event: sys::cf_event) -> Event {
         3 => Call::Claim(event.stage),
         4 => Call::Finish(event.stage, answer_out(event.answer)),
         5 => Call::Tick(event.now),
-        7 => Call::FailAs(event.stage, failure_out(event.code)),
+        7 => Call::FailAs(event.stage, failure_out(event.kind, event.code)),
         _ => {
             let of = match event.sources {
                 0 => Of::None,

@@ -82,8 +82,8 @@ pub(crate) fn form_out(number: u32) -> Form {
 #[derive(Clone, Copy, PartialEq, Eq, Debug)]
 #[non_exhaustive]
 pub enum Limit {
-    /// It times out.
-    Timeout,
+    /// It times out with this code, which may be any number.
+    Timeout(u32),
     /// It gets this value.
     Give(Value),
 }
@@ -110,9 +110,9 @@ impl PlanBuilder {
 
     /// Adds what is done to a stage that isn't settled at a moment. `NO_SUCH_STAGE`, `TOO_MANY_LIMITS`, `NO_MEMORY`.
     pub fn limit(&mut self, stage: u16, at: u32, limit: Limit) -> Result<(), Refused> {
-        let (kind, value) = limit_in(limit);
+        let (kind, code, value) = limit_in(limit);
         // SAFETY: alone: `h` is this call's.
-        self.0.call(|h| unsafe { sys::cf_builder_limit(h, stage, at, kind, value) })
+        self.0.call(|h| unsafe { sys::cf_builder_limit(h, stage, at, kind, code, value) })
     }
 
     /// The plan of these stages. `NO_MEMORY`.
@@ -123,11 +123,11 @@ impl PlanBuilder {
     }
 }
 
-/// The kind of a limit, and the value that it gives.
-pub(crate) fn limit_in(limit: Limit) -> (u32, sys::cf_value) {
+/// The kind of a limit, the code with which it times out, and the value that it gives.
+pub(crate) fn limit_in(limit: Limit) -> (u32, u32, sys::cf_value) {
     match limit {
-        Limit::Timeout => (sys::CF_TIMEOUT, value_in(Value::Nil)),
-        Limit::Give(value) => (sys::CF_GIVE_VALUE, value_in(value)),
+        Limit::Timeout(code) => (sys::CF_TIMEOUT, code, value_in(Value::Nil)),
+        Limit::Give(value) => (sys::CF_GIVE_VALUE, 0, value_in(value)),
     }
 }
 

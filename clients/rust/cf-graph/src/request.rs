@@ -278,7 +278,8 @@ impl Request {
         }
     }
 
-    /// From now on a stage ends as another stage of the request does, unless it is settled before. `NO_STAGE`, `NO_MEMORY`.
+    /// From now on a stage ends as another stage of the request does, unless it is settled before: with the same value, or the same cause and code.
+    /// `NO_STAGE`, `NO_MEMORY`.
     pub fn follow(&mut self, relay: u16, stage: u16, told: &mut SettledStages) -> Result<(), Refused> {
         // SAFETY: alone, pointers: `h` and what is told to are this call's, and `rows` points to as many elements as said.
         told.tell(&mut self.0, |h, rows, room, n| unsafe { sys::cf_request_follow(h, relay, stage, rows, room, n) })
@@ -287,9 +288,9 @@ impl Request {
     /// Sets a moment by which a stage has to be settled: [`pass_time_to`](Request::pass_time_to) does this to it if it is open then. `NO_STAGE`,
     /// `NO_MEMORY`.
     pub fn set_deadline(&mut self, stage: u16, moment: u64, limit: Limit) -> Result<(), Refused> {
-        let (kind, value) = limit_in(limit);
+        let (kind, code, value) = limit_in(limit);
         // SAFETY: alone: `h` is this call's.
-        self.0.call(|h| unsafe { sys::cf_request_deadline(h, stage, moment, kind, value) })
+        self.0.call(|h| unsafe { sys::cf_request_deadline(h, stage, moment, kind, code, value) })
     }
 
     /// Passes time to a moment: all open stages whose deadline has come are settled, in the order of their moments, and those of one
@@ -301,10 +302,10 @@ impl Request {
     /// let sizes = RequestSizes { room: 1, lanes: 1, own: 63 };
     /// let (mut request, mut told) = (Request::new(&mut PlanBuilder::new()?.build()?, sizes, &[])?, SettledStages::default());
     /// request.apply(Event { who: 0, call: Call::Attach(Form::Source, Of::None, None) }.word()?, 0, &mut told)?;
-    /// request.set_deadline(0, 5_000, Limit::Timeout)?;
+    /// request.set_deadline(0, 5_000, Limit::Timeout(7))?;
     /// assert_eq!(request.next_deadline()?.map(|next| next.moment), Some(5_000));
     /// request.pass_time_to(5_000, &mut told)?;
-    /// assert_eq!(told.at(0), (0, Outcome::Fault { cause: Cause::TimedOut, wrapped: false }));
+    /// assert_eq!(told.at(0), (0, Outcome::Fault { cause: Cause::TimedOut(7), wrapped: false }));
     /// assert_eq!(request.next_deadline()?, None);
     /// # Ok(())
     /// # }
@@ -318,8 +319,11 @@ impl Request {
     pub fn next_deadline(&mut self) -> Result<Option<Deadline>, Refused> {
         // SAFETY: alone, pointers: `h` and what is told to are this call's.
         let next = self.0.tell(|h, told: *mut sys::cf_deadline| unsafe { sys::cf_request_next_deadline(h, told) });
-        let limit = |kind, value| if kind == sys::CF_GIVE_VALUE { Limit::Give(value_out(value)) } else { Limit::Timeout };
-        Ok(if_there(next)?.map(|next| Deadline { stage: next.stage, moment: next.moment, limit: limit(next.kind, next.value) }))
+        let limit = |next: sys::cf_deadline| match next.kind {
+            sys::CF_GIVE_VALUE => Limit::Give(value_out(next.value)),
+            _ => Limit::Timeout(next.code),
+        };
+        Ok(if_there(next)?.map(|next| Deadline { stage: next.stage, moment: next.moment, limit: limit(next) }))
     }
 
     /// Refuses a lane that no caller runs any more: its ready stages fail with this code, and so do those that become ready by that. `NO_LANE`,
@@ -463,8 +467,8 @@ impl Calls {
 
     /// Adds a call of [`set_deadline`](Request::set_deadline).
     pub fn set_deadline(&mut self, stage: u16, moment: u64, limit: Limit) {
-        let (kind, value) = limit_in(limit);
-        self.add(sys::cf_request_call { call: sys::CF_DO_DEADLINE, stage, moment, kind, value, ..Default::default() });
+        let (kind, code, value) = limit_in(limit);
+        self.add(sys::cf_request_call { call: sys::CF_DO_DEADLINE, stage, moment, kind, code, value, ..Default::default() });
     }
 
     /// Adds a call of [`pass_time_to`](Request::pass_time_to).

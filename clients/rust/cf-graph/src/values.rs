@@ -18,20 +18,20 @@ pub enum Cause {
     Thrown(u32),
     /// It was cancelled.
     Cancelled,
-    /// A limit came, or a caller failed it so.
-    TimedOut,
-    /// Its function answered what its form can't take.
-    BadAnswer,
+    /// A limit of this code came, or a caller failed it so. The code is 0 if none was given.
+    TimedOut(u32),
+    /// A caller failed it so with this code, or its function answered what its form can't take, which has the code 0.
+    BadAnswer(u32),
 }
 
-/// With which cause, other than a thrown code and a cancellation, a caller fails a stage.
+/// With which cause, other than a thrown code and a cancellation, a caller fails a stage. The code may be any number.
 #[derive(Clone, Copy, PartialEq, Eq, Debug)]
 #[non_exhaustive]
 pub enum Failure {
     /// Time ran out for it.
-    TimedOut,
+    TimedOut(u32),
     /// It stands in for another stage, whose function answered what its form can't take.
-    BadAnswer,
+    BadAnswer(u32),
 }
 
 /// What a stage is settled with. `wrapped`: the cause stands inside a `CompletionException`.
@@ -172,25 +172,25 @@ fn cause_of(outcome: sys::cf_outcome) -> Cause {
     match outcome.kind {
         2 => Cause::Thrown(outcome.code),
         3 => Cause::Cancelled,
-        4 => Cause::TimedOut,
-        _ => Cause::BadAnswer,
+        4 => Cause::TimedOut(outcome.code),
+        _ => Cause::BadAnswer(outcome.code),
     }
 }
 
-/// The kind of an outcome with this cause.
+/// The kind of an outcome with this cause, and its code.
 #[inline]
-pub(crate) fn failure_in(failure: Failure) -> u32 {
+pub(crate) fn failure_in(failure: Failure) -> (u32, u32) {
     match failure {
-        Failure::TimedOut => sys::CF_TIMED_OUT,
-        Failure::BadAnswer => sys::CF_BAD_ANSWER,
+        Failure::TimedOut(code) => (sys::CF_TIMED_OUT, code),
+        Failure::BadAnswer(code) => (sys::CF_BAD_ANSWER, code),
     }
 }
 
 #[inline]
-pub(crate) fn failure_out(kind: u32) -> Failure {
+pub(crate) fn failure_out(kind: u32, code: u32) -> Failure {
     match kind {
-        sys::CF_TIMED_OUT => Failure::TimedOut,
-        _ => Failure::BadAnswer,
+        sys::CF_TIMED_OUT => Failure::TimedOut(code),
+        _ => Failure::BadAnswer(code),
     }
 }
 
@@ -294,8 +294,8 @@ pub(crate) fn outcome_in(outcome: Option<Outcome>) -> sys::cf_outcome {
             let (kind, code) = match cause {
                 Cause::Thrown(code) => (2, code),
                 Cause::Cancelled => (3, 0),
-                Cause::TimedOut => (4, 0),
-                Cause::BadAnswer => (5, 0),
+                Cause::TimedOut(code) => (4, code),
+                Cause::BadAnswer(code) => (5, code),
             };
             sys::cf_outcome { kind, wrapped: u32::from(wrapped), code, ..none }
         }

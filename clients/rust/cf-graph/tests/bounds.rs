@@ -17,8 +17,8 @@ fn numbers_and_lengths_are_never_cut() {
     assert_eq!(wide_builder.stage(Form::AllOf, &vec![0; 1 << 16], None), Err(Refused::TOO_MANY_EDGES));
     assert_eq!(wide_builder.stage(Form::Apply, &[u16::MAX], Some(0)), Err(Refused::SOURCE_NOT_LOWER));
     assert_eq!(wide_builder.stage(Form::Apply, &[0], Some(u16::MAX)), Ok(1));
-    assert_eq!(wide_builder.limit(u16::MAX, u32::MAX, Limit::Timeout), Err(Refused::NO_SUCH_STAGE));
-    assert_eq!(wide_builder.limit(0, u32::MAX, Limit::Timeout), Ok(()));
+    assert_eq!(wide_builder.limit(u16::MAX, u32::MAX, Limit::Timeout(u32::MAX)), Err(Refused::NO_SUCH_STAGE));
+    assert_eq!(wide_builder.limit(0, u32::MAX, Limit::Timeout(u32::MAX)), Ok(()));
     let mut wide_plan = wide_builder.build().unwrap();
     assert_eq!(wide_plan.graph(u16::MAX).err(), Some(Refused::ROOM));
     assert_eq!(Ledger::new(&mut wide_plan, u16::MAX).err(), Some(Refused::ROOM));

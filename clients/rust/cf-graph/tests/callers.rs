@@ -2,7 +2,7 @@
 mod common;
 
 use cf_graph::*;
-use common::{desk_plan, replayed, row, sizes};
+use common::{desk_plan, replayed, row, sizes, FAILURES};
 use std::sync::atomic::{AtomicBool, Ordering};
 use std::thread;
 use std::time::{Duration, Instant};
@@ -35,13 +35,13 @@ fn two_callers_do_what_a_graph_does() {
     assert_eq!(other.tick(9), Ok(Ticked::Past));
     assert_eq!(other.fail(2, 1), Ok(false));
     assert_eq!(other.cancel(3), Ok(false));
-    assert_eq!(other.read_outcome(3), Ok(Some(Outcome::Fault { cause: Cause::TimedOut, wrapped: true })));
+    assert_eq!(other.read_outcome(3), Ok(Some(Outcome::Fault { cause: Cause::TimedOut(7), wrapped: true })));
     assert_eq!((one.records_left(), other.records_left()), (Ok(91), Ok(93)));
 }
 
 #[test]
 fn callers_fail_stages_as_they_say() {
-    for (failure, cause) in [(Failure::TimedOut, Cause::TimedOut), (Failure::BadAnswer, Cause::BadAnswer)] {
+    for (failure, cause) in FAILURES {
         let (desk, mut callers) = desk_plan().desk(sizes(2, 9, 9)).unwrap();
         assert_eq!(callers[0].fail_as(2, failure), Ok(true));
         assert_eq!(callers[1].fail_as(2, failure), Ok(false));

@@ -1,5 +1,8 @@
 //! What each call of a graph answers, row by row, on five stages.
+mod common;
+
 use cf_graph::*;
+use common::FAILURES;
 use std::thread;
 
 const THROWN: Outcome = fault(Cause::Thrown(4_000_000_000), false);
@@ -22,7 +25,7 @@ fn plan() -> Plan {
     ] {
         builder.stage(form, of, function).unwrap();
     }
-    builder.limit(2, 10, Limit::Timeout).unwrap();
+    builder.limit(2, 10, Limit::Timeout(7)).unwrap();
     builder.build().unwrap()
 }
 
@@ -66,7 +69,7 @@ fn a_fault_is_wrapped_where_it_is_taken_over() {
 
 #[test]
 fn a_failure_has_its_cause() {
-    for (failure, cause) in [(Failure::TimedOut, Cause::TimedOut), (Failure::BadAnswer, Cause::BadAnswer)] {
+    for (failure, cause) in FAILURES {
         let mut graph = graph(0);
         assert_eq!(graph.fail_as(0, failure), Ok(true));
         assert_eq!(graph.fail_as(0, failure), Ok(false));
@@ -99,13 +102,13 @@ fn limits_fire_and_links_settle() {
     assert_eq!(graph.turn_count(), Ok(0));
     assert_eq!(graph.tick(10), Ok(Ticked::Fired(1)));
     assert_eq!(graph.tick(9), Ok(Ticked::Past));
-    assert_eq!(graph.outcome(2), Ok(Some(fault(Cause::TimedOut, false))));
-    assert_eq!(graph.outcome(3), Ok(Some(fault(Cause::TimedOut, true))));
+    assert_eq!(graph.outcome(2), Ok(Some(fault(Cause::TimedOut(7), false))));
+    assert_eq!(graph.outcome(3), Ok(Some(fault(Cause::TimedOut(7), true))));
     assert_eq!(graph.restart(), Ok(()));
     assert_eq!(graph.complete(2, Value::Nil), Ok(true));
     assert_eq!(graph.claim(0, 3), Ok(Claimed::Granted(Args::One(Value::Nil))));
     assert_eq!(graph.finish(0, 3, Answer::Give(Value::Nil)), Ok(Finished::Won));
-    assert_eq!(graph.outcome(3), Ok(Some(fault(Cause::BadAnswer, true))));
+    assert_eq!(graph.outcome(3), Ok(Some(fault(Cause::BadAnswer(0), true))));
 }
 
 #[test]

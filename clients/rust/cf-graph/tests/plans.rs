@@ -7,7 +7,7 @@ fn builders_refuse() {
     assert_eq!(builder.stage(Form::Apply, &[0], Some(0)), Err(Refused::SOURCE_NOT_LOWER));
     assert_eq!(builder.stage(Form::Source, &[], Some(0)), Err(Refused::FUNCTION_UNWANTED));
     assert_eq!(builder.stage(Form::Supply, &[], None), Err(Refused::FUNCTION_MISSING));
-    assert_eq!(builder.limit(0, 1, Limit::Timeout), Err(Refused::NO_SUCH_STAGE));
+    assert_eq!(builder.limit(0, 1, Limit::Timeout(7)), Err(Refused::NO_SUCH_STAGE));
     assert_eq!(builder.stage(Form::Source, &[], None), Ok(0));
     assert_eq!(builder.stage(Form::Combine, &[0], Some(0)), Err(Refused::WRONG_SOURCE_COUNT));
     let mut plan = builder.build().unwrap();

@@ -88,11 +88,11 @@ fn relays_end_as_what_they_follow() {
     request.apply(word(Call::Cancel(1)), 0, &mut told).unwrap();
     let cancelled = fault(Cause::Cancelled, false);
     assert_eq!(told.iter().collect::<Vec<_>>(), [(1, cancelled), (4, cancelled)]);
-    request.apply(word(Call::FailAs(2, Failure::BadAnswer)), 0, &mut told).unwrap();
+    request.apply(word(Call::FailAs(2, Failure::BadAnswer(7))), 0, &mut told).unwrap();
     request.follow(5, 2, &mut told).unwrap();
-    assert_eq!(told.iter().collect::<Vec<_>>(), [(5, fault(Cause::BadAnswer, false))]);
+    assert_eq!(told.iter().collect::<Vec<_>>(), [(5, fault(Cause::BadAnswer(7), false))]);
     let last = *request.words().unwrap().last().unwrap();
-    assert_eq!(Event::from_word(last), Ok(Event { who: OWN, call: Call::FailAs(5, Failure::BadAnswer) }));
+    assert_eq!(Event::from_word(last), Ok(Event { who: OWN, call: Call::FailAs(5, Failure::BadAnswer(7)) }));
 }
 
 /// A row of stages is attached, each of which joins one more, or none is.
@@ -128,19 +128,19 @@ fn any_number_of_stages_is_gathered() {
 #[test]
 fn deadlines_come_in_their_order() {
     let (mut request, mut told) = sources(4);
-    request.set_deadline(0, 30, Limit::Timeout).unwrap();
+    request.set_deadline(0, 30, Limit::Timeout(8)).unwrap();
     request.set_deadline(1, 10, Limit::Give(Value::Int(8))).unwrap();
-    request.set_deadline(3, 20, Limit::Timeout).unwrap();
-    request.set_deadline(2, 20, Limit::Timeout).unwrap();
+    request.set_deadline(3, 20, Limit::Timeout(u32::MAX)).unwrap();
+    request.set_deadline(2, 20, Limit::Timeout(0)).unwrap();
     let first = Deadline { stage: 1, moment: 10, limit: Limit::Give(Value::Int(8)) };
     assert_eq!(request.next_deadline(), Ok(Some(first)));
     request.apply(word(Call::Complete(1, Value::Nil)), 0, &mut told).unwrap();
-    assert_eq!(request.next_deadline(), Ok(Some(Deadline { stage: 3, moment: 20, limit: Limit::Timeout })));
+    assert_eq!(request.next_deadline(), Ok(Some(Deadline { stage: 3, moment: 20, limit: Limit::Timeout(u32::MAX) })));
     request.pass_time_to(19, &mut told).unwrap();
     assert!(told.is_empty());
     request.pass_time_to(100, &mut told).unwrap();
-    let late = fault(Cause::TimedOut, false);
-    assert_eq!(told.iter().collect::<Vec<_>>(), [(3, late), (2, late), (0, late)]);
+    let late = |code| fault(Cause::TimedOut(code), false);
+    assert_eq!(told.iter().collect::<Vec<_>>(), [(3, late(u32::MAX)), (2, late(0)), (0, late(8))]);
     assert_eq!(request.next_deadline(), Ok(None));
     assert_eq!(request.pass_time_to(99, &mut told), Err(Refused::PAST_MOMENT));
 }
@@ -191,13 +191,16 @@ fn calls_are_made_in_one() {
     assert_eq!(told.iter().collect::<Vec<_>>(), [(0, int(2)), (1, int(2)), (2, fault(Cause::Thrown(1), true))]);
     calls.clear();
     calls.apply(source(), 0);
+    calls.set_deadline(3, 7, Limit::Timeout(9));
+    calls.pass_time_to(7);
+    calls.apply(source(), 0);
     calls.refuse_lane(1, 5);
     calls.cancel_all(1);
     calls.apply(source(), 2);
-    calls.pass_time_to(7);
+    calls.pass_time_to(8);
     assert_eq!(request.run(&mut calls, &mut told), Err(Refused::NO_LANE));
-    assert_eq!((calls.done_count(), calls.len()), (3, 5));
-    assert_eq!(told.iter().collect::<Vec<_>>(), [(3, fault(Cause::Cancelled, false))]);
+    assert_eq!((calls.done_count(), calls.len()), (6, 8));
+    assert_eq!(told.iter().collect::<Vec<_>>(), [(3, fault(Cause::TimedOut(9), false)), (4, fault(Cause::Cancelled, false))]);
     calls.clear();
     assert_eq!((request.run(&mut calls, &mut told), calls.is_empty(), told.is_empty()), (Ok(()), true, true));
 }
@@ -209,7 +212,7 @@ fn a_request_grows() {
     request.apply(source(), 0, &mut told).unwrap();
     request.apply(source(), 0, &mut told).unwrap();
     request.follow(1, 0, &mut told).unwrap();
-    request.set_deadline(0, 9, Limit::Timeout).unwrap();
+    request.set_deadline(0, 9, Limit::Timeout(7)).unwrap();
     assert_eq!(request.apply(source(), 0, &mut told), Err(Refused::NO_ROOM));
     request.grow().unwrap();
     for number in 2..18 {
@@ -217,7 +220,7 @@ fn a_request_grows() {
     }
     assert_eq!(request.apply(source(), 0, &mut told), Err(Refused::NO_ROOM));
     request.pass_time_to(9, &mut told).unwrap();
-    let late = fault(Cause::TimedOut, false);
+    let late = fault(Cause::TimedOut(7), false);
     assert_eq!(told.iter().collect::<Vec<_>>(), [(0, late), (1, late)]);
     let mut full = sources(4_096).0;
     assert_eq!(full.grow(), Err(Refused::ROOM));
@@ -242,7 +245,7 @@ fn what_cannot_be_done_is_refused() {
     assert_eq!(request.claim_next(1, 0, Some((0, Answer::Throw(1))), &mut told), Err(Refused::NOT_HELD));
     assert_eq!(request.claim_next(1, 0, Some((1, Answer::Throw(1))), &mut told), Err(Refused::NO_STAGE));
     assert_eq!((request.follow(0, 1, &mut told), request.follow(1, 0, &mut told)), (Err(Refused::NO_STAGE), Err(Refused::NO_STAGE)));
-    assert_eq!(request.set_deadline(1, 5, Limit::Timeout), Err(Refused::NO_STAGE));
+    assert_eq!(request.set_deadline(1, 5, Limit::Timeout(7)), Err(Refused::NO_STAGE));
     assert_eq!((request.refuse_lane(2, 1, &mut told), request.ready_count(2)), (Err(Refused::NO_LANE), Err(Refused::NO_LANE)));
     assert_eq!((request.cancel_all(64, &mut told), request.stage(1)), (Err(Refused::NO_WORD), Err(Refused::NO_STAGE)));
     assert_eq!(request.words(), words);

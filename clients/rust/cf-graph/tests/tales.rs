@@ -65,7 +65,7 @@ impl Json {
         }
     }
 
-    fn number(&self) -> u64 {
+    fn number(&self) -> i64 {
         match self {
             Json::Number(number) => *number,
             other => panic!("{other:?}"),
@@ -90,7 +90,10 @@ fn plan_of(case: &Json) -> Plan {
         builder.stage(form, &of, stage.get("fn").map(|_| number as u16)).unwrap();
     }
     for limit in case.get("limits").map_or(&[][..], Json::list) {
-        let does = if limit.at("kind").text() == "timeout" { Limit::Timeout } else { Limit::Give(Value::Int(limit.at("value").number() as i32)) };
+        let does = match limit.at("kind").text() {
+            "timeout" => Limit::Timeout(limit.get("code").map_or(0, Json::number) as u32),
+            _ => Limit::Give(Value::Int(limit.at("value").number() as i32)),
+        };
         builder.limit(limit.at("stage").number() as u16, limit.at("at").number() as u32, does).unwrap();
     }
     builder.build().unwrap()
@@ -106,7 +109,7 @@ fn cases_of_all_languages_are_told() {
     for case in cases.list() {
         let words: Vec<u64> = case.at("words").list().iter().map(|word| word.text().parse().unwrap()).collect();
         let mut tale = Tale::new(&mut plan_of(case), case.at("room").number() as u16, &words).unwrap();
-        tale.set_times(&case.at("times").list().iter().map(Json::number).collect::<Vec<_>>()).unwrap();
+        tale.set_times(&case.at("times").list().iter().map(|at| at.number() as u64).collect::<Vec<_>>()).unwrap();
         for (name, what) in SAID {
             tale.say(what, case.at("said").at(name).list().iter().map(Json::text)).unwrap();
         }

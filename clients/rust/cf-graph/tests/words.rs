@@ -10,8 +10,10 @@ fn words_are_read_as_they_are_written() {
         Call::Complete(4_095, Value::Int(i32::MIN)),
         Call::Complete(0, Value::Nil),
         Call::Fail(1, u32::MAX),
-        Call::FailAs(4_095, Failure::TimedOut),
-        Call::FailAs(0, Failure::BadAnswer),
+        Call::FailAs(4_095, Failure::TimedOut(0)),
+        Call::FailAs(4_095, Failure::TimedOut(u32::MAX)),
+        Call::FailAs(0, Failure::BadAnswer(0)),
+        Call::FailAs(0, Failure::BadAnswer(7)),
         Call::Cancel(2),
         Call::Claim(3),
         Call::Finish(4, Answer::Give(Value::Int(-1))),
@@ -44,7 +46,14 @@ fn scripts_and_texts() {
         assert_eq!(outcome_text(outcome), text);
     }
     assert_eq!(outcome_text(Some(Outcome::Fault { cause: Cause::Thrown(7), wrapped: true })), "fault thrown 7 wrapped");
-    assert_eq!(outcome_text(Some(Outcome::Fault { cause: Cause::TimedOut, wrapped: false })), "fault timeout raw");
+    for (cause, text) in [
+        (Cause::TimedOut(0), "fault timeout raw"),
+        (Cause::TimedOut(7), "fault timeout 7 raw"),
+        (Cause::BadAnswer(0), "fault badanswer raw"),
+        (Cause::BadAnswer(u32::MAX), "fault badanswer 4294967295 raw"),
+    ] {
+        assert_eq!(outcome_text(Some(Outcome::Fault { cause, wrapped: false })), text);
+    }
     assert_eq!(Refused::NO_STAGE.name(), "NoStage");
     assert_eq!(Refused::BAD_SCRIPT.to_string(), "the script has a fault");
 }

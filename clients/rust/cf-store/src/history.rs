@@ -4,7 +4,7 @@ use crate::host::Host;
 use crate::plan;
 use crate::store::{Opened, Store};
 use crate::view::retrying_for_a_minute;
-use cf_graph::{Answer, Call, Entry, Event, Label, Refused, Tale, TaleFormat, Value};
+use cf_graph::{Answer, Call, Entry, Event, Failure, Label, Refused, Tale, TaleFormat, Value};
 use serde_json::Value as Json;
 use std::collections::{BTreeMap, BTreeSet};
 
@@ -90,6 +90,7 @@ impl History {
         let names = match Event::from_word(word).map_err(|refused| broken(&refused))?.call {
             Call::Complete(_, Value::Int(_)) | Call::Finish(_, Answer::Give(Value::Int(_))) => Names::Value,
             Call::Fail(..) | Call::Finish(_, Answer::Throw(_)) => Names::Error,
+            Call::FailAs(_, Failure::TimedOut(named) | Failure::BadAnswer(named)) if named > 0 => Names::Error,
             Call::Attach(..) => Names::Stage,
             _ => return Ok(()),
         };

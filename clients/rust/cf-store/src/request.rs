@@ -904,7 +904,7 @@ pub(crate) fn payload_of<T: Serialize + ?Sized>(value: &T) -> Result<Option<Vec<
 pub(crate) fn timer_word(timer: &Timer) -> WantedWord {
     let what = timer.payload.get(1..).map(<[u8]>::to_vec);
     match timer.payload.first() {
-        Some(b'E') => WantedWord { call: Call::FailAs(timer.stage, Failure::TimedOut), payload: what },
+        Some(b'E') => WantedWord { call: Call::FailAs(timer.stage, Failure::TimedOut(0)), payload: what },
         Some(b'V') => WantedWord { call: Call::Complete(timer.stage, Value::Nil), payload: what },
         _ => WantedWord { call: Call::Complete(timer.stage, Value::Nil), payload: None },
     }

@@ -1005,18 +1005,16 @@ impl ServiceCore {
 
 /// The arguments of a granted claim.
 fn arguments(view: &mut RowView, stage: u16, args: Args) -> Result<Vec<Json>, StoreError> {
-    let (form, of) = view.form(stage);
-    let of = of.to_vec();
     Ok(match args {
         Args::None => vec![],
         Args::One(first) => vec![view.read_value(first)?],
         Args::Two(first, second) => vec![view.read_value(first)?, view.read_value(second)?],
         Args::Got(outcome) => {
-            let (value, failed) = match view.read_outcome(outcome, &of)? {
+            let (value, failed) = match view.read_outcome(outcome)? {
                 Ok(value) => (value, Json::Null),
                 Err(error) => (Json::Null, failure_json(error)?),
             };
-            if form == Form::Exceptionally {
+            if view.form(stage).0 == Form::Exceptionally {
                 vec![failed]
             } else {
                 vec![value, failed]

@@ -58,8 +58,6 @@ struct StageFacts {
     attached: usize,
     /// The place of the word that settled it, or 0.
     settled: usize,
-    /// The place of the payload by which it, or a source of it, timed out or had a bad answer, or 0.
-    failed: usize,
 }
 
 pub(crate) struct RowView {
@@ -110,7 +108,7 @@ impl RowView {
             }
         };
         let planned = stages.len();
-        let known = |(form, of, said)| StageFacts { form, of, said: Some(said), attached: 0, settled: 0, failed: 0 };
+        let known = |(form, of, said)| StageFacts { form, of, said: Some(said), attached: 0, settled: 0 };
         let (links, unlinked) = Default::default();
         let (found, granted, doubt, own) = Default::default();
         let stages = stages.into_iter().map(known).collect();
@@ -381,7 +379,7 @@ impl RowView {
         let is_own = self.doubt.remove(&entry.token).is_some();
         match (call, reply) {
             (Call::Attach(form, of, _), Reply::Attached(Some(_))) => {
-                self.stages.push(StageFacts { form, of: sources_of(of), said: None, attached: place, settled: 0, failed: 0 });
+                self.stages.push(StageFacts { form, of: sources_of(of), said: None, attached: place, settled: 0 });
             }
             (Call::Claim(stage), Reply::Claimed(Claimed::Granted(args))) => {
                 self.granted.insert(stage, args);
@@ -395,7 +393,7 @@ impl RowView {
             _ => {}
         }
         self.doubt.retain(|_, its| *its > place); // what was to stand here and doesn't never will
-        self.take_in_changes(call, place);
+        self.take_in_changes(place);
         let done = DoneWord { call, reply };
         if is_own {
             self.tell_standing(entry.word, &done);
@@ -426,35 +424,17 @@ impl RowView {
     }
 
     /// Notes the stages that the last entry settled.
-    fn take_in_changes(&mut self, call: Call, place: usize) {
-        let given = match call {
-            Call::FailAs(..) => place,
-            Call::Finish(_, Answer::Link(to)) => self.stages[usize::from(to)].failed,
-            _ => 0,
-        };
-        for news in self.row.news().collect::<Vec<_>>() {
-            let State::Settled(outcome) = news.now.state else { continue };
-            let number = usize::from(news.stage);
-            if self.stages[number].settled > 0 {
+    fn take_in_changes(&mut self, place: usize) {
+        for news in self.row.news() {
+            let known = &mut self.stages[usize::from(news.stage)];
+            if known.settled > 0 || !matches!(news.now.state, State::Settled(_)) {
                 continue;
             }
-            if let Outcome::Fault { cause: cause @ (Cause::TimedOut | Cause::BadAnswer), .. } = outcome {
-                let of = self.stages[number].of.clone();
-                self.stages[number].failed = if given > 0 { given } else { self.failed_place(&of, cause) };
-            }
-            self.stages[number].settled = place;
-            if matches!(self.stages[number].form, Form::Compose | Form::ExceptionallyCompose) {
+            known.settled = place;
+            if matches!(known.form, Form::Compose | Form::ExceptionallyCompose) {
                 self.unlinked.insert(news.stage);
             }
         }
-    }
-
-    /// The place of the payload of the first of these stages that has this cause, or 0.
-    fn failed_place(&mut self, of: &[u16], cause: Cause) -> usize {
-        let ended =
-            |it: &u16| matches!(self.row.stage(*it).map(|it| it.state), Ok(State::Settled(Outcome::Fault { cause: its, .. })) if its == cause);
-        let first = of.iter().copied().find(ended);
-        first.map_or(0, |it| self.stages[usize::from(it)].failed)
     }
 
     /// Makes room for at least this many stages more.
@@ -551,25 +531,20 @@ impl RowView {
         StoreError::broken(&self.opened.name, place, format!("its payload can't be read: {why}"))
     }
 
-    fn payload_if_any(&self, place: usize) -> Result<Option<Vec<u8>>, StoreError> {
-        match self.own.get(&place) {
-            Some(own) => Ok(Some(own.clone())),
-            None if place == 0 => Ok(None),
-            None => retrying_for_a_minute(&*self.host, || self.store.payload(&self.opened.name, self.opened.number, place)),
-        }
-    }
-
     /// The payload of a word that names one.
     pub(crate) fn payload(&self, place: usize) -> Result<Vec<u8>, StoreError> {
-        self.payload_if_any(place)?.ok_or_else(|| missing_payload(&self.opened.name, place))
+        if let Some(own) = self.own.get(&place) {
+            return Ok(own.clone());
+        }
+        let read = retrying_for_a_minute(&*self.host, || self.store.payload(&self.opened.name, self.opened.number, place))?;
+        read.ok_or_else(|| missing_payload(&self.opened.name, place))
     }
 
     /// The place of a settled stage's payload, if that has yet to be read.
     pub(crate) fn unread_place(&mut self, stage: u16) -> Option<usize> {
         let place = match self.state(stage) {
             State::Settled(Outcome::Value(Value::Int(place))) => place as u32 as usize,
-            State::Settled(Outcome::Fault { cause: Cause::Thrown(place), .. }) => place as usize,
-            State::Settled(Outcome::Fault { cause: Cause::TimedOut, .. }) => self.stages[usize::from(stage)].failed,
+            State::Settled(Outcome::Fault { cause: Cause::Thrown(place) | Cause::TimedOut(place), .. }) => place as usize,
             _ => 0,
         };
         Some(place).filter(|it| *it > 0 && !self.own.contains_key(it))
@@ -594,17 +569,15 @@ impl RowView {
         serde_json::from_slice(&self.payload(place)?).map_err(|why| self.unreadable_payload(place, &why))
     }
 
-    /// Reads the result of an outcome that one of these stages has.
-    pub(crate) fn read_outcome(&mut self, outcome: Outcome, of: &[u16]) -> Result<Result<Json, Error>, StoreError> {
+    /// Reads the result of an outcome.
+    pub(crate) fn read_outcome(&self, outcome: Outcome) -> Result<Result<Json, Error>, StoreError> {
         Ok(match outcome {
             Outcome::Value(value) => Ok(self.read_value(value)?),
             Outcome::Fault { cause: Cause::Thrown(place), .. } => Err(self.read_failure(place as usize)?.into_error()),
             Outcome::Fault { cause: Cause::Cancelled, .. } => Err(Error::Cancelled),
-            Outcome::Fault { cause: Cause::BadAnswer, .. } => Err(Error::BadAnswer),
-            Outcome::Fault { cause: Cause::TimedOut, .. } => {
-                let place = self.failed_place(of, Cause::TimedOut);
-                Err(Error::TimedOut(if place > 0 { Some(self.read_failure(place)?) } else { None }))
-            }
+            Outcome::Fault { cause: Cause::BadAnswer(_), .. } => Err(Error::BadAnswer),
+            Outcome::Fault { cause: Cause::TimedOut(0), .. } => Err(Error::TimedOut(None)),
+            Outcome::Fault { cause: Cause::TimedOut(place), .. } => Err(Error::TimedOut(Some(self.read_failure(place as usize)?))),
             Outcome::Fault { cause, .. } => unreachable!("{cause:?} is a cause of another library"),
         })
     }
@@ -612,7 +585,7 @@ impl RowView {
     /// Reads the result of a stage, if it is settled.
     pub(crate) fn read_end(&mut self, stage: u16) -> Result<Option<Result<Json, Error>>, StoreError> {
         match self.state(stage) {
-            State::Settled(outcome) => self.read_outcome(outcome, &[stage]).map(Some),
+            State::Settled(outcome) => self.read_outcome(outcome).map(Some),
             _ => Ok(None),
         }
     }
@@ -640,7 +613,7 @@ impl RowView {
             }
             let given = self.stage_given(place)?;
             if let State::Settled(outcome) = self.state(given) {
-                return self.copying_word(promise, given, outcome).map(Some);
+                return self.copying_word(promise, outcome).map(Some);
             }
         }
         Ok(None)
@@ -654,8 +627,10 @@ impl RowView {
     }
 
     /// The word that settles a promise as a stage is.
-    fn copying_word(&self, promise: u16, given: u16, outcome: Outcome) -> Result<WantedWord, StoreError> {
+    fn copying_word(&self, promise: u16, outcome: Outcome) -> Result<WantedWord, StoreError> {
         let wanted = |call, payload| Ok(WantedWord { call, payload });
+        // A time-out or a bad answer without a code has no payload.
+        let given = |place: u32| if place > 0 { self.payload(place as usize).map(Some) } else { Ok(None) };
         match outcome {
             Outcome::Value(Value::Nil) => wanted(Call::Complete(promise, Value::Nil), None),
             Outcome::Value(Value::Int(place)) => wanted(Call::Complete(promise, Value::Nil), Some(self.payload(place as u32 as usize)?)),
@@ -664,12 +639,8 @@ impl RowView {
                 wanted(Call::Fail(promise, 0), Some(failed_bytes(&Failed::new("CancelledError", ""))))
             }
             Outcome::Fault { cause: Cause::Thrown(place), .. } => wanted(Call::Fail(promise, 0), Some(self.payload(place as usize)?)),
-            Outcome::Fault { cause: Cause::TimedOut, .. } => {
-                wanted(Call::FailAs(promise, Failure::TimedOut), self.payload_if_any(self.stages[usize::from(given)].failed)?)
-            }
-            Outcome::Fault { cause: Cause::BadAnswer, .. } => {
-                wanted(Call::FailAs(promise, Failure::BadAnswer), self.payload_if_any(self.stages[usize::from(given)].failed)?)
-            }
+            Outcome::Fault { cause: Cause::TimedOut(place), .. } => wanted(Call::FailAs(promise, Failure::TimedOut(0)), given(place)?),
+            Outcome::Fault { cause: Cause::BadAnswer(place), .. } => wanted(Call::FailAs(promise, Failure::BadAnswer(0)), given(place)?),
             Outcome::Fault { cause, .. } => unreachable!("{cause:?} is a cause of another library"),
         }
     }
@@ -711,6 +682,8 @@ fn name_payload(call: Call, place: usize, has_payload: bool) -> Call {
     match call {
         Call::Complete(stage, _) => Call::Complete(stage, Value::Int(place as i32)),
         Call::Fail(stage, _) => Call::Fail(stage, place as u32),
+        Call::FailAs(stage, Failure::TimedOut(_)) => Call::FailAs(stage, Failure::TimedOut(place as u32)),
+        Call::FailAs(stage, Failure::BadAnswer(_)) => Call::FailAs(stage, Failure::BadAnswer(place as u32)),
         other => other,
     }
 }

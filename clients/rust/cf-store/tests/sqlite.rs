@@ -2,6 +2,7 @@
 #[macro_use]
 mod common;
 
+use cf_graph::{Call, Event, Failure};
 use cf_store::{Entry, Error, Failed, Functions, Mark, Opened, Options, Put, Request, SQLite, Service, Store, StoreError, Timer, WordCounts};
 use common::{quick, settled, until, AnyStore, Place};
 use rustix::fs::{flock, FlockOperation};
@@ -132,6 +133,49 @@ fn timers_are_fired_by_any_service() {
     drop(service);
     let due = place.store().due_timers(f64::MAX).unwrap();
     assert_eq!(due.iter().map(|timer| timer.stage).collect::<Vec<_>>(), [2], "what was fired is forgotten");
+}
+
+/// The code of a time-out is the place of the word whose payload says what ran out. All that hangs on the stage has it, too.
+#[test]
+fn each_has_the_time_that_ran_out() {
+    let place = Place::new("ran_out");
+    let functions = Functions::new()
+        .with("add", 1, |a: i64, b: i64| Ok::<_, String>(a + b))
+        .with("either_way", 1, |value: Option<i64>, failed: Option<Failed>| Ok::<_, String>(json!([value, failed.map(|it| it.text)])))
+        .composing("waiting", 1, |request: &Request, number: u16| Ok::<_, Failed>(request.stage(number).unwrap()));
+    let service = Service::with(place.store(), functions, quick()).unwrap();
+    let request = service.request("ran out").unwrap();
+    let [one, two, given] = ["one", "two", "given"].map(|name| request.promise(name).unwrap());
+    let first = [one.combine(&two, "add").unwrap(), given.compose("waiting").unwrap()];
+    let second = [two.combine(&one, "add").unwrap(), request.all_of(&[&two, &one]).unwrap()];
+    let handled = one.handle("either_way").unwrap();
+    one.or_timeout(Duration::from_millis(50)).unwrap();
+    two.or_timeout(Duration::from_millis(60)).unwrap();
+    given.complete(&one.number()).unwrap();
+    let late = |text: &str| Err(Error::TimedOut(Some(Failed::new("TimeoutError", text))));
+    let reader = Service::with(place.store(), Functions::new(), quick()).unwrap();
+    let other = reader.open("ran out").unwrap();
+    for (stages, text) in [(first, "one took longer than 0.05 s"), (second, "two took longer than 0.06 s")] {
+        for stage in stages {
+            assert_eq!(settled::<i64>(&stage), late(text));
+            assert_eq!(settled::<i64>(&other.stage(stage.number()).unwrap()), late(text));
+        }
+    }
+    assert_eq!(settled::<Value>(&handled), Ok(json!([null, "one took longer than 0.05 s"])));
+    let store = place.store();
+    let number = store.find("ran out").unwrap().unwrap().number;
+    let mut failed = Vec::new();
+    for (at, entry) in (1..).zip(store.read("ran out", number, 0).unwrap()) {
+        if let Call::FailAs(stage, failure) = Event::from_word(entry.word).unwrap().call {
+            assert_eq!(failure, Failure::TimedOut(at));
+            assert!(store.payload("ran out", number, at as usize).unwrap().is_some());
+            failed.push(stage);
+        }
+    }
+    let account = request.history().unwrap().account().unwrap();
+    assert!(account.contains("one took longer than 0.05 s") && account.contains("two took longer than 0.06 s"), "{account}");
+    failed.sort_unstable();
+    assert_eq!(failed, [0, 1, 4], "both promises, and what the composing stage waits for");
 }
 
 #[test]

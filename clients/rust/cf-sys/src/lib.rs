@@ -305,7 +305,7 @@ pub const CF_NOBODY: u32 = u32::MAX;
 /// The major version of the header that is declared here.
 pub const CF_VERSION_MAJOR: u32 = 1;
 /// The minor version of the header that is declared here.
-pub const CF_VERSION_MINOR: u32 = 8;
+pub const CF_VERSION_MINOR: u32 = 9;
 
 /// A value: nothing (Java's null), or a number.
 #[repr(C)]
@@ -339,7 +339,8 @@ pub struct cf_outcome {
     pub kind: u32,
     /// 1 if it is a fault inside a CompletionException, as Java has it, else 0.
     pub wrapped: u32,
-    /// The code of the exception, if the kind is CF_THROWN.
+    /// The code of the exception, the time-out or the bad answer, if the kind is CF_THROWN, CF_TIMED_OUT or CF_BAD_ANSWER. A time-out or a bad
+    /// answer to which nobody gave a code has 0.
     pub code: u32,
     /// The value, if the kind is CF_VALUE.
     pub value: cf_value,
@@ -412,13 +413,15 @@ pub struct cf_record {
 pub struct cf_event {
     /// Which call it is.
     pub call: u32,
+    /// For CF_CALL_FAIL_AS, CF_TIMED_OUT or CF_BAD_ANSWER.
+    pub kind: u32,
     /// The number of the caller.
     pub who: u8,
     /// The stage, for all calls but CF_CALL_TICK and CF_CALL_ATTACH.
     pub stage: u16,
     /// For CF_CALL_COMPLETE.
     pub value: cf_value,
-    /// For CF_CALL_FAIL the code of the exception, and for CF_CALL_FAIL_AS the kind, CF_TIMED_OUT or CF_BAD_ANSWER.
+    /// For CF_CALL_FAIL the code of the exception, and for CF_CALL_FAIL_AS that of the time-out or the bad answer.
     pub code: u32,
     /// For CF_CALL_FINISH.
     pub answer: cf_answer,
@@ -612,7 +615,8 @@ pub struct cf_request_step {
     pub told: usize,
 }
 
-/// A deadline: the stage, the moment, CF_TIMEOUT or CF_GIVE_VALUE, and the value, which is CF_NIL for CF_TIMEOUT.
+/// A deadline: the stage, the moment, CF_TIMEOUT or CF_GIVE_VALUE, the code, which is 0 for CF_GIVE_VALUE, and the value, which is CF_NIL for
+/// CF_TIMEOUT.
 #[repr(C)]
 #[derive(Clone, Copy, Debug, Default, PartialEq, Eq)]
 pub struct cf_deadline {
@@ -622,6 +626,8 @@ pub struct cf_deadline {
     pub moment: u64,
     /// CF_TIMEOUT or CF_GIVE_VALUE.
     pub kind: u32,
+    /// The code, 0 for CF_GIVE_VALUE.
+    pub code: u32,
     /// The value, CF_NIL for CF_TIMEOUT.
     pub value: cf_value,
 }
@@ -640,7 +646,7 @@ pub struct cf_request_call {
     pub stage: u16,
     /// The stage that follows.
     pub relay: u16,
-    /// The code of an exception.
+    /// The code of an exception, or of a time-out.
     pub code: u32,
     /// The word.
     pub word: u64,
@@ -710,7 +716,7 @@ extern "C" {
     /// Adds a stage.
     pub fn cf_builder_stage(builder: *mut cf_handle, form: u32, of: *const u16, n: usize, function: u32, stage: *mut u16) -> u32;
     /// Adds a time limit to a stage.
-    pub fn cf_builder_limit(builder: *mut cf_handle, stage: u16, at: u32, kind: u32, value: cf_value) -> u32;
+    pub fn cf_builder_limit(builder: *mut cf_handle, stage: u16, at: u32, kind: u32, code: u32, value: cf_value) -> u32;
     /// Makes the builder behind the handle a plan.
     pub fn cf_build(builder: *mut cf_handle) -> u32;
     /// Opens a graph of a plan.
@@ -720,7 +726,7 @@ extern "C" {
     /// Fails a stage with the code of an exception, which may be any number.
     pub fn cf_fail(graph: *mut cf_handle, stage: u16, code: u32, reply: *mut cf_reply) -> u32;
     /// Fails a stage as timed out, or with a bad answer.
-    pub fn cf_fail_as(graph: *mut cf_handle, stage: u16, kind: u32, reply: *mut cf_reply) -> u32;
+    pub fn cf_fail_as(graph: *mut cf_handle, stage: u16, kind: u32, code: u32, reply: *mut cf_reply) -> u32;
     /// Cancels a stage.
     pub fn cf_cancel(graph: *mut cf_handle, stage: u16, reply: *mut cf_reply) -> u32;
     /// Claims a stage for the caller `who`.
@@ -758,7 +764,7 @@ extern "C" {
     /// Fails a stage, as cf_fail does.
     pub fn cf_desk_fail(caller: *mut cf_handle, stage: u16, code: u32, reply: *mut cf_reply) -> u32;
     /// Fails a stage as timed out, or with a bad answer, as cf_fail_as does.
-    pub fn cf_desk_fail_as(caller: *mut cf_handle, stage: u16, kind: u32, reply: *mut cf_reply) -> u32;
+    pub fn cf_desk_fail_as(caller: *mut cf_handle, stage: u16, kind: u32, code: u32, reply: *mut cf_reply) -> u32;
     /// Cancels a stage, as cf_cancel does.
     pub fn cf_desk_cancel(caller: *mut cf_handle, stage: u16, reply: *mut cf_reply) -> u32;
     /// Claims a stage for this caller, as cf_claim does.
@@ -819,7 +825,7 @@ extern "C" {
     pub fn cf_apply(graph: *mut cf_handle, word: u64, reply: *mut cf_reply) -> u32;
     /// Runs a script, as the program `cf run` does.
     pub fn cf_run_script(text: *const u8, n: usize, report: *mut u8, room: usize, length: *mut usize) -> u32;
-    /// Writes an outcome as reports have it, such as "pending", "value 3" or "fault timeout raw".
+    /// Writes an outcome as reports have it, such as "pending", "value 3" or "fault timeout 7 raw".
     pub fn cf_text_of_outcome(outcome: *const cf_outcome, text: *mut u8, room: usize, length: *mut usize) -> u32;
     /// Writes the name of a code, such as "Ok" or "NoStage".
     pub fn cf_code_text(code: u32, text: *mut u8, room: usize, length: *mut usize) -> u32;
@@ -876,7 +882,7 @@ extern "C" {
     /// From now on a stage ends as another stage of the request does, unless it is settled before.
     pub fn cf_request_follow(request: *mut cf_handle, relay: u16, stage: u16, told: *mut cf_told, room: usize, n: *mut usize) -> u32;
     /// Sets a moment by which a stage has to be settled.
-    pub fn cf_request_deadline(request: *mut cf_handle, stage: u16, moment: u64, kind: u32, value: cf_value) -> u32;
+    pub fn cf_request_deadline(request: *mut cf_handle, stage: u16, moment: u64, kind: u32, code: u32, value: cf_value) -> u32;
     /// Lets time pass up to a moment.
     pub fn cf_request_pass(request: *mut cf_handle, moment: u64, told: *mut cf_told, room: usize, n: *mut usize) -> u32;
     /// Tells the deadline that comes next, of those whose stage is open.
@@ -934,7 +940,7 @@ extern "C" {
     pub fn cf_history_say(history: *mut cf_handle, what: u32, text: *const u8, n: usize, ends: *const usize, count: usize) -> u32;
     /// Tells a history as a text.
     pub fn cf_history_text(history: *mut cf_handle, kind: u32, text: *mut u8, room: usize, length: *mut usize) -> u32;
-    /// Answers the version of the library, such as "1.8.0".
+    /// Answers the version of the library, such as "1.9.0".
     pub fn cf_version() -> *const u8;
     /// Answers whether a program that was written for this version of the header runs with the library.
     pub fn cf_fits(major: u32, minor: u32) -> bool;
@@ -972,7 +978,7 @@ pub fn mismatch() -> Option<&'static str> {
         known!(cf_task: held stage function args answer finished),
         known!(cf_desk_sizes: log calls room functions),
         known!(cf_record: kind place word reply asked stage absent outcome now),
-        known!(cf_event: call who stage value code answer now form sources first second function),
+        known!(cf_event: call kind who stage value code answer now form sources first second function),
         known!(cf_stage: kind who target outcome),
         known!(cf_news: stage now),
         known!(cf_given: stage value),
@@ -984,7 +990,7 @@ pub fn mismatch() -> Option<&'static str> {
         known!(cf_request_composing: who lane form source function relay stage told),
         known!(cf_request_linking: who relay stage told),
         known!(cf_request_step: who lane told),
-        known!(cf_deadline: stage moment kind value),
+        known!(cf_deadline: stage moment kind code value),
         known!(cf_request_call: call who lane stage relay code word moment kind value reply task),
         known!(cf_request_done: calls told),
         known!(cf_entry: word token),

@@ -149,12 +149,13 @@ fn race(seed: u64, spawn: &Arc<dyn Spawn>) -> Raced {
     Raced { midst, request, other, stages, promises: others }
 }
 
-/// From which stage each has its error: the code of that error, done again in a ledger for which what times out or has a bad answer throws.
+/// From which stage each has its error, by the code of that error, done again in a ledger for which what times out or has a bad answer throws. A
+/// code is one more than the number of its stage.
 fn blamed(history: &cf::History) -> Vec<Option<u16>> {
     let mut plan = PlanBuilder::new().and_then(|plan| plan.build()).expect("a plan");
     let mut ledger = Ledger::new(&mut plan, history.names().len().max(1) as u16).expect("a ledger");
     let code = |ledger: &mut Ledger, stage: u16| match ledger.stage(stage).expect("the stage is there").state {
-        State::Settled(Outcome::Fault { cause: Cause::Thrown(code), .. }) => Some(code as u16),
+        State::Settled(Outcome::Fault { cause: Cause::Thrown(code), .. }) => Some(code as u16 - 1),
         _ => None,
     };
     for &word in history.words() {
@@ -164,7 +165,7 @@ fn blamed(history: &cf::History) -> Vec<Option<u16>> {
                 // A relay of the same request has what the stage has for which it stands.
                 let of = history.names()[usize::from(stage)].strip_prefix("relay of ").and_then(|of| of.parse().ok());
                 let from = of.map_or(Some(stage), |of| code(&mut ledger, of)).expect("the stage failed");
-                Call::Fail(stage, u32::from(from))
+                Call::Fail(stage, u32::from(from) + 1)
             }
             call => call,
         };

@@ -9,7 +9,7 @@ use crate::ledger::{is_replayed, new_tale, replay, Replied};
 use crate::record::EventTimes;
 use crate::spawn::{CALLER, CLOCK, FIRST_WORKER, RELAY};
 use crate::value::Val;
-use crate::word::{self, ATTACH, COMPLETE, FAIL, FINISH, SOME, THROWS};
+use crate::word::{self, ATTACH, COMPLETE, FAIL, FAIL_AS, FINISH, SOME, THROWS};
 use cf_graph::{Cause, Finished, Label, Outcome, Refused, Reply, TaleFormat};
 use std::ffi::OsStr;
 use std::fmt;
@@ -39,7 +39,7 @@ pub struct History {
     /// What stages were settled with.
     outcomes: Vec<Option<Outcome>>,
     names: Vec<String>,
-    /// What stages gave, by their numbers, and what they failed with.
+    /// What stages gave, by their numbers, and what they failed with, by the codes.
     values: Vec<Option<KeptEnd<Val>>>,
     errors: Vec<Option<KeptEnd<Error>>>,
     relays: Vec<(u16, u16)>,
@@ -93,7 +93,8 @@ impl History {
         let mut names: Vec<String> = of.into_iter().map(|of| made[usize::from(of)].to_string()).collect();
         given.into_iter().for_each(|(stage, name)| names[usize::from(stage)] = name.into_owned());
         let (values, errors) = kept.into_iter().unzip();
-        let (values, errors) = (KeptEnd::keep_all(values), KeptEnd::keep_all(errors));
+        let (values, mut errors) = (KeptEnd::keep_all(values), KeptEnd::keep_all(errors));
+        errors.insert(0, None);
         (History { name: core.name.to_string(), words, record, outcomes, names, values, errors, relays, since }, describe)
     }
 
@@ -131,8 +132,8 @@ impl History {
         match cause {
             Cause::Thrown(code) => self.error(code),
             Cause::Cancelled => "cancelled".into(),
-            Cause::TimedOut => "timed out".into(),
-            Cause::BadAnswer => "a bad answer".into(),
+            Cause::TimedOut(code) => format!("timed out, {}", self.error(code)),
+            Cause::BadAnswer(code) => format!("a bad answer, {}", self.error(code)),
             _ => "an error".into(),
         }
     }
@@ -300,7 +301,8 @@ impl History {
     }
 
     /// The words, of which those that came too late name no value and no error of a stage, since nobody keeps theirs: the number in them is the one
-    /// behind those of all stages. What settles a relay of this request is a relay's, though the machine does it as the clock.
+    /// behind those of all stages, or 0 for a time-out and a bad answer. What settles a relay of this request is a relay's, though the machine does
+    /// it as the clock.
     fn words_without_late(&self) -> Result<Vec<u64>, Refused> {
         let lost = self.names.len() as u64;
         let apart = |(word, reply, _): Replied| {
@@ -308,7 +310,9 @@ impl History {
             let is_kept = !matches!(reply, Reply::Flag(false) | Reply::Finished(Finished::Late | Finished::NotYours));
             match (parts.kind, parts.tag) {
                 _ if is_kept => word,
-                (FAIL, _) | (COMPLETE | FINISH, SOME) | (FINISH, THROWS) => word - u64::from(parts.low) + lost,
+                (COMPLETE | FINISH, SOME) => word - u64::from(parts.low) + lost,
+                (FAIL, _) | (FINISH, THROWS) => word - u64::from(parts.low) + lost + 1,
+                (FAIL_AS, _) => word - u64::from(parts.low),
                 _ => word,
             }
         };
@@ -406,7 +410,7 @@ impl serde::Serialize for Json {
     fn serialize<S: serde::Serializer>(&self, serializer: S) -> Result<S::Ok, S::Error> {
         match self {
             Json::True => serializer.serialize_bool(true),
-            Json::Number(number) => serializer.serialize_u64(*number),
+            Json::Number(number) => serializer.serialize_i64(*number),
             Json::Text(text) => serializer.serialize_str(text),
             Json::List(items) => serializer.collect_seq(items),
             Json::Object(members) => serializer.collect_map(members.iter().map(|(name, member)| (name, member))),

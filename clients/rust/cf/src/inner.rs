@@ -3,13 +3,14 @@
 //! Each change is one call of the machine. Its reply has the stages that it settled. They are written to the slots under the same hold, so a poll
 //! reads no older state than it was told. Nothing here decides who wins, what is ready or what follows.
 //!
-//! A value's number is that of the stage that gave it, and so is an error's.
+//! A value's number is that of the stage that gave it. An error's code is one more than the number of the stage that holds it, also that of a
+//! time-out and of a bad answer, of which 0 says that nobody gave a code.
 use crate::core::{Core, First, Needs};
 use crate::ends::Ending;
 use crate::error::{Error, Refusal};
-use crate::ledger::{Hangs, Ledger};
+use crate::ledger::Ledger;
 use crate::name::Made;
-use crate::slot::{Held, Slot};
+use crate::slot::{code_of_error, stage_of_error, Held, Slot};
 use crate::spawn::{CLOCK, RELAY};
 use crate::task::StageFuture;
 use crate::value::{CallArgs, Returned, StageFn, Val};
@@ -255,23 +256,17 @@ impl Inner {
     /// The result of a stage, if it is settled.
     #[inline]
     pub(crate) fn end_of(&self, stage: u16) -> Option<Result<Val, Error>> {
-        let slot = &self.slots[usize::from(stage)];
-        match slot.blamed() {
-            Some(from) => Some(Err(self.error_of(from))),
-            None => slot.outcome().map(|outcome| self.result_of(outcome)),
-        }
+        self.slots[usize::from(stage)].outcome().map(|outcome| self.result_of(outcome))
     }
 
-    fn error_of(&self, from: u16) -> Error {
-        self.slots[usize::from(from)].error().expect("the stage failed").clone()
-    }
-
-    /// The result that an outcome stands for. Any error but a cancellation has a code there.
+    /// The result that an outcome stands for.
     fn result_of(&self, outcome: Outcome) -> Result<Val, Error> {
         match outcome {
             Outcome::Value(value) => Ok(self.value_of(value)),
-            Outcome::Fault { cause: Cause::Thrown(code), .. } => Err(self.error_of(code as u16)),
-            Outcome::Fault { .. } => Err(Error::Cancelled),
+            Outcome::Fault { cause, .. } => Err(match stage_of_error(cause) {
+                Some(from) => self.slots[usize::from(from)].error().expect("the stage failed").clone(),
+                None => Error::Cancelled,
+            }),
         }
     }
 
@@ -355,16 +350,16 @@ impl Inner {
 
     #[inline]
     pub(crate) fn settle(&mut self, who: u8, stage: u16, with: Result<Val, Error>, after: &mut After) -> Result<(), Result<Val, Error>> {
-        let number = u64::from(stage);
         let (kind, tail, holds) = match with {
             Ok(Val::Nil) => (COMPLETE, 0, Held::Nothing),
-            Ok(value) => (COMPLETE, SOME | number, Held::Value(value)),
+            Ok(value) => (COMPLETE, SOME | u64::from(stage), Held::Value(value)),
             Err(Error::Cancelled) => (CANCEL, 0, Held::Nothing),
             Err(error) => {
+                let code = u64::from(code_of_error(stage));
                 let (kind, tail) = match error {
-                    Error::TimedOut(_) => (FAIL_AS, TIMED_OUT),
-                    Error::BadAnswer => (FAIL_AS, BAD_ANSWER),
-                    _ => (FAIL, number),
+                    Error::TimedOut(_) => (FAIL_AS, TIMED_OUT | code),
+                    Error::BadAnswer => (FAIL_AS, BAD_ANSWER | code),
+                    _ => (FAIL, code),
                 };
                 (kind, tail, Held::Error(Box::new(error)))
             }
@@ -429,7 +424,7 @@ impl Inner {
                 return self.show_from(at, after, |_, _, _, _| false);
             }
             self.is_more = true;
-            slot.settle(told, stage);
+            slot.settle(told);
             self.ledger.note_shown();
         }
     }
@@ -438,30 +433,21 @@ impl Inner {
     /// is the lowest one that its event settled.
     #[cold]
     fn show_from(&mut self, first: usize, after: &mut After, has_event: impl Fn(&mut Inner, u16, Outcome, &mut After) -> bool) {
-        let mut hangs = Hangs::new();
         for at in first..self.ledger.told.len() {
             let (stage, outcome) = self.ledger.told.at(at);
             if self.slots[usize::from(stage)].follows || has_event(self, stage, outcome, after) {
                 self.ledger.record.note_events(1);
             }
-            self.show_one(stage, outcome, &mut hangs, after);
+            self.mark_settled(stage, outcome, after);
         }
     }
 
-    fn show_one(&mut self, stage: u16, outcome: Outcome, hangs: &mut Hangs, after: &mut After) {
-        let from = match outcome {
-            Outcome::Fault { cause: Cause::TimedOut | Cause::BadAnswer, .. } => self.origin_of_error(stage, hangs),
-            _ => stage,
-        };
-        self.mark_settled(stage, outcome, from, after);
-    }
-
-    /// Writes a settled stage to its slot. `from` is the stage of an error without a code.
+    /// Writes a settled stage to its slot.
     #[inline]
-    fn mark_settled(&mut self, stage: u16, outcome: Outcome, from: u16, after: &mut After) {
+    fn mark_settled(&mut self, stage: u16, outcome: Outcome, after: &mut After) {
         self.is_more = true;
         let slot = &mut self.slots[usize::from(stage)];
-        slot.settle(outcome, from);
+        slot.settle(outcome);
         self.ledger.note_shown();
         if let Held::Call(_) = slot.held {
             after.notices().dropped.push(take(&mut slot.held));
@@ -472,21 +458,6 @@ impl Inner {
         if self.waiting.has_waker(stage) {
             self.waiting.take_all(stage, &mut after.notices().wakers);
         }
-    }
-
-    /// The stage from which a timeout or a bad answer came, for which the ledger has no code. That is this stage, if it holds the error. Otherwise it
-    /// is the origin of the stage it is linked to, of the stage that it relays, or of the first source that failed.
-    fn origin_of_error(&mut self, stage: u16, hangs: &mut Hangs) -> u16 {
-        if let Some(Error::TimedOut(_) | Error::BadAnswer) = self.slot(stage).error() {
-            return stage;
-        }
-        if hangs.is_empty() {
-            *hangs = self.ledger.dependencies();
-        }
-        let [first, second, link] = hangs[usize::from(stage)].1;
-        let relayed = self.ledger.stage_followed_by(stage);
-        let mut of = [link, relayed, first, second].into_iter().flatten();
-        of.find_map(|of| self.slots[usize::from(of)].blamed()).expect("what it hangs on failed")
     }
 
     fn finish_extra(&mut self, stage: u16, after: &mut After) {
@@ -607,7 +578,7 @@ impl Inner {
     fn keep_due_value(&mut self, stage: u16, outcome: Outcome, after: &mut After) -> bool {
         let gives = match outcome {
             Outcome::Value(Value::Int(number)) if number == i32::from(stage) => true,
-            Outcome::Fault { cause: Cause::TimedOut, wrapped: false } => false,
+            Outcome::Fault { cause: Cause::TimedOut(code), .. } if code == code_of_error(stage) => false,
             _ => return false,
         };
         let limits = self.limits_of(stage);
@@ -665,14 +636,13 @@ impl Inner {
                     hands.set_args(CallArgs::One(self.value_of(value)), Some(value));
                 }
             }
-            args => self.give_args(stage, args, hands),
+            args => self.give_args(args, hands),
         }
         Some(self.take_function(stage))
     }
 
     #[inline(never)]
-    fn give_args(&mut self, stage: u16, args: Args, hands: &mut Hands) {
-        let args = self.with_blame(stage, args);
+    fn give_args(&mut self, args: Args, hands: &mut Hands) {
         hands.set_args(self.call_args(args), None);
     }
 
@@ -685,11 +655,6 @@ impl Inner {
         }
     }
 
-    fn claimed_function(&mut self, stage: u16, args: Args) -> Todo {
-        let args = self.with_blame(stage, args);
-        (stage, self.take_function(stage), args)
-    }
-
     #[inline]
     fn take_function(&mut self, stage: u16) -> StageFn {
         match replace(&mut self.slot(stage).held, Held::Nothing) {
@@ -698,23 +663,10 @@ impl Inner {
         }
     }
 
-    /// The arguments, in which an error without a code is as if its origin had thrown it.
-    #[inline]
-    fn with_blame(&mut self, stage: u16, args: Args) -> Args {
-        match args {
-            Args::Got(Outcome::Fault { cause: Cause::TimedOut | Cause::BadAnswer, wrapped }) => {
-                let source = self.ledger.dependencies()[usize::from(stage)].1[0].expect("its form has a source");
-                let from = self.slot(source).blamed().expect("the source failed");
-                Args::Got(Outcome::Fault { cause: Cause::Thrown(u32::from(from)), wrapped })
-            }
-            args => args,
-        }
-    }
-
     /// Claims a ready stage.
     pub(crate) fn claim(&mut self, who: u8, stage: u16, _after: &mut After) -> Todo {
         match self.ledger.act(word::encode(CLAIM, who, stage, 0)) {
-            Ok(Reply::Claimed(Claimed::Granted(args))) => self.claimed_function(stage, args),
+            Ok(Reply::Claimed(Claimed::Granted(args))) => (stage, self.take_function(stage), args),
             Err(why) => panic_refused(why),
             Ok(_) => unreachable!("the stage is ready"),
         }
@@ -898,7 +850,7 @@ pub(crate) fn content_of(gave: Returned) -> Held {
 fn answer_of(stage: u16, keeps: &Held) -> Answer {
     match keeps {
         Held::Value(_) => Answer::Give(Value::Int(i32::from(stage))),
-        Held::Error(_) => Answer::Throw(u32::from(stage)),
+        Held::Error(_) => Answer::Throw(code_of_error(stage)),
         _ => Answer::Give(Value::Nil),
     }
 }

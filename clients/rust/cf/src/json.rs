@@ -5,7 +5,7 @@ use std::str::Chars;
 #[derive(Debug)]
 pub(crate) enum Json {
     True,
-    Number(u64),
+    Number(i64),
     Text(String),
     List(Vec<Json>),
     Object(Vec<(String, Json)>),

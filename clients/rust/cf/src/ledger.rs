@@ -2,6 +2,7 @@
 use crate::error::Refusal;
 use crate::inner::SLOTS;
 use crate::record::EventTimes;
+use crate::slot::code_of_error;
 use crate::spawn::CLOCK;
 use crate::word::{self, WordForm};
 use cf_graph::{Ledger as Words, Limit, Outcome, Plan, PlanBuilder, Refused, Reply, Request, RequestSizes, SettledStages, State, Tale, Task, Value};
@@ -203,15 +204,9 @@ impl Ledger {
         Ok(())
     }
 
-    /// The stage that a relay of this request follows.
-    #[inline]
-    pub(crate) fn stage_followed_by(&self, relay: u16) -> Option<u16> {
-        self.relays.iter().find(|it| it.0 == relay).map(|it| it.1)
-    }
-
-    /// Sets a deadline of a stage, at which that gets the value of its own number, or times out.
+    /// Sets a deadline of a stage, at which that gets the value of its own number, or times out with the code of its error.
     pub(crate) fn set_deadline(&mut self, stage: u16, moment: u64, gives: bool) -> Result<(), Refused> {
-        let limit = if gives { Limit::Give(Value::Int(i32::from(stage))) } else { Limit::Timeout };
+        let limit = if gives { Limit::Give(Value::Int(i32::from(stage))) } else { Limit::Timeout(code_of_error(stage)) };
         self.machine()?.0.set_deadline(stage, moment, limit)
     }
 

@@ -10,7 +10,7 @@ pub(crate) struct Slot {
     pub(crate) held: Held,
     /// The index of its name in histories, if the user gave none.
     pub(crate) made: u16,
-    /// The stage from which its value or error came.
+    /// The stage from which its value came, or the code of its error.
     number: u16,
     told: SlotState,
     /// Whether it has an [`Extra`](crate::inner::Extra).
@@ -56,6 +56,20 @@ enum Fault {
     BadAnswer,
 }
 
+/// The code of the error that a stage holds.
+#[inline]
+pub(crate) fn code_of_error(stage: u16) -> u32 {
+    u32::from(stage) + 1
+}
+
+/// The stage that holds the error of a cause. A cancellation has none.
+pub(crate) fn stage_of_error(cause: Cause) -> Option<u16> {
+    match cause {
+        Cause::Thrown(code) | Cause::TimedOut(code) | Cause::BadAnswer(code) => code.checked_sub(1).map(|stage| stage as u16),
+        _ => None,
+    }
+}
+
 impl Slot {
     #[inline]
     pub(crate) fn new(made: u16, call: Option<StageFn>) -> Slot {
@@ -87,21 +101,21 @@ impl Slot {
         self.told != SlotState::Waits
     }
 
-    /// Keeps its outcome, and the origin of an error without a code.
+    /// Keeps its outcome.
     #[inline]
-    pub(crate) fn settle(&mut self, outcome: Outcome, from: u16) {
+    pub(crate) fn settle(&mut self, outcome: Outcome) {
         (self.told, self.number) = match outcome {
             Outcome::Value(Value::Nil) => (SlotState::Nil, 0),
             Outcome::Value(Value::Int(number)) => (SlotState::Value, number as u16),
             Outcome::Fault { cause, wrapped } => {
-                let (fault, number) = match cause {
-                    Cause::Thrown(code) => (Fault::Thrown, code as u16),
+                let (fault, code) = match cause {
+                    Cause::Thrown(code) => (Fault::Thrown, code),
                     Cause::Cancelled => (Fault::Cancelled, 0),
-                    Cause::TimedOut => (Fault::TimedOut, from),
-                    Cause::BadAnswer => (Fault::BadAnswer, from),
+                    Cause::TimedOut(code) => (Fault::TimedOut, code),
+                    Cause::BadAnswer(code) => (Fault::BadAnswer, code),
                     cause => unreachable!("{cause:?} is a cause of another library"),
                 };
-                (if wrapped { SlotState::Wrapped(fault) } else { SlotState::Fault(fault) }, number)
+                (if wrapped { SlotState::Wrapped(fault) } else { SlotState::Fault(fault) }, code as u16)
             }
         };
     }
@@ -116,11 +130,12 @@ impl Slot {
             SlotState::Fault(fault) => (fault, false),
             SlotState::Wrapped(fault) => (fault, true),
         };
+        let code = u32::from(self.number);
         let cause = match fault {
-            Fault::Thrown => Cause::Thrown(u32::from(self.number)),
+            Fault::Thrown => Cause::Thrown(code),
             Fault::Cancelled => Cause::Cancelled,
-            Fault::TimedOut => Cause::TimedOut,
-            Fault::BadAnswer => Cause::BadAnswer,
+            Fault::TimedOut => Cause::TimedOut(code),
+            Fault::BadAnswer => Cause::BadAnswer(code),
         };
         Some(Outcome::Fault { cause, wrapped })
     }
@@ -128,9 +143,9 @@ impl Slot {
     /// The stage from which its error came. None without an error, and if it was cancelled.
     #[inline]
     pub(crate) fn blamed(&self) -> Option<u16> {
-        match self.told {
-            SlotState::Fault(fault) | SlotState::Wrapped(fault) if fault != Fault::Cancelled => Some(self.number),
-            _ => None,
+        match self.outcome()? {
+            Outcome::Fault { cause, .. } => stage_of_error(cause),
+            Outcome::Value(_) => None,
         }
     }
 
@@ -167,18 +182,20 @@ mod tests {
         assert!(!slot.is_settled() && slot.outcome().is_none());
         let mut outcomes = vec![Outcome::Value(Value::Nil), Outcome::Value(Value::Int(0)), Outcome::Value(Value::Int(4095))];
         for wrapped in [false, true] {
-            for cause in [Cause::Thrown(0), Cause::Thrown(4095), Cause::Cancelled, Cause::TimedOut, Cause::BadAnswer] {
-                outcomes.push(Outcome::Fault { cause, wrapped });
+            for code in [1, 17, 4096] {
+                for cause in [Cause::Thrown(code), Cause::Cancelled, Cause::TimedOut(code), Cause::BadAnswer(code)] {
+                    outcomes.push(Outcome::Fault { cause, wrapped });
+                }
             }
         }
         for outcome in outcomes {
-            slot.settle(outcome, 17);
+            slot.settle(outcome);
             assert!(slot.is_settled());
             assert_eq!(slot.outcome(), Some(outcome));
             let from = match outcome {
                 Outcome::Value(_) | Outcome::Fault { cause: Cause::Cancelled, .. } => None,
-                Outcome::Fault { cause: Cause::Thrown(code), .. } => Some(code as u16),
-                Outcome::Fault { .. } => Some(17),
+                Outcome::Fault { cause: Cause::Thrown(code) | Cause::TimedOut(code) | Cause::BadAnswer(code), .. } => Some(code as u16 - 1),
+                Outcome::Fault { cause, .. } => panic!("{cause:?}"),
             };
             assert_eq!(slot.blamed(), from);
         }

@@ -172,7 +172,7 @@ fn a_span_ends_with_its_function() {
         gate.wait();
         assert!(late.or_timeout(SHORT).wait().unwrap_err().is_timeout());
         let open = request.history().spans();
-        assert_eq!((&open[1].status, open[1].end), (&Status::Error("timed out".into()), open[0].end));
+        assert_eq!((&open[1].status, open[1].end), (&Status::Error(format!("timed out, timed out after {SHORT:?}")), open[0].end));
         gate.wait();
         let behind = request.supply(|| 1);
         assert_eq!(behind.wait().unwrap(), 1);

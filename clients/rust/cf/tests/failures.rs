@@ -39,25 +39,32 @@ fn is_done_again(failing: &Request) {
 fn a_time_out_is_told_as_one() {
     let clock = HandClock::new();
     let failing = failing(&clock);
+    let first = failing.promise::<i32>().named("first").or_timeout(seconds(4));
     let price = failing.promise::<i32>().named("price").or_timeout(seconds(5)).or_timeout(seconds(6));
     let behind = price.clone().then(|n| n + 1).named("behind");
     clock.turn(seconds(6));
     assert!(matches!(price.wait(), Err(Error::TimedOut(wait)) if wait == seconds(5)));
-    assert_eq!((timed_out(&price), timed_out(&behind)), ((5, Some(0)), (5, Some(0))));
-    assert_eq!(told(&failing)[2..], ["clock times out 0 price", "0 price ends: timed out", "1 behind ends: timed out, passed on"]);
+    assert_eq!((timed_out(&first), timed_out(&price), timed_out(&behind)), ((4, Some(0)), (5, Some(1)), (5, Some(1))));
+    assert_eq!(
+        told(&failing)[5..],
+        ["clock times out 1 price, TEXT", "1 price ends: timed out, TEXT", "2 behind ends: timed out, TEXT, passed on"]
+            .map(|line| line.replace("TEXT", "timed out after 5s"))
+    );
     let history = failing.history();
-    assert_eq!(history.words()[2..], [8 << 56 | 1 << 48]);
-    let attaches = r#"["attach",{"form":"source"}],["attach",{"form":"apply","of":[0],"fn":{"const":1}}]"#;
-    let steps = r#"["failAs",0,"timeout"]"#;
-    assert_eq!(history.script(), format!(r#"{{"cf":3,"room":2,"stages":[],"steps":[{attaches},{steps}]}}"#));
-    assert_eq!(history.report(), "attached 0\nattached 1\ntrue\nstage 0 fault timeout raw\nstage 1 fault timeout wrapped\n");
+    // The code is one more than the number of the stage of which the error is.
+    assert_eq!(history.words()[3..], [8 << 56 | 1 << 48 | 1, 8 << 56 | 1 << 48 | 1 << 36 | 2]);
+    let attaches = r#"["attach",{"form":"source"}],["attach",{"form":"source"}],["attach",{"form":"apply","of":[1],"fn":{"const":2}}]"#;
+    let steps = r#"["failAs",0,"timeout",1],["failAs",1,"timeout",2]"#;
+    assert_eq!(history.script(), format!(r#"{{"cf":3,"room":3,"stages":[],"steps":[{attaches},{steps}]}}"#));
+    let ends = "stage 0 fault timeout 1 raw\nstage 1 fault timeout 2 raw\nstage 2 fault timeout 2 wrapped\n";
+    assert_eq!(history.report(), format!("attached 0\nattached 1\nattached 2\ntrue\ntrue\n{ends}"));
     let account = history.account();
-    assert!(account.contains(r#"["did",3,"576742227280134144","true"],["outcome",3,0,"fault timeout raw"]"#), "{account}");
-    assert!(account.contains(r#""errors":["timed out after 5s",""]"#), "{account}");
+    assert!(account.contains(r#"["did",5,"576742295999610882","true"],["outcome",5,1,"fault timeout 2 raw"]"#), "{account}");
+    assert!(account.contains(r#""errors":["","timed out after 4s","timed out after 5s",""]"#), "{account}");
     is_done_again(&failing);
     let failing = failing.described(Describe::Nothing);
-    assert_eq!(told(&failing)[3], "0 price ends: timed out");
-    assert!(failing.history().account().contains(r#""errors":["-",""]"#));
+    assert_eq!(told(&failing)[6], "1 price ends: timed out, -");
+    assert!(failing.history().account().contains(r#""errors":["","-","-",""]"#));
 }
 
 /// A caller may say so, too.
@@ -75,18 +82,21 @@ fn a_bad_answer_is_told_as_one() {
     assert_eq!(
         told(&failing)[2..],
         [
-            "caller fails 0 price with a bad answer",
-            "0 price ends: a bad answer",
-            "1 behind ends: a bad answer, passed on",
+            "caller fails 0 price with a bad answer, a stage can't wait for that stage",
+            "0 price ends: a bad answer, a stage can't wait for that stage",
+            "1 behind ends: a bad answer, a stage can't wait for that stage, passed on",
             "caller fails 0 price with a bad answer: too late",
             "caller times out 0 price: too late",
             "caller attaches 2 slow, source",
-            "caller times out 2 slow",
-            "2 slow ends: timed out",
+            "caller times out 2 slow, timed out after 3s",
+            "2 slow ends: timed out, timed out after 3s",
         ]
     );
+    let bad = failing.promise::<i32>();
+    assert!(bad.fail(Error::BadAnswer) && bad.then(|n| n + 1).blamed() == Some(3));
     let script = failing.history().script();
-    assert!(script.starts_with(r#"{"cf":3,"room":3,"#) && script.contains(r#"["failAs",0,"badanswer"],["failAs",0,"timeout"]"#), "{script}");
+    assert!(script.starts_with(r#"{"cf":3,"room":5,"#) && script.contains(r#"["failAs",0,"badanswer",1],["failAs",0,"timeout",1]"#), "{script}");
+    assert!(script.contains(r#"["failAs",2,"timeout",3]"#) && script.contains(r#"["failAs",3,"badanswer",4]"#), "{script}");
     is_done_again(&failing);
 }
 
@@ -112,26 +122,26 @@ fn composed(failing: &Request, is_late: bool, ends: impl FnOnce(&Stage<i32>)) ->
 fn relays_end_as_what_they_stand_for() {
     for is_late in [false, true] {
         for (error, ends, raw) in [
-            (Error::TimedOut(seconds(5)), ["relay times out ", " ends: timed out"], "fault timeout raw"),
-            (Error::BadAnswer, ["relay fails ", " ends: a bad answer"], "fault badanswer raw"),
+            (Error::TimedOut(seconds(5)), ["relay times out ", " ends: timed out"], "fault timeout"),
+            (Error::BadAnswer, ["relay fails ", " ends: a bad answer"], "fault badanswer"),
         ] {
             let text = error.to_string();
             // Of the same request: 0 its gate, 1 the relay, 2 what waits, 3 the stage for which the relay stands.
             let own = failing(&HandClock::new());
             let composed = composed(&own, is_late, |later| assert!(later.fail(error.clone())));
             assert_eq!((composed.wait().unwrap_err().to_string(), composed.blamed()), (text.clone(), Some(3)));
-            assert!(own.history().report().contains(&format!("stage 1 {raw}\n")));
+            assert!(own.history().report().contains(&format!("stage 1 {raw} 4 raw\nstage 2 {raw} 4 wrapped\nstage 3 {raw} 4 raw\n")));
             // Of another one.
             let (slow, other) = (failing(&HandClock::new()).promise::<i32>(), failing(&HandClock::new()));
             let relay = if is_late { None } else { Some(other.adopt(&slow)) };
             assert!(slow.fail(error));
             let relay = relay.unwrap_or_else(|| other.adopt(&slow));
-            assert_eq!((relay.wait().unwrap_err().to_string(), relay.blamed()), (text, Some(0)));
-            assert!(other.history().report().ends_with(&format!("stage 0 {raw}\n")));
+            assert_eq!((relay.wait().unwrap_err().to_string(), relay.blamed()), (text.clone(), Some(0)));
+            assert!(other.history().report().ends_with(&format!("stage 0 {raw} 1 raw\n")));
             for failing in [own, other] {
                 let told = told(&failing);
                 let at = told.iter().position(|line| line.starts_with(ends[0]) && line.contains(" relay of ")).expect("it says so");
-                assert!(told[at + 1].ends_with(ends[1]), "{told:?}");
+                assert!(told[at + 1].ends_with(&format!("{}, {text}", ends[1])), "{told:?}");
                 is_done_again(&failing);
             }
         }
@@ -152,6 +162,7 @@ fn each_has_the_time_that_ran_out() {
     let all = failing.all_of([&never.clone().recover(|_| 1) as &dyn cf::AnyStage, &two, &one]);
     let any = failing.first_of([&never, &one, &two]);
     let own = one.clone().combine(&never, |a, b| a + b).or_timeout(seconds(7));
+    let limited = one.clone().then(|n| n + 1).or_timeout(seconds(6));
     let handled = one.clone().inspect(|_| panic!("left aside"));
     let links = two.clone().recover_compose(move |_| a);
     let composed = failing.supply(|| 1).compose(move |_| b);
@@ -159,7 +170,7 @@ fn each_has_the_time_that_ran_out() {
     clock.turn(seconds(7));
     assert_eq!((timed_out(&both), timed_out(&last), timed_out(&first), timed_out(&any)), (five, three, three, three));
     assert_eq!((timed_out(&own), timed_out(&handled), timed_out(&links), timed_out(&composed)), ((7, own.number()), five, five, three));
-    assert_eq!(timed_out(&other), (3, Some(0)));
+    assert_eq!((timed_out(&other), timed_out(&limited)), ((3, Some(0)), five));
     // What is attached behind them then.
     assert_eq!((timed_out(&last.clone().then(|n| n + 1)), timed_out(&one.clone().combine(&two, |a, b| a + b))), (three, five));
     assert_eq!((timed_out(&two.either(&one, |n| *n)), timed_out(&failing.gather([&one, &last]))), (three, five));

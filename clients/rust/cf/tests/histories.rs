@@ -133,7 +133,7 @@ fn all_is_told_if_nothing_is_said() {
         assert!(history.to_string().contains("finishes 0 token, which gave \"secret token\"\n"));
         let account = history.account();
         assert_eq!(member(&account, "values"), r#""\u0022secret token\u0022","a value","","a value","","","""#);
-        assert_eq!(member(&account, "errors"), r#""","","","","secret card","a function panicked: secret 5","""#);
+        assert_eq!(member(&account, "errors"), r#""","","","","","secret card","a function panicked: secret 5","""#);
         assert_eq!(format!("{refused:?}"), "Stage(4 refused, error: secret card)");
     }
 }
@@ -148,7 +148,7 @@ fn types_are_told_alone() {
     assert_eq!(told[3..6], ["3 bytes: Vec<u8> of 3", "4 refused: Failed", "5 panicked: Panicked"]);
     let account = history.account();
     assert_eq!(member(&account, "values"), r#""String of 12","Card","","Vec\u003cu8\u003e of 3","","","""#);
-    assert_eq!(member(&account, "errors"), r#""","","","","Failed","Panicked","""#);
+    assert_eq!(member(&account, "errors"), r#""","","","","","Failed","Panicked","""#);
     assert_eq!(format!("{refused:?}"), "Stage(4 refused, error: Failed)");
     assert!(texts(&history).iter().all(|text| !text.contains("secret")));
 }
@@ -162,7 +162,7 @@ fn nothing_is_told() {
     let is_nothing = |line: &str| line.trim_end_matches(", passed on").ends_with(": -");
     assert!(told.iter().enumerate().all(|(k, line)| is_nothing(line) || k == 2 && line.ends_with(": nil")) && told.len() == 7, "{told:?}");
     assert_eq!(member(&history.account(), "values"), r#""-","-","","-","","","""#);
-    assert_eq!(member(&history.account(), "errors"), r#""","","","","-","-","""#);
+    assert_eq!(member(&history.account(), "errors"), r#""","","","","","-","-","""#);
     assert_eq!(format!("{refused:?}"), "Stage(4 refused, error: -)");
     assert!(texts(&history).iter().all(|text| !text.contains("secret")));
 }
@@ -181,7 +181,7 @@ fn a_function_says_what_is_told() {
     assert!(told[2].ends_with(": nil"), "{told:?}");
     assert_eq!(told[4..6], ["4 refused: declined;", "5 panicked: other"]);
     assert!(history.line().contains(": 4 refused by declined\\u003b; "), "{}", history.line());
-    assert_eq!(member(&history.account(), "errors"), r#""","","","","declined;","other","""#);
+    assert_eq!(member(&history.account(), "errors"), r#""","","","","","declined;","other","""#);
     assert_eq!(format!("{refused:?}"), "Stage(4 refused, error: declined;)");
     assert!(texts(&history).iter().all(|text| !text.contains("secret")));
     // A history stays as it was taken, and the next is told as is wanted then.
@@ -219,7 +219,7 @@ fn what_cannot_be_told_is_a_question_mark() {
     let history = recorded.history();
     let told: Vec<String> = whole(|| ends(&history)).iter().map(|line| line.split_once(": ").unwrap().1.into()).collect();
     assert_eq!(told, ["?", "?", "a function panicked: something that isn't text"]);
-    assert_eq!(member(&history.account(), "errors"), r#""?","?","a function panicked: something that isn\u0027t text""#);
+    assert_eq!(member(&history.account(), "errors"), r#""","?","?","a function panicked: something that isn\u0027t text""#);
     assert_eq!((format!("{panics:?}"), fails.wait().is_err()), ("Stage(0 histories.rs:".to_owned() + &line_of(&panics) + ", error: ?)", true));
     match unread.wait() {
         Err(Error::Panicked(panic)) => assert_eq!(panic.take_payload().unwrap().downcast_ref::<u8>(), Some(&17)),
@@ -383,7 +383,7 @@ fn long_texts_are_cut() {
     let (lines, cut) = (history.to_string(), "e".repeat(57) + "...");
     assert!(lines.ends_with(&format!(" ends: {cut}\n")) && lines.contains(&format!(" 0 {},", "n".repeat(70))), "{lines}");
     assert!(history.line().ends_with(&format!(" by {cut}; 0 open")), "{}", history.line());
-    assert_eq!(member(&history.account(), "errors"), format!("\"{}\"", "e".repeat(61)));
+    assert_eq!(member(&history.account(), "errors"), format!("\"\",\"{}\"", "e".repeat(61)));
     assert_eq!(member(&history.account(), "names"), format!("\"{}\"", "n".repeat(64)));
 }
 

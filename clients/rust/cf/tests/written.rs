@@ -11,5 +11,5 @@ fn a_history_is_written_as_its_account() {
     let account: serde_json::Value = serde_json::from_str(&history.account()).unwrap();
     assert_eq!(serde_json::to_value(&history).unwrap(), account);
     assert_eq!(account["name"], "order \"17\"\n");
-    assert_eq!(account["errors"][1], "invalid digit found in string");
+    assert_eq!(account["errors"][2], "invalid digit found in string");
 }

@@ -6,6 +6,14 @@ pub const fn sizes(callers: u8, log: u16, calls: u16) -> Sizes {
     Sizes { callers, log, calls, growth: None }
 }
 
+/// What a caller can fail a stage as, without a code and with one.
+pub const FAILURES: [(Failure, Cause); 4] = [
+    (Failure::TimedOut(0), Cause::TimedOut(0)),
+    (Failure::TimedOut(7), Cause::TimedOut(7)),
+    (Failure::BadAnswer(0), Cause::BadAnswer(0)),
+    (Failure::BadAnswer(u32::MAX), Cause::BadAnswer(u32::MAX)),
+];
+
 /// 0 a source, and a row of so many applies behind it.
 pub fn row(applies: u16) -> Plan {
     let mut builder = PlanBuilder::new().unwrap();
@@ -38,7 +46,7 @@ pub fn desk_plan() -> Plan {
     builder.stage(Form::Apply, &[0], Some(3)).unwrap();
     builder.stage(Form::Source, &[], None).unwrap();
     builder.stage(Form::Compose, &[2], Some(1)).unwrap();
-    builder.limit(2, 10, Limit::Timeout).unwrap();
+    builder.limit(2, 10, Limit::Timeout(7)).unwrap();
     builder.build().unwrap()
 }
 

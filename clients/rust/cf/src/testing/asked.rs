@@ -255,6 +255,8 @@ impl Asked {
                 (["fault", "thrown", _, wrapped], Some(Err(error))) => {
                     format!("fault thrown {} {wrapped}", error.downcast_ref::<Thrown>().map_or(0, |thrown| thrown.0))
                 }
+                // A limit of a question has no code, and one of a stage the stage's number.
+                (["fault", "timeout", _, wrapped], _) => format!("fault timeout {wrapped}"),
                 (words, _) => words.join(" "),
             }
         };
