@@ -446,7 +446,8 @@ CALL(jlong, gather)(JNIEnv *env, jobject machine, jlong at, jint waiting, jint f
   return end(&it, code, 0);
 }
 
-/* Does the words that wait, and sets a deadline of a stage: it times out then, or gets the value of this number, -1 for null. */
+/* Does the words that wait, and sets a deadline of a stage: it times out then with this number as its code, or gets the value of this number, -1 for
+ * null. */
 CALL(jlong, setDeadline)(JNIEnv *env, jobject machine, jlong at, jint waiting, jint stage, jlong moment, jboolean gives, jint number) {
   (void)env, (void)machine;
   struct crossing it;
@@ -454,7 +455,7 @@ CALL(jlong, setDeadline)(JNIEnv *env, jobject machine, jlong at, jint waiting, j
   begin(&it, at);
   it.core->settles = true;
   uint32_t code = do_waiting(&it, waiting), kind = gives ? CF_GIVE_VALUE : CF_TIMEOUT;
-  if (code == CF_OK) code = cf_request_deadline(&it.core->request, (uint16_t)stage, (uint64_t)moment, kind, value);
+  if (code == CF_OK) code = cf_request_deadline(&it.core->request, (uint16_t)stage, (uint64_t)moment, kind, (uint32_t)number, value);
   return end(&it, code, 0);
 }
 

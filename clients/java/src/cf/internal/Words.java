@@ -22,8 +22,9 @@ public final class Words {
         return head(FAIL, who, stage) | low(code);
     }
 
-    public static long failAs(int who, int stage, int failure) {
-        return head(FAIL_AS, who, stage) | (long) failure << 32;
+    /** Of {@link #TIMED_OUT} or {@link #BAD_ANSWER}, with a code; 0 where none is given. */
+    public static long failAs(int who, int stage, int failure, int code) {
+        return head(FAIL_AS, who, stage) | (long) failure << 32 | low(code);
     }
 
     public static long cancel(int who, int stage) {

@@ -603,7 +603,7 @@ final class Machine {
         return core.memory.getInt(SETTLED + 8 * k);
     }
 
-    /** Its value's number, or its exception's. */
+    /** Its value's number, or the code of its failure. */
     int settledNumber(int k) {
         return core.memory.getInt(SETTLED + 4 + 8 * k);
     }
@@ -622,7 +622,7 @@ final class Machine {
         return core.memory.getInt(CLAIMED + 4 + 16 * k);
     }
 
-    /** The number of its first value, or of its exception; -1 for null. */
+    /** The number of its first value, -1 for null; or the code of its source's failure. */
     int firstArgument(int k) {
         return core.memory.getInt(CLAIMED + 8 + 16 * k);
     }

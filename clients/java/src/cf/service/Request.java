@@ -1110,7 +1110,7 @@ public final class Request implements AutoCloseable {
     private void settleAtLimit(Stage<?> stage, boolean gives, Object value) {
         FollowUps followUps = new FollowUps(watch);
         synchronized (lock()) {
-            long word = gives ? Words.complete(CLOCK, stage.number, numberOf(value)) : Words.failAs(CLOCK, stage.number, Words.TIMED_OUT);
+            long word = gives ? Words.complete(CLOCK, stage.number, numberOf(value)) : Words.failAs(CLOCK, stage.number, Words.TIMED_OUT, 0);
             applyWord(word, callerNumber(), followUps);
         }
         tell(followUps);
@@ -1159,7 +1159,7 @@ public final class Request implements AutoCloseable {
             Fault fault = (Fault) told;
             // Who would see that it isn't wrapped any more gets the exception itself.
             if (fault.isTimeout && (wraps || !fault.isWrapped())) {
-                return Words.failAs(RELAY, relay, Words.TIMED_OUT);
+                return Words.failAs(RELAY, relay, Words.TIMED_OUT, 0);
             }
             // A cancellation that says more keeps it.
             boolean isPlain = !fault.isCoded && fault.error().getClass() == CancellationException.class && fault.error().getMessage() == null;

@@ -88,7 +88,7 @@ public class Stage<T> extends Waits<T> {
         int followedStage = -1;
     }
 
-    /** A deadline: with a value's number, or as timed out. */
+    /** A deadline: with a value's number, or as timed out, with a code. */
     static final class Limit {
         final long moment;
         final boolean hasValue;

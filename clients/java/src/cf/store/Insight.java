@@ -142,7 +142,7 @@ final class Insight implements Stores {
 
         @Override
         public Object outcome(int stage) {
-            Throwable fault = view.fault(view.outcome(stage), stage);
+            Throwable fault = view.fault(view.outcome(stage));
             return fault == null ? view.value(view.outcome(stage)) : fault;
         }
 

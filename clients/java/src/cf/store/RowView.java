@@ -135,8 +135,6 @@ final class RowView {
         /** Once it is settled: the outcome's numbers, and the place where it was. */
         int[] outcome;
         int settledPlace;
-        /** The place of the payload by which it, or a source of it, timed out or had a bad answer, or 0. */
-        int failedPlace;
 
         StageState(Form form, int[] of, StoredPlan.StageSpec spec, int attached) {
             this.form = form;
@@ -393,7 +391,7 @@ final class RowView {
         return new Store.Put(opened.name, opened.number, wordCount, entries, payloads, opens);
     }
 
-    /** A word whose value or exception is named by this place. */
+    /** A word whose value or failure is named by this place. */
     private static long withPlace(long word, int place) {
         int stage = Words.stage(word);
         if (Words.isLinking(word)) {
@@ -404,6 +402,8 @@ final class RowView {
                 return Words.complete(0, stage, place);
             case Words.FAIL:
                 return Words.fail(0, stage, place);
+            case Words.FAIL_AS:
+                return Words.failAs(0, stage, Words.tag(word), place);
             case Words.FINISH:
                 return Words.isThrowing(word) ? Words.finishThrowing(0, stage, place) : Words.finish(0, stage, place);
             default:
@@ -462,7 +462,7 @@ final class RowView {
             default:
         }
         doubtfulPlaces.values().removeIf(its -> its <= place); // (a word that was to stand here, and doesn't, never will)
-        takeInChanges(changed, entry.word, place);
+        takeInChanges(changed, place);
         return new DoneEntry(entry.word, reply);
     }
 
@@ -483,17 +483,13 @@ final class RowView {
         return made;
     }
 
-    private void takeInChanges(int[] changed, long word, int place) {
-        int given = Words.kind(word) == Words.FAIL_AS ? place : Words.isLinking(word) ? stages.get(Words.lowBits(word)).failedPlace : 0;
+    private void takeInChanges(int[] changed, int place) {
         for (int at = 0; at < changed.length; at += NativeRow.STAGE) {
             StageState stage = stages.get(changed[at]);
             if (changed[at + NativeRow.KIND] != NativeRow.SETTLED || stage.settledPlace > 0) {
                 continue;
             }
             stage.outcome = Arrays.copyOfRange(changed, at + NativeRow.ENDED, at + NativeRow.STAGE);
-            if (stage.outcome[0] == NativeRow.TIMED_OUT || stage.outcome[0] == NativeRow.BAD_ANSWER) {
-                stage.failedPlace = given > 0 ? given : failedPlace(stage.sources, stage.outcome[0]);
-            }
             stage.settledPlace = place;
             settledStages++;
             newlySettled.add(changed[at]);
@@ -501,17 +497,6 @@ final class RowView {
                 unlinked.add(changed[at]);
             }
         }
-    }
-
-    /** The place of the payload of the first of these stages that ended so, or 0. */
-    private int failedPlace(int[] of, int kind) {
-        for (int source : of) {
-            StageState stage = stages.get(source);
-            if (stage.settledPlace > 0 && stage.outcome[0] == kind) {
-                return stage.failedPlace;
-            }
-        }
-        return 0;
     }
 
     private void makeRoom(int least) {
@@ -612,7 +597,7 @@ final class RowView {
             Arrays.fill(errors, "");
             for (int k = 0; k < words.length; k++) {
                 int kind = Words.kind(words[k]), tag = Words.tag(words[k]);
-                if (kind == Words.FAIL || Words.isThrowing(words[k])) {
+                if (kind == Words.FAIL || Words.isThrowing(words[k]) || kind == Words.FAIL_AS && Words.lowBits(words[k]) != 0) {
                     RemoteException thrown = RemoteException.fromMap(read(k + 1));
                     errors[k + 1] = Text.describe(describe, describe == Describe.ALL ? thrown.getMessage() : thrown); // (without its class)
                 } else if ((kind == Words.COMPLETE || kind == Words.FINISH) && tag == 1) {
@@ -648,7 +633,7 @@ final class RowView {
 
     /** Reads the payload of a place, which the store is asked for where it isn't known. */
     private <T> T readPayload(int place, byte[] known, PayloadReader<T> reading) {
-        return readPayload(opened, place, known == null ? payloadIfAny(place) : known, reading);
+        return readPayload(opened, place, known == null ? payload(place) : known, reading);
     }
 
     private static <T> T readPayload(Store.Opened opened, int place, byte[] payload, PayloadReader<T> reading) {
@@ -666,13 +651,9 @@ final class RowView {
         return payload;
     }
 
-    private byte[] payloadIfAny(int place) {
-        byte[] mine = ownPayloads.get(place);
-        return mine != null || place == 0 ? mine : retryingForAMinute(host, () -> store.payload(opened.name, opened.number, place));
-    }
-
     private byte[] payload(int place) {
-        return requirePayload(opened, place, payloadIfAny(place));
+        byte[] mine = ownPayloads.get(place);
+        return requirePayload(opened, place, mine != null ? mine : retryingForAMinute(host, () -> store.payload(opened.name, opened.number, place)));
     }
 
     /** The value of a kind and a number. */
@@ -680,9 +661,9 @@ final class RowView {
         return some == 0 ? null : readPayload(place, Json::read);
     }
 
-    /** The exception of an outcome that one of these stages has, or null where it is a value. */
-    Throwable fault(int[] outcome, int... of) {
-        int place = outcome[0] == NativeRow.VALUE ? 0 : payloadPlace(outcome, of);
+    /** The exception of an outcome, or null where it is a value. */
+    Throwable fault(int[] outcome) {
+        int place = outcome[0] == NativeRow.VALUE ? 0 : payloadPlace(outcome);
         return place == 0 ? fault(outcome[0], null) : readPayload(place, payload -> fault(outcome[0], payload));
     }
 
@@ -690,15 +671,14 @@ final class RowView {
         return value(outcome[NativeRow.SOME], outcome[NativeRow.GIVEN]);
     }
 
-    /** The place of the payload that says more of an outcome which one of these stages has, or 0. */
-    private int payloadPlace(int[] outcome, int... of) {
+    /** The place of the payload that says more of an outcome, or 0. */
+    private static int payloadPlace(int[] outcome) {
         switch (outcome[0]) {
             case NativeRow.VALUE:
                 return outcome[NativeRow.SOME] == 0 ? 0 : outcome[NativeRow.GIVEN];
             case NativeRow.THROWN:
-                return outcome[NativeRow.CODE];
             case NativeRow.TIMED_OUT:
-                return failedPlace(of, NativeRow.TIMED_OUT);
+                return outcome[NativeRow.CODE];
             default:
                 return 0;
         }
@@ -723,7 +703,7 @@ final class RowView {
     /** How a settled stage ended. */
     Ending ending(int stage) {
         int[] outcome = outcome(stage);
-        int place = payloadPlace(outcome, stage);
+        int place = payloadPlace(outcome);
         return new Ending(this, outcome[0], place, ownPayloads.get(place));
     }
 
@@ -799,7 +779,6 @@ final class RowView {
     /** The word that settles a promise as a stage is. */
     private WantedWord copyingWord(int promise, int given) {
         int[] outcome = outcome(given);
-        int failed = stages.get(given).failedPlace;
         switch (outcome[0]) {
             case NativeRow.VALUE:
                 return new WantedWord(Words.complete(0, promise, Words.NIL), outcome[NativeRow.SOME] == 0 ? null : payload(outcome[NativeRow.GIVEN]));
@@ -808,10 +787,9 @@ final class RowView {
             case NativeRow.CANCELLED:
                 return outcome[NativeRow.WRAPPED] == 0 ? new WantedWord(Words.cancel(0, promise), null)
                         : new WantedWord(Words.fail(0, promise, 0), Json.write(new RemoteException("CancelledError", "").toMap()));
-            case NativeRow.TIMED_OUT:
-                return new WantedWord(Words.failAs(0, promise, Words.TIMED_OUT), payloadIfAny(failed));
             default:
-                return new WantedWord(Words.failAs(0, promise, Words.BAD_ANSWER), payloadIfAny(failed));
+                int failure = outcome[0] == NativeRow.TIMED_OUT ? Words.TIMED_OUT : Words.BAD_ANSWER, place = outcome[NativeRow.CODE];
+                return new WantedWord(Words.failAs(0, promise, failure, 0), place == 0 ? null : payload(place));
         }
     }
 

@@ -671,7 +671,8 @@ public final class StoreService implements AutoCloseable {
     private static RowView.WantedWord timerWord(Store.Timer timer) {
         char kind = timer.payload.length == 0 ? 'N' : (char) timer.payload[0];
         byte[] what = kind == 'N' ? null : Arrays.copyOfRange(timer.payload, 1, timer.payload.length);
-        return new RowView.WantedWord(kind == 'E' ? Words.failAs(0, timer.stage, Words.TIMED_OUT) : Words.complete(0, timer.stage, Words.NIL), what);
+        long word = kind == 'E' ? Words.failAs(0, timer.stage, Words.TIMED_OUT, 0) : Words.complete(0, timer.stage, Words.NIL);
+        return new RowView.WantedWord(word, what);
     }
 
     /** Has a thread forget a request that is closed. */
@@ -959,7 +960,7 @@ public final class StoreService implements AutoCloseable {
         if (!isLost(Arrays.copyOfRange(reply, NativeRow.OUTCOME, reply.length), thrown)) {
             return thrown;
         }
-        Throwable fault = view.isSettled(first) ? view.fault(view.outcome(first), first) : null;
+        Throwable fault = view.isSettled(first) ? view.fault(view.outcome(first)) : null;
         return fault == null || isLost(view.outcome(first), toRemote(fault)) ? null : toRemote(fault);
     }
 
@@ -978,13 +979,13 @@ public final class StoreService implements AutoCloseable {
                 return Arrays.asList(view.value(reply[NativeRow.FIRST], reply[NativeRow.FIRST + 1]),
                         view.value(reply[NativeRow.SECOND], reply[NativeRow.SECOND + 1]));
             default:
-                return handlerArguments(view, view.form(stage), Arrays.copyOfRange(reply, NativeRow.OUTCOME, reply.length), view.sources(stage));
+                return handlerArguments(view, view.form(stage), Arrays.copyOfRange(reply, NativeRow.OUTCOME, reply.length));
         }
     }
 
     /** The arguments of a function that handles its source's outcome: a value and an exception, or the exception alone. */
-    private static List<Object> handlerArguments(RowView view, Form form, int[] outcome, int... of) {
-        Throwable fault = view.fault(outcome, of);
+    private static List<Object> handlerArguments(RowView view, Form form, int[] outcome) {
+        Throwable fault = view.fault(outcome);
         RemoteException thrown = fault == null ? null : toRemote(fault);
         return form == Form.EXCEPTIONALLY || form == Form.EXCEPTIONALLY_COMPOSE ? Collections.singletonList(thrown)
                 : Arrays.asList(fault == null ? view.value(outcome) : null, thrown);
@@ -1009,7 +1010,7 @@ public final class StoreService implements AutoCloseable {
         Form form = view.form(stage);
         int[] of = view.sources(stage);
         if (form.handles) { // (of an open source it is a bad answer, as in Python)
-            return handlerArguments(view, form, view.isSettled(of[0]) ? view.outcome(of[0]) : new int[NativeRow.GIVEN + 1], of);
+            return handlerArguments(view, form, view.isSettled(of[0]) ? view.outcome(of[0]) : new int[NativeRow.GIVEN + 1]);
         }
         List<Object> args = new ArrayList<>();
         for (int source : form == Form.APPLY_EITHER ? new int[] {hasValue(view, of[0]) || !hasValue(view, of[1]) ? of[0] : of[1]} : of) {

@@ -93,6 +93,7 @@ public final class AllTests {
         test("timeouts", TimeoutsTest::timeouts);
         test("timeouts in order", TimeoutsTest::inOrder);
         test("what timed out", TimeoutsTest::timedOut);
+        test("which of several timed out", TimeoutsTest::whose);
         test("relays of what timed out", TimeoutsTest::timedOutElsewhere);
         test("functions here", FunctionsTest::here);
         test("functions of one event", FunctionsTest::together);
@@ -301,6 +302,7 @@ public final class AllTests {
         over(place, "a value that can't be read once", StoresTest::unread);
         over(place, "rows that can't be gone on with", StoresTest::broken);
         over(place, "functions that compose in " + engine, StoredFunctionsTest::composing);
+        over(place, "stages that stand for bad answers", StoredFunctionsTest::badAnswers);
         over(place, "functions of other processes", StoredFunctionsTest::elsewhere);
         over(place, "arguments by name", StoredFunctionsTest::named);
         over(place, "transactional functions", StoredFunctionsTest::transactions);

@@ -133,7 +133,7 @@ public final class Checks {
         FollowUps followUps = new FollowUps();
         boolean did;
         synchronized (stage.request.machine) {
-            did = stage.request.applyWord(Words.failAs(Request.CLOCK, stage.number, Words.TIMED_OUT), stage.request.callerNumber(), followUps);
+            did = stage.request.applyWord(Words.failAs(Request.CLOCK, stage.number, Words.TIMED_OUT, 0), stage.request.callerNumber(), followUps);
         }
         Request.tell(followUps);
         return did;

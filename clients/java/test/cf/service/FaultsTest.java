@@ -76,6 +76,22 @@ final class FaultsTest {
             one.cancel(true);
             return all;
         });
+        programs.put("of two that time out", promise -> {
+            CompletableFuture<Object> one = promise.get(), two = promise.get(), behind = two.thenApply(x -> x);
+            List<CompletableFuture<Object>> all = Arrays.asList(one, two, behind, one.thenCombine(two, (x, y) -> x), two.thenCombine(one, (x, y) -> x),
+                    behind.thenCombine(one, (x, y) -> x), one.applyToEither(two, x -> x), two.applyToEither(one, x -> x), hooked(behind, "behind"),
+                    behind.thenApply(x -> x).handle((x, error) -> {
+                        Request.<RuntimeException>rethrow(error.getCause());
+                        return x;
+                    }));
+            for (CompletableFuture<Object> each : Arrays.asList(two, one)) {
+                each.orTimeout(1, TimeUnit.MILLISECONDS).handle((value, error) -> 0).get(20, TimeUnit.SECONDS);
+            }
+            for (CompletableFuture<Object> each : all) {
+                each.handle((value, error) -> 0).get(20, TimeUnit.SECONDS);
+            }
+            return all;
+        });
         for (boolean wraps : new boolean[] {false, true}) {
             for (boolean isCancelled : new boolean[] {false, true}) {
                 for (boolean isBefore : new boolean[] {false, true}) {

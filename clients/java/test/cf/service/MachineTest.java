@@ -188,28 +188,35 @@ final class MachineTest {
         machine.giveBackCore(null);
     }
 
-    /** A history tells both causes, of which requests have but the first. */
+    /** A history tells both causes, of which requests have but the first, with their codes. */
     static void failedAs() {
         Machine machine = new Machine(null, 8);
         machine.attachLater(source(), Machine.HERE);
         machine.attachLater(Words.attach(WHO, Form.HANDLE, 1, 0, 0, 1), Machine.HERE);
         machine.attachLater(source(), Machine.HERE);
-        for (long word : new long[] {Words.failAs(WHO, 0, Words.BAD_ANSWER), Words.claim(WHO, 1),
-            Words.failAs(WHO, 2, Words.TIMED_OUT), Words.failAs(WHO, 2, Words.BAD_ANSWER)}) {
+        machine.attachLater(source(), Machine.HERE);
+        for (long word : new long[] {Words.failAs(WHO, 0, Words.BAD_ANSWER, -1), Words.claim(WHO, 1),
+            Words.failAs(WHO, 2, Words.TIMED_OUT, 0), Words.failAs(WHO, 2, Words.BAD_ANSWER, 7)}) {
             machine.apply(word, Machine.NOBODY);
         }
+        machine.setDeadline(3, new Stage.Limit(9, false, 8));
+        machine.passTimeTo(9, Machine.NOBODY);
+        is(machine.settledCount() + " " + Machine.Settled.kind(machine.settledBits(0)) + " " + machine.settledNumber(0), "1 " + History.TIMED_OUT + " 8");
         String[] threads = {"main"};
-        History history = new History("causes", null, machine, new String[3], new Object[0], new Throwable[0], threads, null);
-        is(history.script(), "{\"cf\":3,\"room\":3,\"stages\":[],\"steps\":[[\"attach\",{\"form\":\"source\"}],"
-                + "[\"attach\",{\"form\":\"handle\",\"of\":[0],\"fn\":{\"const\":1}}],[\"attach\",{\"form\":\"source\"}],"
-                + "[\"failAs\",0,\"badanswer\"],[\"claim\",3,1],[\"failAs\",2,\"timeout\"],[\"failAs\",2,\"badanswer\"]]}");
-        is(history.report(), "attached 0\nattached 1\nattached 2\ntrue\ngranted got fault badanswer raw\ntrue\nfalse\n"
-                + "stage 0 fault badanswer raw\nstage 1 pending\nstage 2 fault timeout raw\n");
+        History history = new History("causes", null, machine, new String[4], new Object[0], new Throwable[0], threads, null);
+        is(history.script(), "{\"cf\":3,\"room\":4,\"stages\":[],\"steps\":[[\"attach\",{\"form\":\"source\"}],"
+                + "[\"attach\",{\"form\":\"handle\",\"of\":[0],\"fn\":{\"const\":1}}],[\"attach\",{\"form\":\"source\"}],[\"attach\",{\"form\":\"source\"}],"
+                + "[\"failAs\",0,\"badanswer\",4294967295],[\"claim\",3,1],[\"failAs\",2,\"timeout\"],[\"failAs\",2,\"badanswer\",7],"
+                + "[\"failAs\",3,\"timeout\",8]]}");
+        is(history.report(), "attached 0\nattached 1\nattached 2\nattached 3\ntrue\ngranted got fault badanswer 4294967295 raw\ntrue\nfalse\ntrue\n"
+                + "stage 0 fault badanswer 4294967295 raw\nstage 1 pending\nstage 2 fault timeout raw\nstage 3 fault timeout 8 raw\n");
         String said = history.toString();
-        is(said.contains("main fails 0 source with a bad answer\n") && said.contains("0 source ends: a bad answer\n"), true);
-        is(said.contains("main claims 1 handle and calls it with a bad answer\n"), true);
+        is(said.contains("main fails 0 source with a bad answer, code 4294967295\n"), true);
+        is(said.contains("0 source ends: a bad answer, code 4294967295\n"), true);
+        is(said.contains("main claims 1 handle and calls it with a bad answer, code 4294967295\n"), true);
         is(said.contains("main times out 2 source\n") && said.contains("2 source ends: timed out\n"), true);
-        is(said.contains("main fails 2 source with a bad answer: too late\n"), true);
+        is(said.contains("main fails 2 source with a bad answer, code 7: too late\n"), true);
+        is(said.contains("clock times out 3 source, code 8\n") && said.contains("3 source ends: timed out, code 8\n"), true);
         machine.giveBackCore(null);
     }
 

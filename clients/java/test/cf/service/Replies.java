@@ -211,11 +211,15 @@ public final class Replies {
                 cause = "cancelled";
                 break;
             case History.TIMED_OUT:
-                cause = "timeout";
+                cause = "timeout" + code(number);
                 break;
             default:
-                cause = "badanswer";
+                cause = "badanswer" + code(number);
         }
         return "fault " + cause + ((what & 16) != 0 ? " wrapped" : " raw");
+    }
+
+    private static String code(int number) {
+        return number == 0 ? "" : " " + Integer.toUnsignedString(number);
     }
 }

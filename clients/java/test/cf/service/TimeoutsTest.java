@@ -123,6 +123,38 @@ final class TimeoutsTest {
         is(thrown(CompletionException.class, () -> minimal.toCompletableFuture().join()).getCause() == cause, true);
     }
 
+    /** A stage has the exception of that source which it took, where several timed out, also of a flow, and by a limit of a closed request. */
+    static void whose() throws Exception {
+        Request timed = SERVICE.request();
+        Stage<Integer> one = timed.promise(), two = timed.promise();
+        List<Stage<Integer>> ones = Arrays.asList(one.thenApply(x -> x), one.thenCombine(two, Integer::sum)),
+                twos = Arrays.asList(two.thenApply(x -> x), two.thenCombine(one, Integer::sum), one.applyToEither(two, x -> x));
+        List<Throwable> seen = new ArrayList<>();
+        one.whenComplete((x, error) -> seen.add(error));
+        two.orTimeout(20, TimeUnit.MILLISECONDS);
+        timed.close();
+        thrown(ExecutionException.class, () -> two.get(20, TimeUnit.SECONDS));
+        timeOut(one);
+        is(seen, Collections.singletonList(one.exceptionNow()));
+        is(one.exceptionNow() == two.exceptionNow(), false);
+        for (Stage<Integer> each : ones) {
+            is(each.exceptionNow() == one.exceptionNow(), true);
+            is(end(each), "fault timeout wrapped");
+        }
+        for (Stage<Integer> each : twos) {
+            is(each.exceptionNow() == two.exceptionNow(), true);
+            is(end(each), "fault timeout wrapped");
+        }
+        Flow flow = new Flow("flow");
+        Flow.Step<Integer> slow = flow.promise(), other = flow.promise(), last = slow.thenCombine(other, Integer::sum);
+        Request begun = SERVICE.start(flow);
+        Stage<Integer> asked = begun.stage(last);
+        timeOut(begun.stage(other));
+        timeOut(begun.stage(slow));
+        is(asked.exceptionNow() == begun.stage(slow).exceptionNow(), true);
+        is(end(asked), "fault timeout wrapped");
+    }
+
     private static String end(Stage<?> timedStage) {
         return Checks.ends(timedStage.request().history())[timedStage.number()];
     }

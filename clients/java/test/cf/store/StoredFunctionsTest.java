@@ -4,6 +4,8 @@ import static cf.service.Checks.fits;
 import static cf.service.Checks.is;
 import static cf.service.Checks.thrown;
 
+import cf.internal.Host;
+import cf.internal.Words;
 import cf.service.Describe;
 import cf.store.StoresTest.Database;
 import cf.store.StoresTest.InFile;
@@ -20,6 +22,7 @@ import java.util.Collections;
 import java.util.LinkedHashMap;
 import java.util.List;
 import java.util.Map;
+import java.util.concurrent.ExecutionException;
 import java.util.concurrent.Executor;
 import java.util.concurrent.TimeUnit;
 import java.util.concurrent.TimeoutException;
@@ -69,7 +72,7 @@ public final class StoredFunctionsTest {
             is(StoresTest.remote(number.compose("fails")).text(), "no stage");
             is(StoresTest.remote(number.compose("none")).kind(), "IllegalArgumentException");
             is(StoresTest.remote(number.compose("other")).kind(), "IllegalArgumentException");
-            is(StoresTest.end(number.compose("late")) instanceof TimeoutException, true);
+            is(((TimeoutException) StoresTest.end(number.compose("late"))).getMessage(), "given took longer than 0.05 s");
             thrown(java.util.concurrent.CancellationException.class, () -> StoresTest.end(number.compose("cancelled")));
             declined.fail(new RemoteException("Declined", "card"));
             is(StoresTest.remote(left).kind(), "Declined");
@@ -82,6 +85,38 @@ public final class StoredFunctionsTest {
             is(StoresTest.end(some), Arrays.asList(42L, 7L, 45L));
             is(StoresTest.end(request.gather(twice)), Arrays.asList(42L));
             thrown(IllegalArgumentException.class, request::gather);
+        }
+    }
+
+    /** A stage that stands for another one ends as that does, with what is said of it: also by a cause that other programs give. */
+    public static void badAnswers(Place place) throws Exception {
+        Functions functions = new Functions().composing("asks", 1, (request, name) -> request.promise((String) name));
+        try (StoreService service = StoresTest.service(place, functions); Store store = place.open()) {
+            StoredRequest request = service.request("bad answers");
+            RowView view = new RowView(store, store.find(request.name), 5, new Host());
+            for (String why : new String[] {"why", null}) {
+                byte[] said = why == null ? null : Json.write(new RemoteException("BadAnswer", why).toMap());
+                StoredStage name = request.promise("name"), asks = name.compose("asks");
+                name.complete("asked " + why);
+                while (request.stage("asked " + why) == null) {
+                    Thread.sleep(1);
+                }
+                int asked = request.stage("asked " + why).number();
+                view.catchUp();
+                view.act(it -> Collections.singletonList(new RowView.WantedWord(Words.failAs(0, asked, Words.BAD_ANSWER, 0), said)));
+                is(thrown(ExecutionException.class, () -> asks.get(20, TimeUnit.SECONDS)).getCause().getClass(), IllegalStateException.class);
+                long[] words = request.history().words();
+                int found = 0;
+                for (int k = 0; k < words.length; k++) {
+                    int stage = Words.stage(words[k]);
+                    if (Words.kind(words[k]) == Words.FAIL_AS && (stage == asked || stage == asks.number() - 1)) {
+                        found++;
+                        is(words[k] & 0xfffffffffL, (long) Words.BAD_ANSWER << 32 | (said == null ? 0 : k + 1));
+                        is(Arrays.equals(store.payload(request.name, request.number, k + 1), said), true);
+                    }
+                }
+                is(found, 2);
+            }
         }
     }
 
@@ -471,7 +506,8 @@ public final class StoredFunctionsTest {
             String lines = history.toString();
             is(lines.startsWith("history: " + history.words().length + " events, 7 stages\n"), true);
             for (String line : new String[] {"attaches 1 inc, apply behind 0 number", "completes 0 number with 41", "1 inc ends: 42",
-                "2 declined ends: IllegalStateException: card declined", "4 twice ends: 43", "6 late ends: "}) {
+                "2 declined ends: IllegalStateException: card declined", "4 twice ends: 43",
+                "6 late ends: timed out, TimeoutError: late took longer than 0.001 s\n"}) {
                 is(lines.contains(line) ? line : lines, line);
             }
             is(history.line().startsWith("history"), true);

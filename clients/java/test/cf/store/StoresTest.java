@@ -526,15 +526,31 @@ public final class StoresTest {
     }
 
     public static void timers(Place place) throws Exception {
-        try (StoreService service = service(place, new Functions())) {
+        Functions functions = new Functions().with("text", 1, thrown -> ((RemoteException) thrown).text())
+                .with("both", 1, (one, two) -> Arrays.asList(one, two));
+        try (StoreService service = service(place, functions)) {
             StoredRequest request = service.request("timers");
             StoredStage slow = request.promise("slow"), other = request.promise("other"), soon = request.promise("soon");
+            StoredStage late = request.promise("late"), both = late.combine(slow, "both"), first = request.anyOf(late, slow);
             slow.orTimeout(50, TimeUnit.MILLISECONDS);
             other.completeOnTimeout("in its place", 50, TimeUnit.MILLISECONDS);
             soon.orTimeout(1, TimeUnit.MINUTES).complete(null);
             is(((TimeoutException) end(slow)).getMessage(), "slow took longer than 0.05 s");
             is(end(other), "in its place");
             is(end(soon), null);
+            late.orTimeout(60, TimeUnit.MILLISECONDS);
+            is(((TimeoutException) end(both)).getMessage(), "late took longer than 0.06 s");
+            is(((TimeoutException) end(first)).getMessage(), "slow took longer than 0.05 s");
+            is(end(first.recover("text")), "slow took longer than 0.05 s");
+            long[] words = request.history().words();
+            int timeouts = 0;
+            for (int k = 0; k < words.length; k++) {
+                if (Words.kind(words[k]) == Words.FAIL_AS) {
+                    timeouts++;
+                    is(words[k] & 0xfffffffffL, (long) k + 1); // (its tag, and where its payload stands)
+                }
+            }
+            is(timeouts, 2);
         }
         try (Store store = place.open()) {
             List<Store.Timer> left = store.dueTimers(1e12);
