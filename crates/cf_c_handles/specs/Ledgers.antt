@@ -13,7 +13,7 @@ use Rattle.cf_model.specs.States.{State, claim_at, is_ready, start}
 use Rattle.cf_event.specs.Words.{word_of}
 use Rattle.cf_ledger.specs.declared.faults.LedgerFault.{LedgerFault}
 use Rattle.cf_ledger.specs.declared.faults.LedgerFault.TheVariants as faults
-use Rattle.cf_ledger.specs.Ledgers.{Ledger as Ledger', Does, DoesAll, IsFirstRefused, LedgerRefuses, state_at, state_of, with_more}
+use Rattle.cf_ledger.specs.Ledgers.{Ledger as Ledger', Does, DoesAll, IsFirstRefused, LedgerRefuses, stages_of, state_at, state_of, with_more}
 use Rattle.cf_row.specs.Rows.{ledger_of}
 use Rattle.cf_c_handles.specs.Answers.{Codes}
 use Rattle.cf_c_handles.specs.Building.{Fills}
@@ -107,10 +107,10 @@ TellsStage i l r = r ≡ of_stage (state_of l) i (stage_now (state_of l) i)
 
 abbrev pub TellsFunction : ℕ → Ledger' → Result ℕ Code → Type 0
 TellsFunction i l r =
-    r ≡ (if nat_lt i (length (state_of l).plan.stages) then or_nothing (function_at (state_of l).plan.stages i) else Err NoStage)
+    r ≡ (if nat_lt i (stages_of l) then or_nothing (function_at (state_of l).plan.stages i) else Err NoStage)
 
 abbrev pub TellsStages : Ledger' → Result ℕ Code → Type 0
-TellsStages l r = r ≡ Ok (length (state_of l).plan.stages)
+TellsStages l r = r ≡ Ok (stages_of l)
 
 -- the lowest ready stage from a number on
 pub record IsFirstReady (from : ℕ) (s : State) (i : ℕ) : Type 0 where
@@ -121,7 +121,7 @@ pub record IsFirstReady (from : ℕ) (s : State) (i : ℕ) : Type 0 where
 
 abbrev pub TellsReady : ℕ → Ledger' → Result ℕ Code → Type 0
 TellsReady from l (Ok i) = IsFirstReady from (state_of l) i
-TellsReady from l (Err fault) = (fault ≡ Nothing) × NoneReady from (length (state_of l).plan.stages) (state_of l).stages
+TellsReady from l (Err fault) = (fault ≡ Nothing) × NoneReady from (stages_of l) (state_of l).stages
 
 -- ---- what is done to it
 

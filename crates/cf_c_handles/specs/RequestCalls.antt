@@ -1,10 +1,10 @@
 -- What a request behind a handle is asked.
-use Rattle.std.specs.Prelude.{◌≡◌, ◌⊎◌, ℕ, ◌<◌, ◌≤◌, Bool, Result, Ok, Err, List, [], is_some, length}
+use Rattle.std.specs.Prelude.{◌≡◌, ◌⊎◌, ℕ, ◌<◌, ◌≤◌, Bool, Result, Ok, Err, List, [], is_some}
 use Rattle.cf_model.specs.declared.events.Reply.{Reply}
 use Rattle.cf_request.specs.Deadlines.{Forgets, IsNextDue, NoneOpen}
 use Rattle.cf_request.specs.Growing.{Grows, IsNoGrowth}
-use Rattle.cf_request.specs.Lanes.{ready_below}
-use Rattle.cf_request.specs.Machines.{AppliesWord, CancelsAll, GoesOn, IsNoCancel, IsNoDeadline, IsNoFollow, IsNoNext, IsNoPass, IsNoWord, Machine, OnlyFinds, Passes, Refuses, Restarts, SetsDeadline, SetsFollow, free_in, open_in, state_in}
+use Rattle.cf_request.specs.Lanes.{ready_in}
+use Rattle.cf_request.specs.Machines.{AppliesWord, CancelsAll, GoesOn, IsNoCancel, IsNoDeadline, IsNoFollow, IsNoNext, IsNoPass, IsNoWord, Machine, OnlyDeadlines, OnlyFinds, Passes, Refuses, Restarts, SetsDeadline, SetsFollow, free_in, open_in, state_in}
 use Rattle.cf_request.specs.declared.deadlines.Deadline.{Deadline}
 use Rattle.cf_request.specs.declared.faults.MachineFault.{MachineFault}
 use Rattle.cf_request.specs.declared.faults.MachineFault.TheVariants as faults
@@ -159,7 +159,7 @@ pub record Rests (m : Machine) (step : CfRequestStep) (task : CfTask) : Type 0 w
   pub caller : step.who ≤ 63
   pub lane : step.lane < lanes_in m
   pub none_held : task.held ≡ 0
-  pub none_ready : ready_below (state_in m) m.teller.lanes.of step.lane (length (state_in m).plan.stages) ≡ 0
+  pub none_ready : ready_in m.teller step.lane ≡ 0
   pub none_told : m.teller.told ≡ []
 
 abbrev pub RestsIn : Object → CfRequestStep → CfTask → Type 0
@@ -190,7 +190,7 @@ OfRequest Tells (Request m) r new = Tells m r × (new ≡ Request m)
 OfRequest Tells held r new = (r ≡ Err WrongKind) × (new ≡ held)
 
 abbrev pub TellsReadyOf : ℕ → Machine → Result ℕ Code → Type 0
-TellsReadyOf lane m (Ok n) = (lane < lanes_in m) × (n ≡ ready_below (state_in m) m.teller.lanes.of lane (length (state_in m).plan.stages))
+TellsReadyOf lane m (Ok n) = (lane < lanes_in m) × (n ≡ ready_in m.teller lane)
 TellsReadyOf lane m (Err code) = (lanes_in m ≤ lane) × (code ≡ NoLane)
 
 -- the deadline that comes next, from the last moment on
@@ -208,7 +208,7 @@ pub record StaysButForgets (old : Machine) (new : Object) : Type 0 where
   pub now : Machine
   pub is : new ≡ Request now
   pub forgets : Forgets (state_in old).stages old.deadlines now.deadlines
-  pub rest : now ≡ record old { deadlines = now.deadlines }
+  pub rest : OnlyDeadlines old now
 
 abbrev pub TellsNextIn : Object → Result CfDeadline Code → Object → Type 0
 TellsNextIn (Request m) r new = TellsNextDeadline m r × StaysButForgets m new

@@ -13,7 +13,7 @@ use Rattle.cf_row.specs.Abandoning.{Abandons}
 use Rattle.cf_row.specs.Next.{CanClaim, Finishes, HasNoClaim, NoneToClaim}
 use Rattle.cf_row.specs.Numbers.{FollowsRule}
 use Rattle.cf_row.specs.Puts.{IsNoPut, OnlyFinds, Plans, Row as Row', TellsOf, pairs_of}
-use Rattle.cf_row.specs.Rows.{IsNoEntry, Replica, Takes, ledger_of, session_of, state_of, with_more}
+use Rattle.cf_row.specs.Rows.{IsNoEntry, Replica, Takes, ledger_of, session_of, stages_of, state_of, with_more}
 use Rattle.cf_c_handles.specs.Ledgers.{HaveNews, word_code}
 use Rattle.cf_c_handles.specs.Replies.{as_reply}
 use Rattle.cf_c_handles.specs.RequestCalls.{IsDueAs}
@@ -171,29 +171,29 @@ as_claim c = record { session = c.session; stage = c.stage }
 pub record IsFirstOpen (from : ℕ) (seen : Replica) (c : CfRowClaim) : Type 0 where
   pub whose : IsGrantedTo seen c.session c.stage
   pub claimed : claim_at (state_of seen) c.stage ≢ None
-  pub there : c.stage < length (state_of seen).plan.stages
+  pub there : c.stage < stages_of seen
   pub above : from ≤ c.stage
   pub first : NoneOpen from c.stage (state_of seen)
 
 abbrev pub TellsOpenClaim : ℕ → Replica → Result CfRowClaim Code → Type 0
 TellsOpenClaim from seen (Ok c) = IsFirstOpen from seen c
-TellsOpenClaim from seen (Err code) = (code ≡ Nothing) × NoneOpen from (length (state_of seen).plan.stages) (state_of seen)
+TellsOpenClaim from seen (Err code) = (code ≡ Nothing) × NoneOpen from (stages_of seen) (state_of seen)
 
 -- the lowest stage from a number on that a session has claimed, and that isn't settled
 pub record IsFirstHeld (session from : ℕ) (seen : Replica) (i : ℕ) : Type 0 where
   pub held : IsHeldBy seen session i
-  pub there : i < length (state_of seen).plan.stages
+  pub there : i < stages_of seen
   pub above : from ≤ i
   pub first : NoneHeldBy seen session from i
 
 abbrev pub TellsHeld : ℕ → ℕ → Replica → Result ℕ Code → Type 0
 TellsHeld session from seen (Ok i) = IsFirstHeld session from seen i
-TellsHeld session from seen (Err code) = (code ≡ Nothing) × NoneHeldBy seen session from (length (state_of seen).plan.stages)
+TellsHeld session from seen (Err code) = (code ≡ Nothing) × NoneHeldBy seen session from (stages_of seen)
 
 -- the word that fails the lowest stage from a number on that a session has
 abbrev pub TellsAbandon : ℕ → ℕ → ℕ → Replica → Result ℕ Code → Type 0
 TellsAbandon session from number seen (Ok word) = Abandons seen session from number word
-TellsAbandon session from number seen (Err code) = (code ≡ Nothing) × NoneHeldBy seen session from (length (state_of seen).plan.stages)
+TellsAbandon session from number seen (Err code) = (code ≡ Nothing) × NoneHeldBy seen session from (stages_of seen)
 
 -- the word that finishes what a task holds, if it holds something that this session has claimed
 abbrev pub FinishesOr : Replica → Option Held → Result ℕ Code → Type 0
@@ -208,10 +208,10 @@ TellsFinish task seen r = FinishesOr seen (held_by task) r
 -- the lowest stage from a number on that the session could claim behind the finish of what a task holds
 pub record IsFirstToClaim (task : CfTask) (from : ℕ) (seen : Replica) (i : ℕ) : Type 0 where
   pub can : CanClaim seen (held_by task) i
-  pub there : i < length (state_of seen).plan.stages
+  pub there : i < stages_of seen
   pub above : from ≤ i
   pub first : NoneToClaim seen (held_by task) from i
 
 abbrev pub TellsNextClaim : CfTask → ℕ → Replica → Result ℕ Code → Type 0
 TellsNextClaim task from seen (Ok i) = IsFirstToClaim task from seen i
-TellsNextClaim task from seen (Err code) = (code ≡ Nothing) × NoneToClaim seen (held_by task) from (length (state_of seen).plan.stages)
+TellsNextClaim task from seen (Err code) = (code ≡ Nothing) × NoneToClaim seen (held_by task) from (stages_of seen)

@@ -10,7 +10,7 @@ mod sweeping;
 mod telling;
 mod working;
 
-ghost use Rattle.std.specs.Prelude.{◌≡◌, ◌+◌, ◌<◌, ◌≤◌, ◌↔◌, IfOk, IsTrue, None, length, nat_lt, replicate, true, vec_capacity};
+ghost use Rattle.std.specs.Prelude.{◌≡◌, ◌+◌, ◌<◌, ◌≤◌, ◌↔◌, IfOk, IfSome, IsTrue, None, length, nat_lt, replicate, true, vec_capacity};
 ghost use Rattle.cf_outcome.specs.Outcomes.{now_of};
 ghost use Rattle.cf_forms.specs.Plans.{IsGrowing, function_at, has_place, opening_of, with_room};
 ghost use Rattle.cf_model.specs.States.{lowest_ready_of, outcome_at, start};
@@ -190,6 +190,7 @@ impl Graph {
     /// The lowest ready stage, or none where no stage is ready.
     pub fn lowest_ready(&mut self) -> Option<u16>
         ensures told { result ≡ lowest_ready_of self.old.state }
+        ensures there { IfSome result (λ i. i < length self.old.state.plan.stages) }
         ensures unchanged { self.new.state ≡ self.old.state }
         ensures rests { NoneLeftFor result self.old.left → self.new ≡ self.old }
         ensures counted { CountsTurns self.old self.new }

@@ -79,8 +79,6 @@ impl Desk {
         if let Some(fault) = count_fault(sizes) {
             return Err(fault);
         }
-        // A plan that was built is within its bounds.
-        let _known = plan.stages();
         let fixed = DeskGrowth {
             room: 0,
             functions: function_bound(plan),

@@ -10,7 +10,7 @@ use Rattle.cf_ledger.specs.declared.faults.StepFault.{StepFault}
 use Rattle.cf_ledger.specs.declared.step.Held.{Held}
 use Rattle.cf_ledger.specs.declared.step.Taken.{Taken}
 use Rattle.cf_request.specs.Deadlines.{Forgets, IsNextDue, IsNextOpen, NoneOverdue}
-use Rattle.cf_request.specs.Lanes.{NoneReadyIn}
+use Rattle.cf_request.specs.Lanes.{NothingIsReady}
 use Rattle.cf_request.specs.Machines.{IsNoNext, Machine, OnlyFinds, Passes, state_in}
 use Rattle.cf_request.specs.Rows.{AddsBehind, AreCalls, IsCall, Out, RunsOnce, all_jobs, all_told, job_of, stage_of}
 use Rattle.cf_request.specs.Rows.IsCall.{goes_on, took}
@@ -101,7 +101,7 @@ more_turns {F} {W} calls wakes who lane a b m f w (Some g) y h ts turns is same 
 
 -- the last one is taken
 pub last_turn : {F W : Type 0} → RunsOnce → AddsBehind → (calls : CallsOf F) (wakes : WakesOf W) (who lane : ℕ) (a b : Now F W) (m : Machine) (f : F) (w : W) (x : Option Held) (ts : List Taken) → AreTurns calls wakes who lane a ts b → x ≡ None →
-    Turns calls wakes who lane b (record { machine = m; functions = f; waiters = w; held = x }) x → IfNone x (NoneReadyIn (state_in m) m.teller.lanes.of lane (length (state_in m).plan.stages)) → IsHandedOut m →
+    Turns calls wakes who lane b (record { machine = m; functions = f; waiters = w; held = x }) x → IfNone x (NothingIsReady m.teller lane) → IsHandedOut m →
     RunsOut calls wakes who lane a (record { machine = m; functions = f; waiters = w; held = None })
 last_turn once behind calls wakes who lane a b m f w (Some g) ts turns is turn none out = cc
 last_turn once behind calls wakes who lane a b m f w None ts turns is turn none out =

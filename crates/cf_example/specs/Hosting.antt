@@ -1,5 +1,5 @@
 -- What a host of a request does: it runs the stages of a lane, and tells those that wait.
-use Rattle.std.specs.Prelude.{◌≡◌, ℕ, Option, Some, None, List, [], ◌∷◌, ◌++◌, length, map, unwrap_or}
+use Rattle.std.specs.Prelude.{◌≡◌, ℕ, Option, Some, None, List, [], ◌∷◌, ◌++◌, map, unwrap_or}
 use Rattle.cf_forms.specs.declared.forms.Answer.{Answer}
 use Rattle.cf_model.specs.Calling.{CallsOf}
 use Rattle.cf_model.specs.declared.events.Reply.{Reply}
@@ -7,9 +7,9 @@ use Rattle.cf_ledger.specs.declared.faults.StepFault.{StepFault}
 use Rattle.cf_ledger.specs.declared.step.Held.{Held}
 use Rattle.cf_ledger.specs.declared.step.Taken.{Taken}
 use Rattle.cf_request.specs.Deadlines.{Forgets}
-use Rattle.cf_request.specs.Lanes.{NoneReadyIn}
-use Rattle.cf_request.specs.Machines.{AppliesWord, GoesOn, IsNoNext, Machine, OnlyFinds, Passes, state_in}
-use Rattle.cf_request.specs.Telling.{IsApart, IsOnce}
+use Rattle.cf_request.specs.Lanes.{NothingIsReady}
+use Rattle.cf_request.specs.Machines.{AppliesWord, GoesOn, IsNoNext, Machine, OnlyDeadlines, OnlyFinds, Passes, state_in}
+use Rattle.cf_request.specs.Telling.{IsApart, IsOnce, Teller}
 use Rattle.cf_request.specs.declared.machine.Next.{Next}
 
 -- ---- those that wait
@@ -23,10 +23,14 @@ abbrev pub AreWoken : {W : Type 0} → WakesOf W → W → List ℕ → W → Ty
 AreWoken wakes v [] w = w ≡ v
 AreWoken {W} wakes v (i ∷ rest) w = (between : W) × wakes v i between × AreWoken wakes between rest w
 
+-- all that is told was taken
+abbrev pub all_taken : Teller → Teller
+all_taken t = record t { taken = t.taken ++ t.told; told = [] }
+
 -- all that the machine tells is told to those that wait, and taken
 pub record HandsOut {W : Type 0} (wakes : WakesOf W) (old : Machine) (v : W) (new : Machine) (w : W) : Type 0 where
   pub woken : AreWoken wakes v old.teller.told w
-  pub taken : new ≡ record old { teller = record old.teller { taken = old.teller.taken ++ old.teller.told; told = [] } }
+  pub taken : new ≡ record old { teller = all_taken old.teller }
 
 -- nothing is told and not yet taken, and those that wait were told each settled stage once
 pub record IsHandedOut (m : Machine) : Type 0 where
@@ -85,7 +89,7 @@ pub record RunsOut {F W : Type 0} (calls : CallsOf F) (wakes : WakesOf W) (who l
   pub before : Now F W
   pub runs : RunsOn calls wakes who lane a before
   pub last : IsLastTurn calls wakes who lane before b
-  pub none : NoneReadyIn (state_in b.machine) b.machine.teller.lanes.of lane (length (state_in b.machine).plan.stages)
+  pub none : NothingIsReady b.machine.teller lane
   pub handed_out : IsHandedOut b.machine
 
 -- then a step was refused for this fault: nothing is done by it, and what is held then is still to be finished
@@ -116,4 +120,4 @@ pub record PassesThen {W : Type 0} (wakes : WakesOf W) (moment : ℕ) (old : Mac
   pub told : Machine
   pub hands_out : HandsOut wakes between v told w
   pub forgets : Forgets (state_in told).stages told.deadlines new.deadlines
-  pub same : new ≡ record told { deadlines = new.deadlines }
+  pub same : OnlyDeadlines told new

@@ -1,7 +1,7 @@
 //! What a service writes that runs a request over a machine: a thread of a lane, and what is told to those that wait.
 //! Each clause follows from the contracts of the machine's calls, and from its laws.
-ghost use Rattle.std.specs.Prelude.{◌≡◌, ◌<◌, ℕ, None, IfErr, IfNone, IfOk, IfSome, OnErr, OnOk, length};
-ghost use Rattle.cf_request.specs.Lanes.{NoneReadyIn};
+ghost use Rattle.std.specs.Prelude.{◌≡◌, ◌<◌, ℕ, None, IfErr, IfNone, IfOk, IfSome, OnErr, OnOk};
+ghost use Rattle.cf_request.specs.Lanes.{NothingIsReady};
 ghost use Rattle.cf_request.specs.Machines.{AppliesWord, IsNoNext, IsNoPass, IsNoWord, OnlyFinds, Passes, state_in};
 ghost use Rattle.cf_request.specs.Rows.{unclaimed};
 ghost use Rattle.cf_example.specs.Hosting.{AppliesThen, AreWoken, HandsOut, IsHandedOut, PassesThen, RunsOut, RunsUntil, Turns};
@@ -73,9 +73,7 @@ fn turn<F: Functions, W: Waiters>(
         (record { machine = machine.old; functions = functions.old; waiters = waiters.old; held = held })
         (record { machine = machine.new; functions = functions.new; waiters = waiters.new; held = holds }) holds) }
     ensures handed_out { OnOk result (IsHandedOut machine.new) }
-    ensures none { IfOk result (λ holds. IfNone holds
-        (NoneReadyIn (state_in machine.new) machine.new.teller.lanes.of lane
-        (length (state_in machine.new).plan.stages))) }
+    ensures none { IfOk result (λ holds. IfNone holds (NothingIsReady machine.new.teller lane)) }
     ensures fewer { IfOk result (λ holds. IfSome holds (λ h.
         unclaimed (state_in machine.new) < unclaimed (state_in machine.old))) }
     ensures refused { OnErr result (OnlyFinds machine.old machine.new) }

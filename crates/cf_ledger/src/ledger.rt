@@ -1,6 +1,6 @@
 //! The ledger.
 ghost use Rattle.std.specs.Prelude.{◌≡◌, ◌+◌, ◌-◌, ◌<◌, ◌≤◌, ◌↔◌, [], IfErr, IfNone, IfOk, IfSome, IsTrue, None, OnErr, OnOk, Some, false, length, map, max, get_or, replicate, take, true};
-ghost use Rattle.cf_forms.specs.Plans.{function_at, has_place, reopened, with_room};
+ghost use Rattle.cf_forms.specs.Plans.{function_at, has_place, plan_of, reopened, with_room};
 ghost use Rattle.cf_model.specs.Graphs.{AreNews, NoneReady, stage_in};
 ghost use Rattle.cf_model.specs.States.{claim_at, is_ready, lowest_ready_of, outcome_at, outcome_of, start};
 ghost use Rattle.cf_model.specs.declared.events.Event.TheVariants.{Claim as Claims, Finish as FinishesAs};
@@ -21,7 +21,7 @@ use cf_event::{LAST_CALLER, claim_of, decode, giving_of};
 use cf_forms::Answer;
 use cf_model::{Claimed, Event, Finished, Reply, Stage};
 use cf_outcome::Outcome;
-use cf_plan::{MAX_STAGES, Plan};
+use cf_plan::{MAX_EDGES, MAX_STAGES, Plan};
 use std::alloc::{AllocError, Global};
 use std::marker::Model;
 use std::mem;
@@ -347,8 +347,6 @@ impl Ledger {
     pub fn restart(&mut self)
         ensures { self.new ≡ record self.old { events = [] } }
     {
-        // A plan is opened with all its stages.
-        let _known = self.book.plan.stages();
         start_again(&mut self.book.graph);
         self.book.words.clear();
         self.book.news.clear();
@@ -443,16 +441,17 @@ fn take_turns(graph: &mut Graph)
     ensures same { graph.new.state ≡ graph.old.state }
     ensures worked_out { graph.new.left ≡ None }
 {
-    graph.nudge(u32::MAX);
-    // A plan has so few stages and edges that these are fewer turns.
-    let _known = graph.stages();
+    // There is a turn for each stage and each edge at most, so one more takes all that are left.
+    let most = u32::from(graph.stages()) + MAX_EDGES as u32;
+    graph.nudge(most + 1);
 }
 
-/// A flag for each stage that there may ever be.
+/// A flag for each stage that there may ever be of a plan, which was opened with all its stages.
 #[tactic(auto, using(cf_forms::proofs::PlanLemmas::place_is))]
 fn flags_of(alloc: Global, plan: &Plan, room: u16) -> Result<BitSet, AllocError>
     requires place { has_place plan.now.stages room ≡ true }
-    ensures { IfOk result (λ flags. flags ≡ replicate (length plan.now.stages + room) false) }
+    ensures flags { IfOk result (λ flags. flags ≡ replicate (length plan.now.stages + room) false) }
+    ensures whole { plan.now ≡ plan_of plan.now.stages plan.now.limits }
 {
     BitSet::new(alloc, plan.stages() + room)
 }

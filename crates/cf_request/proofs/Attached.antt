@@ -4,6 +4,7 @@ use Rattle.std.specs.Prelude.{is_some, option_and_then}
 use Rattle.std.proofs.Math.Nat.{max-eq_left}
 use Rattle.cf_forms.specs.declared.forms.Form.{Form}
 use Rattle.cf_forms.specs.declared.forms.Of.{Of}
+use Rattle.cf_forms.specs.declared.forms.Of.TheVariants.{None as NoSource, One, Two}
 use Rattle.cf_forms.specs.Plans.{PlannedStage, attached_stage, sources_of}
 use Rattle.cf_forms.proofs.ListLemmas.{slice_get-front}
 use Rattle.cf_model.specs.declared.events.Event.{Event}
@@ -19,17 +20,16 @@ use Rattle.cf_model.specs.Ranges.{EventFits}
 use Rattle.cf_model.specs.States.{State, appended, flowed, new_states, next_of, outcome_in, outcome_of}
 use Rattle.cf_model.proofs.Closed.{reached_closed, reached_length}
 use Rattle.cf_event.specs.Decoding.{event_of}
-use Rattle.cf_event.specs.Words.{word_of}
+use Rattle.cf_event.specs.Words.{IsEvent, IsStage, word_of}
 use Rattle.cf_ledger.specs.Ledgers.{HasRoomFor, IsShort, Ledger, LedgerRefuses, stages_of, state_of}
 use Rattle.cf_ledger.specs.declared.faults.LedgerFault.{LedgerFault}
 use Rattle.cf_ledger.specs.declared.faults.LedgerFault.TheVariants.{NoMemory, NoEvent, NoStage, NoRoom}
 use Rattle.cf_request.specs.Attaching.{TellsAttach, TellsAttaches}
 use Rattle.cf_request.specs.Machines.{AppliesWord, IsMachine, Machine, free_in, stages_in, state_in, waiting_in}
-use Rattle.cf_request.specs.Ready.{with_lane}
 use Rattle.cf_request.specs.Relays.{AreRelays, AreThere, IsRelayDue, NoneBehind, waiting_of}
 use Rattle.cf_request.specs.Rows.{AreCalls, IsCall, nothing}
 use Rattle.cf_request.specs.Rows.IsCall.{applies, reserves}
-use Rattle.cf_request.specs.Telling.{Teller, Tells, with_memory}
+use Rattle.cf_request.specs.Telling.{Teller, TellsWord, with_memory}
 use Rattle.cf_request.specs.declared.deadlines.Deadline.{Deadline}
 use Rattle.cf_request.specs.declared.relays.Follow.{Follow}
 use Rattle.cf_request.proofs.Behind.{stay_word}
@@ -39,6 +39,13 @@ use Rattle.cf_request.proofs.Telling.{next_is}
 use Rattle.cf_request.proofs.Turns.{StaySettled, dues_none, follows_word, keeps_memory, limits_word}
 
 -- ---- one stage
+
+-- it has a word, since no stage's number is above 4,095
+pub attach_is : (who : ℕ) (form : Form) (of : Of) (function : Option ℕ) (stages : ℕ) → who ≤ 63 → IsStage form of function → EventFits stages (Attaches who form of function) → stages ≤ 4096 → IsEvent (Attaches who form of function)
+attach_is who form NoSource function stages caller stage fits few = (caller, omega arith, omega arith, stage.0, stage.1)
+attach_is who form (One a) function stages caller stage fits few = (caller, (let l = fits.1 0 0 (omega arith) in omega (arith, l, few)), omega arith, stage.0, stage.1)
+attach_is who form (Two a b) function stages caller stage fits few =
+    (caller, (let l = fits.1 0 0 (omega arith) in omega (arith, l, few)), (let l = fits.1 1 0 (omega arith) in omega (arith, l, few)), stage.0, stage.1)
 
 -- nothing stands against it
 pub none_refused : (s : State) (word free : ℕ) (e : Event) (why : LedgerFault) → event_of word ≡ Some e → EventFits (length s.plan.stages) e → HasRoomFor s e → 0 < free → LedgerRefuses s word why → IsShort free why → ⊥
@@ -57,16 +64,16 @@ answers : (s : State) (who : ℕ) (form : Form) (of : Of) (function : Option ℕ
 answers s who form of function l = let p = attached_stage form of function in ap (λ (x : Attached × State). (ToldAttach x.0, x.1)) (attached_now s.plan.room s p l)
 
 pub tells_attach : (who : ℕ) (form : Form) (of : Of) (function : Option ℕ) (lane word : ℕ) (old new : Teller) (reply : Reply) → word ≡ word_of (Attaches who form of function) → event_of word ≡ Some (Attaches who form of function) → 0 < (state_of old.ledger).plan.room →
-    Tells word old reply new → new.lanes ≡ with_lane (stages_of new.ledger) lane old.lanes → TellsAttach lane (Attaches who form of function) old new
-tells_attach who form of function lane word old new reply is read room tells lanes =
+    TellsWord lane word old reply new → TellsAttach lane (Attaches who form of function) old new
+tells_attach who form of function lane word old new reply is read room done =
+    let tells = done.tells in
     let e = Attaches who form of function in
     let s = state_of old.ledger in
     let same : tells.does.event ≡ e = (let was = tells.does.read in cc) in
     let told : reply ≡ ToldAttach (At (length s.plan.stages)) = ap (λ p. p.0) (tells.does.told ∙ ap (answered s) same ∙ answers s who form of function room) in
     record {
       read = ap event_of (sym is) ∙ read;
-      tells = subst (λ (w : ℕ). Tells w old (ToldAttach (At (length s.plan.stages))) new) is (subst (λ (r : Reply). Tells word old r new) told tells);
-      lanes = lanes;
+      tells = subst (λ (w : ℕ). TellsWord lane w old (ToldAttach (At (length s.plan.stages))) new) is (subst (λ (r : Reply). TellsWord lane word old r new) told done);
     }
 
 -- the state once a stage is attached
@@ -75,8 +82,9 @@ pub state_attached : (who : ℕ) (form : Form) (of : Of) (function : Option ℕ)
 state_attached who form of function lane old new room h =
     let e = Attaches who form of function in
     let s = state_of old.ledger in
-    let same : h.tells.does.event ≡ e = (let was = h.tells.does.read in let read = h.read in cc) in
-    next_is old.ledger new.ledger (word_of e) (ToldAttach (At (length s.plan.stages))) h.tells.does ∙ ap (λ (d : Event). (answered s d).1) same ∙ ap (λ p. p.1) (answers s who form of function room)
+    let does = h.tells.tells.does in
+    let same : does.event ≡ e = (let was = does.read in let read = h.read in cc) in
+    next_is old.ledger new.ledger (word_of e) (ToldAttach (At (length s.plan.stages))) does ∙ ap (λ (d : Event). (answered s d).1) same ∙ ap (λ p. p.1) (answers s who form of function room)
 
 -- there is one stage more, and room and memory for one less
 pub record AttachesOne (old new : Teller) : Type 0 where
@@ -94,7 +102,7 @@ attaches_one who form of function lane old new room h =
     record {
       count = ap (λ (t : State). length t.plan.stages) next ∙ one;
       room = omega (arith, less, room);
-      free = spends_word (word_of (Attaches who form of function)) old new (ToldAttach (At (length s.plan.stages))) h.tells;
+      free = spends_word (word_of (Attaches who form of function)) old new (ToldAttach (At (length s.plan.stages))) h.tells.tells;
     }
 
 -- ---- the stages that were there stay as they are
@@ -160,13 +168,14 @@ row_of lane (e ∷ events) old new (who, form, of, function, is, are) room (betw
     let then = more.count in
     let spent = one.free in
     let free = more.free in
-    let same : first.tells.does.event ≡ e = (let was = first.tells.does.read in let read = first.read in cc) in
+    let does = first.tells.tells.does in
+    let same : does.event ≡ e = (let was = does.read in let read = first.read in cc) in
     record {
       count = omega (arith, now, then);
       free = omega (arith, spent, free);
       stays = λ i l. more.stays i (omega (arith, l, now)) ∙ outcome_stays who form of function lane old between i some done l;
-      settled = λ i h. more.settled i (stay_word old between (word_of e) (ToldAttach (At (stages_of old.ledger))) first.tells i h);
-      events_are = more.events_are ∙ ap (λ (l : Ledger). l.events ++ events) first.tells.does.written ∙ ap (λ (x : Event). (old.ledger.events ++ x ∷ []) ++ events) same ∙ append_assoc old.ledger.events (e ∷ []) events;
+      settled = λ i h. more.settled i (stay_word old between (word_of e) (ToldAttach (At (stages_of old.ledger))) first.tells.tells i h);
+      events_are = more.events_are ∙ ap (λ (l : Ledger). l.events ++ events) does.written ∙ ap (λ (x : Event). (old.ledger.events ++ x ∷ []) ++ events) same ∙ append_assoc old.ledger.events (e ∷ []) events;
     }
 
 -- ---- a machine that attaches them
@@ -209,7 +218,6 @@ applies_attach who form of function lane m between done enough none =
       finds = record { words = waiting_in m; enough = omega arith; few = omega (arith, few); is = found_none m.teller (waiting_in m) enough };
       between = between;
       tells = done.tells;
-      lanes = done.lanes;
       catches_up = record { settles = dues_none (IsRelayDue m.follows) m.own between; none = none };
       same = refl;
     }

@@ -114,11 +114,11 @@ looked_word seen follows old new word reply t h =
     }
 
 pub looked_settle : (seen : ℕ) (follows : List Follow) (who : ℕ) (d : Due) (old new : Teller) → Settles who d old new → AreLookedAt seen old.told follows (state_of old.ledger).stages → AreLookedAt seen new.told follows (state_of new.ledger).stages
-looked_settle seen follows who d old new h = looked_word seen follows old new (word_of (settle_event who d.stage d.outcome)) h.reply h.done.tells
+looked_settle seen follows who d old new h = looked_word seen follows old new (word_of (settle_event who d.stage d.outcome)) h.reply h.done.tells.tells
 
 pub looked_held : (seen : ℕ) (follows : List Follow) (who : ℕ) (held : Option Held) (old : Teller) (finish : Option Finish) (new : Teller) → FinishesHeld who held old finish new → AreLookedAt seen old.told follows (state_of old.ledger).stages →
     AreLookedAt seen new.told follows (state_of new.ledger).stages
 looked_held seen follows who None old None new h looked = subst (λ (t : Teller). AreLookedAt seen t.told follows (state_of t.ledger).stages) (sym h) looked
-looked_held seen follows who (Some g) old (Some f) new h looked = looked_word seen follows old new (word_of (Finishes who g.stage g.answer)) (ToldFinish (finished_as f.late)) h.done.tells looked
+looked_held seen follows who (Some g) old (Some f) new h looked = looked_word seen follows old new (word_of (Finishes who g.stage g.answer)) (ToldFinish (finished_as f.late)) h.done.tells.tells looked
 looked_held seen follows who None old (Some f) new h looked = absurd h
 looked_held seen follows who (Some g) old None new h looked = absurd h

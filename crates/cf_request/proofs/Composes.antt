@@ -15,7 +15,7 @@ use Rattle.cf_model.specs.Events.{answered, cancelled_by, settled_by}
 use Rattle.cf_model.specs.Ranges.{EventFits}
 use Rattle.cf_model.specs.States.{State, claim_at, outcome_at}
 use Rattle.cf_model.proofs.OpenClaims.{same_claim}
-use Rattle.cf_event.specs.Words.{IsEvent}
+use Rattle.cf_event.specs.Words.{IsStage}
 use Rattle.cf_ledger.specs.Ledgers.{stages_of, state_of}
 use Rattle.cf_ledger.specs.Steps.{finished_as}
 use Rattle.cf_ledger.specs.declared.step.Finish.{Finish}
@@ -24,12 +24,11 @@ use Rattle.cf_request.specs.Attaching.{TellsAttaches}
 use Rattle.cf_request.specs.Composing.{FinishesClaimed, Links, HaveWords, attaches_compose, attaches_relay, composes, form_of}
 use Rattle.cf_request.specs.Lanes.{FinishesStage}
 use Rattle.cf_request.specs.Machines.{CatchesUp, IsMachine, Machine, SetsFollow, free_in, stages_in, state_in, waiting_in}
-use Rattle.cf_request.specs.Ready.{HasLanes}
 use Rattle.cf_request.specs.Relays.{AreRelays, IsRelayDue, MayCatchUp, NoneBehind, open_relays, waiting_of}
 use Rattle.cf_request.specs.Rows.{AreCalls, IsCall, nothing}
 use Rattle.cf_request.specs.Rows.IsCall.{applies, sets_follow}
 use Rattle.cf_request.specs.Settling.{AreSettledInTurn, fault_event, settle_event}
-use Rattle.cf_request.specs.Telling.{Teller, Tells, is_settled_in}
+use Rattle.cf_request.specs.Telling.{Teller, TellsWord, is_settled_in}
 use Rattle.cf_request.specs.declared.composing.Composed.{Composed}
 use Rattle.cf_request.specs.declared.composing.Composing.{Composing}
 use Rattle.cf_request.specs.declared.composing.Composing.TheVariants.{Compose, ExceptionallyCompose}
@@ -42,7 +41,6 @@ use Rattle.cf_request.proofs.Behind.{looked_held, looked_none}
 use Rattle.cf_request.proofs.Machines.{filter_push, free_found, keeps_held, kept_by, relays_later}
 use Rattle.cf_request.proofs.Memory.{few_relays, relays_fewer, relays_stay, spends_held, spends_settle}
 use Rattle.cf_request.proofs.Turns.{after_event, keeps_dues}
-use Rattle.cf_request.proofs.Words.{same_lanes}
 
 -- ---- a relay and the compose above it
 
@@ -50,14 +48,14 @@ fits : (how : Composing) → fits_form (form_of how) 1 true ≡ true
 fits Compose = refl
 fits ExceptionallyCompose = refl
 
-pub relay_is : (who : ℕ) → who ≤ 63 → IsEvent (attaches_relay who)
-relay_is who caller = (caller, omega arith, omega arith, omega arith, refl)
+pub relay_is : IsStage forms.Source NoSource None
+relay_is = (omega arith, refl)
 
 pub relay_fits : (who stages : ℕ) → EventFits stages (attaches_relay who)
 relay_fits who stages = (refl, All-nil (λ (i : ℕ). i < stages))
 
-pub compose_is : (who : ℕ) (how : Composing) (source function stages : ℕ) → HaveWords who function → source < stages → stages ≤ 4096 → IsEvent (attaches_compose who how source function)
-compose_is who how source function stages words there few = (words.0, omega (arith, there, few), omega arith, words.1, fits how)
+pub compose_is : (who : ℕ) (how : Composing) (source function : ℕ) → HaveWords who function → IsStage (form_of how) (One source) (Some function)
+compose_is who how source function words = (words.1, fits how)
 
 pub compose_fits : (who : ℕ) (how : Composing) (source function stages : ℕ) → source < stages → EventFits stages (attaches_compose who how source function)
 compose_fits who how source function stages there = (fits how, All-cons (λ (i : ℕ). i < stages) source [] there (All-nil (λ (i : ℕ). i < stages)))
@@ -154,11 +152,9 @@ may_claimed a b who held f w deadlines own seen machine none relays at enough do
     }
 
 -- it is as by its word alone
-pub finishes_claimed : (who : ℕ) (composed : Composed) (m : Machine) (f : Finish) (b d : Teller) → HasLanes (state_in m) m.teller.lanes.of → FinishesStage who (record { stage = composed.stage; answer = Link composed.relay }) m.teller f b →
+pub finishes_claimed : (who : ℕ) (composed : Composed) (m : Machine) (f : Finish) (b d : Teller) → FinishesStage who (record { stage = composed.stage; answer = Link composed.relay }) m.teller f b →
     CatchesUp m.own m.follows b d → waiting_in m ≤ free_in m → FinishesClaimed who composed m f (record m { teller = d })
-finishes_claimed who composed m f b d all done caught enough =
-    let held : Held = record { stage = composed.stage; answer = Link composed.relay } in
-    let count = (keeps_held who (Some held) m.teller (Some f) b done).count in
+finishes_claimed who composed m f b d done caught enough =
     let few = few_relays (state_in m).stages m.follows in
     record {
       word = done.word;
@@ -166,8 +162,7 @@ finishes_claimed who composed m f b d all done caught enough =
         found = m.teller;
         finds = record { words = waiting_in m; enough = omega arith; few = omega (arith, few); is = found_none m.teller (waiting_in m) enough };
         between = b;
-        tells = subst (λ (w : ℕ). Tells w m.teller (ToldFinish (finished_as f.late)) b) (sym done.word) done.done.tells;
-        lanes = done.done.lanes ∙ sym (same_lanes (stages_of b.ledger) 0 m.teller.lanes (omega (arith, all, count)));
+        tells = subst (λ (w : ℕ). TellsWord 0 w m.teller (ToldFinish (finished_as f.late)) b) (sym done.word) done.done.tells;
         catches_up = caught;
         same = refl;
       };

@@ -22,7 +22,7 @@ use Rattle.cf_model.specs.declared.stage.Stage.TheVariants.{Pending}
 use Rattle.cf_model.specs.Ranges.{EventFits}
 use Rattle.cf_model.specs.States.{State, due_state, next_of, outcome_in, outcome_of}
 use Rattle.cf_model.proofs.Closed.{reached_length}
-use Rattle.cf_event.specs.Words.{IsEvent}
+use Rattle.cf_event.specs.Words.{IsStage}
 use Rattle.cf_ledger.specs.Ledgers.{stages_of, state_of}
 use Rattle.cf_request.specs.Attaching.{TellsAttach, TellsAttaches}
 use Rattle.cf_request.specs.Gathering.{GathersAsOne, GathersAtOnce, attaches, first_two, form_of, gathered, gathers, joined, joins, stages_for}
@@ -40,10 +40,8 @@ fits : (how : Gathering) (of : Of) → fits_form (form_of how) (length (sources_
 fits AllOf of = refl
 fits AnyOf of = refl
 
-pub event_is : (who : ℕ) (how : Gathering) (of : Of) (stages : ℕ) → who ≤ 63 → stages ≤ 4096 → All (λ i. i < stages) (sources_of of) → IsEvent (attaches who how of)
-event_is who how NoSource stages caller few there = (caller, omega arith, omega arith, omega arith, fits how NoSource)
-event_is who how (One a) stages caller few there = (caller, (let l = there 0 0 (omega arith) in omega (arith, l, few)), omega arith, omega arith, fits how (One a))
-event_is who how (Two a b) stages caller few there = (caller, (let l = there 0 0 (omega arith) in omega (arith, l, few)), (let l = there 1 0 (omega arith) in omega (arith, l, few)), omega arith, fits how (Two a b))
+pub stage_is : (how : Gathering) (of : Of) → IsStage (form_of how) of None
+stage_is how of = (omega arith, fits how of)
 
 pub event_fits : (who : ℕ) (how : Gathering) (of : Of) (stages : ℕ) → All (λ i. i < stages) (sources_of of) → EventFits stages (attaches who how of)
 event_fits who how of stages there = (fits how of, there)

@@ -34,11 +34,11 @@ pub spends_word : (word : ℕ) (old new : Teller) (reply : Reply) → Tells word
 spends_word word old new reply h = ap (λ (l : Ledger). l.free) h.does.written
 
 pub spends_settle : (who : ℕ) (d : Due) (old new : Teller) → Settles who d old new → new.ledger.free ≡ old.ledger.free - 1
-spends_settle who d old new h = spends_word (word_of (settle_event who d.stage d.outcome)) old new h.reply h.done.tells
+spends_settle who d old new h = spends_word (word_of (settle_event who d.stage d.outcome)) old new h.reply h.done.tells.tells
 
 pub spends_held : (who : ℕ) (held : Option Held) (old : Teller) (finish : Option Finish) (new : Teller) → FinishesHeld who held old finish new → old.ledger.free ≤ new.ledger.free + 1
 spends_held who None old None new h = let same = ap (λ (t : Teller). t.ledger.free) h in omega (arith, same)
-spends_held who (Some g) old (Some f) new h = let one = spends_word (word_of (Finishes who g.stage g.answer)) old new (ToldFinish (finished_as f.late)) h.done.tells in omega (arith, one)
+spends_held who (Some g) old (Some f) new h = let one = spends_word (word_of (Finishes who g.stage g.answer)) old new (ToldFinish (finished_as f.late)) h.done.tells.tells in omega (arith, one)
 spends_held who None old (Some f) new h = absurd h
 spends_held who (Some g) old None new h = absurd h
 

@@ -116,7 +116,7 @@ onward_word old new word reply t lanes = record {
 }
 
 onward_event : (e : Event) (old new : Teller) (reply : Reply) → TellsEvent e old reply new → Onward old new
-onward_event e old new reply h = onward_word old new (word_of e) reply h.tells (lanes_is old.lanes new.lanes h.lanes)
+onward_event e old new reply h = onward_word old new (word_of e) reply h.tells.tells (lanes_is old.lanes new.lanes h.lanes)
 
 onward_turns : (P : State → Due → Type 0) (who : ℕ) (dues : List Due) (a b : Teller) → AreSettledInTurn P who a dues b → Onward a b
 onward_turns P who [] a b same = onward_is a b same
@@ -180,8 +180,9 @@ takes who lane old between (Some t) new h k =
     let here = granted_fewer s who t.stage t.args granted in
     let now = ap unclaimed next in
     let less = unclaimed_later old.ledger between.ledger h.later in
-    let is : k.done.tells.does.event ≡ Claims who t.stage = (let a = k.done.tells.does.read in let b = k.done.read in cc) in
-    let written = k.done.tells.does.written in
+    let does = k.done.tells.tells.does in
+    let is : does.event ≡ Claims who t.stage = (let a = does.read in let b = k.done.read in cc) in
+    let written = does.written in
     let room = ap (λ (l : Ledger). l.plan.room) written in
     record {
       lanes = lanes_then old.lanes between.lanes new.lanes h.lanes on.lanes;
@@ -253,11 +254,10 @@ onward_to_claim who lane held old new next h =
 effect : (old new : Machine) (out : Out) → IsCall old out new → Effect old.teller out new.teller
 effect old new out (applies word lane reply none h) =
     let found = h.found in
-    let n = stages_of h.between.ledger in
-    let lanes = lanes_word n lane found.lanes h.between.lanes (h.lanes ∙ ap (λ (t : Teller). with_lane n lane t.lanes) (sym h.finds.is)) in
+    let lanes = lanes_word (stages_of h.between.ledger) lane found.lanes h.between.lanes h.tells.lanes in
     quiet old.teller new.teller out none
     (onward_then old.teller found new.teller (onward_found (waiting_in old) (1 + length old.follows) old.teller found h.finds)
-    (onward_then found h.between new.teller (onward_word found h.between word reply h.tells lanes) (onward_dues (IsRelayDue old.follows) old.own h.between new.teller h.catches_up.settles)))
+    (onward_then found h.between new.teller (onward_word found h.between word reply h.tells.tells lanes) (onward_dues (IsRelayDue old.follows) old.own h.between new.teller h.catches_up.settles)))
 effect old new out (goes_on who lane held next is h) =
     subst (λ (o : Out). Effect old.teller o new.teller) (sym is) (takes who lane old.teller h.between next.taken new.teller (onward_to_claim who lane held old new next h) h.takes)
 effect old new out (sets_follow relay stage none h) =
@@ -288,7 +288,7 @@ fewer_by who m n (Some t) a b h same = let one : length (job_of who (Some t)).jo
 
 plan_taken : (who lane : ℕ) (old : Teller) (taken : Option Taken) (new : Teller) → TakesIn who lane old taken new → new.ledger.plan ≡ old.ledger.plan
 plan_taken who lane old None new h = ap (λ (t : Teller). t.ledger.plan) h.1
-plan_taken who lane old (Some t) new h = ap (λ (l : Ledger). l.plan) h.done.tells.does.written
+plan_taken who lane old (Some t) new h = ap (λ (l : Ledger). l.plan) h.done.tells.tells.does.written
 
 -- where one is told, fewer may be claimed
 pub fewer_left : (who lane : ℕ) (held : Option Held) (old new : Machine) (next : Next) → GoesOn who lane held old next new → IfSome next.taken (λ t. unclaimed (state_in new) < unclaimed (state_in old))

@@ -19,6 +19,7 @@ use Rattle.cf_model.specs.States.{State, is_ready}
 use Rattle.cf_ledger.specs.Ledgers.{Does, Ledger, stages_of, state_at, state_of}
 use Rattle.cf_request.specs.Lanes.{IsLowestIn, NoneReadyIn, ready_below}
 use Rattle.cf_request.specs.Ready.{AreFitBut, AreSets, FitState, HasLanes, IsFit, Lanes, ReadySets, count_of, is_in, lane_of, lanes_of, none_ready, with_lane}
+use Rattle.cf_request.specs.Telling.{most_stages}
 use Rattle.cf_request.proofs.Lists.{contains_cases}
 use Rattle.cf_request.proofs.Telling.{last_news, next_is, none_there, same_most}
 use Rattle.cf_request.proofs.Words.{at_most_one, none_lost}
@@ -316,6 +317,10 @@ lowest_is s r lane i h l size e =
 pub lowest_some : (s : State) (r : ReadySets) (lane : ℕ) (o : Option ℕ) → FitState s r → lane < length r.sets → length s.stages ≡ length s.plan.stages → o ≡ position (λ b. b) (get_or r.sets lane []) → IfSome o (λ i. IsLowestIn s r.of lane i)
 lowest_some s r lane None h l size e = tt
 lowest_some s r lane (Some i) h l size e = lowest_is s r lane i h l size (sym e)
+
+pub lowest_few : (s : State) (lanes : List ℕ) (lane : ℕ) (o : Option ℕ) → most_stages s ≤ 4096 → IfSome o (λ i. IsLowestIn s lanes lane i) → IfSome o (λ i. i ≤ 4095)
+lowest_few s lanes lane None most h = tt
+lowest_few s lanes lane (Some i) most h = let there = h.there in omega (arith, there, most)
 
 -- where no place is found, all flags are false
 none_at : (flags : List Bool) (k : ℕ) → length flags ≤ position_or_len (λ b. b) flags → get_or flags k false ≡ false

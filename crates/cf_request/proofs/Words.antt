@@ -13,7 +13,7 @@ use Rattle.cf_event.specs.Decoding.{event_of}
 use Rattle.cf_event.specs.Words.{word_of}
 use Rattle.cf_ledger.specs.Ledgers.{Does, Ledger, stages_of, state_of}
 use Rattle.cf_request.specs.Ready.{HasLanes, Lanes, with_lane}
-use Rattle.cf_request.specs.Telling.{Teller, Tells, TellsEvent}
+use Rattle.cf_request.specs.Telling.{Teller, TellsEvent, TellsWord}
 use Rattle.cf_request.proofs.Telling.{next_is}
 
 -- ---- how many stages there are
@@ -29,13 +29,14 @@ same_lanes_by false stages lane lanes less same = refl
 pub same_lanes : (stages lane : ℕ) (lanes : Lanes) → length lanes.of ≡ stages → with_lane stages lane lanes ≡ lanes
 same_lanes stages lane lanes same = same_lanes_by (nat_lt (length lanes.of) stages) stages lane lanes refl same
 
-pub event_told : (e : Event) (old new : Teller) (reply : Reply) → event_of (word_of e) ≡ Some e → is_attach e ≡ false → HasLanes (state_of old.ledger) old.lanes.of → Tells (word_of e) old reply new →
-    new.lanes ≡ with_lane (stages_of new.ledger) 0 old.lanes → TellsEvent e old reply new
-event_told e old new reply is isnt all h lanes =
+pub event_told : (e : Event) (old new : Teller) (reply : Reply) → event_of (word_of e) ≡ Some e → is_attach e ≡ false → HasLanes (state_of old.ledger) old.lanes.of → TellsWord 0 (word_of e) old reply new →
+    TellsEvent e old reply new
+event_told e old new reply is isnt all done =
+    let h = done.tells in
     let same : h.does.event ≡ e = (let read = h.does.read in cc) in
     let now = ap (λ (s : State). length s.plan.stages) (next_is old.ledger new.ledger (word_of e) reply h.does) in
     let count = ap (λ (d : Event). length ((answered (state_of old.ledger) d).1.plan.stages)) same ∙ same_count e (state_of old.ledger) isnt in
-    record { read = is; tells = h; answered = h.does.told ∙ ap (answered (state_of old.ledger)) same; lanes = lanes ∙ same_lanes (stages_of new.ledger) 0 old.lanes (omega (arith, all, now, count)) }
+    record { read = is; tells = done; answered = h.does.told ∙ ap (answered (state_of old.ledger)) same; lanes = done.lanes ∙ same_lanes (stages_of new.ledger) 0 old.lanes (omega (arith, all, now, count)) }
 
 one_more : (room : ℕ) (s : State) (new : PlannedStage) → length ((attached_by room s new).1.plan.stages) ≤ length s.plan.stages + 1
 one_more zero s new = omega arith

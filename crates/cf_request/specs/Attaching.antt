@@ -6,14 +6,12 @@ use Rattle.cf_model.specs.declared.replies.Attached.TheVariants.{At}
 use Rattle.cf_event.specs.Decoding.{event_of}
 use Rattle.cf_event.specs.Words.{word_of}
 use Rattle.cf_ledger.specs.Ledgers.{stages_of}
-use Rattle.cf_request.specs.Ready.{with_lane}
-use Rattle.cf_request.specs.Telling.{Teller, Tells}
+use Rattle.cf_request.specs.Telling.{Teller, TellsWord}
 
 -- an event is done by its word, which is read as this event, and attaches the next stage, in a lane
 pub record TellsAttach (lane : ℕ) (event : Event) (old new : Teller) : Type 0 where
   pub read : event_of (word_of event) ≡ Some event
-  pub tells : Tells (word_of event) old (ToldAttach (At (stages_of old.ledger))) new
-  pub lanes : new.lanes ≡ with_lane (stages_of new.ledger) lane old.lanes
+  pub tells : TellsWord lane (word_of event) old (ToldAttach (At (stages_of old.ledger))) new
 
 -- these are done so, one after another
 abbrev pub TellsAttaches : ℕ → List Event → Teller → Teller → Type 0

@@ -11,11 +11,10 @@ use Rattle.cf_ledger.specs.declared.faults.StepFault.TheVariants.{NoMemory as No
 use Rattle.cf_ledger.specs.declared.step.Held.{Held}
 use Rattle.cf_request.specs.Deadlines.{AllOpen, AreCome, AreSet, Forgets, IsOverdue, NoneLeft, Sets, open_of}
 use Rattle.cf_request.specs.Lanes.{FinishesHeld, IsIdle, TakesIn}
-use Rattle.cf_request.specs.Ready.{with_lane}
 use Rattle.cf_request.specs.Refusals.{AllSettled, IsCancelled, IsRefused, NoneToRefuse, open_below}
 use Rattle.cf_request.specs.Relays.{AreThere, IsRelayDue, IsRelayOr, NoneBehind, waiting_of}
 use Rattle.cf_request.specs.Settling.{SettlesDue}
-use Rattle.cf_request.specs.Telling.{AreFresh, Teller, Tells, with_memory}
+use Rattle.cf_request.specs.Telling.{AreFresh, Teller, TellsWord, with_memory}
 use Rattle.cf_request.specs.declared.deadlines.Deadline.{Deadline}
 use Rattle.cf_request.specs.declared.faults.MachineFault.{MachineFault}
 use Rattle.cf_request.specs.declared.faults.MachineFault.TheVariants.{NoMemory, NoStage, Past, Full}
@@ -85,6 +84,10 @@ pub record CatchesUp (own : ℕ) (follows : List Follow) (old new : Teller) : Ty
 abbrev pub OnlyTeller : Machine → Machine → Type 0
 OnlyTeller old new = new ≡ record old { teller = new.teller }
 
+-- the deadlines change, and nothing else
+abbrev pub OnlyDeadlines : Machine → Machine → Type 0
+OnlyDeadlines old new = new ≡ record old { deadlines = new.deadlines }
+
 -- ---- for how many words a call finds memory
 
 -- for so many, and for one of each relay that is open, but for no more relays than were set
@@ -112,13 +115,12 @@ IsShortFor count m = free_in m < count + length m.follows
 
 -- ---- words
 
--- memory is found, a word is done, and relays are settled; a stage that the word attached has the lane
+-- memory is found, a word is done, whose stage has the lane if it attaches one, and relays are settled
 pub record AppliesWord (word lane : ℕ) (old : Machine) (reply : Reply) (new : Machine) : Type 0 where
   pub found : Teller
   pub finds : FindsForWord old found
   pub between : Teller
-  pub tells : Tells word found reply between
-  pub lanes : between.lanes ≡ with_lane (stages_of between.ledger) lane old.teller.lanes
+  pub tells : TellsWord lane word found reply between
   pub catches_up : CatchesUp old.own old.follows between new.teller
   pub same : OnlyTeller old new
 

@@ -1,5 +1,5 @@
 -- Of each stage the lane, and of each lane the ready stages.
-use Rattle.std.specs.Prelude.{◌≡◌, ◌≢◌, ℕ, ◌+◌, ◌<◌, ◌≤◌, ◌==◌, ◌&&◌, Bool, false, List, [], ◌∷◌, ◌++◌, All, cond, length, nat_lt, replicate, slice_index_or, sum_by}
+use Rattle.std.specs.Prelude.{◌≡◌, ◌≢◌, ◌⊎◌, ℕ, ◌+◌, ◌<◌, ◌≤◌, ◌==◌, ◌&&◌, Bool, false, List, [], ◌∷◌, ◌++◌, All, cond, length, nat_lt, replicate, slice_index_or, sum_by}
 use Rattle.cf_model.specs.declared.stage.Stage.{Stage}
 use Rattle.cf_model.specs.Graphs.{stage_in}
 use Rattle.cf_model.specs.States.{State, is_ready}
@@ -12,6 +12,10 @@ pub record Lanes : Type 0 where
 -- there are 1 to 16 lanes
 abbrev pub IsLaneCount : ℕ → Type 0
 IsLaneCount count = (1 ≤ count) × (count ≤ 16)
+
+-- lane 0, which is always there, or another
+abbrev pub IsLane : ℕ → ℕ → Type 0
+IsLane lane count = (lane ≡ 0) ⊎ (lane < count)
 
 abbrev pub lane_of : List ℕ → ℕ → ℕ
 lane_of lanes i = slice_index_or lanes i 0

@@ -18,7 +18,7 @@ use Rattle.cf_ledger.specs.declared.step.Held.{Held}
 use Rattle.cf_ledger.specs.declared.step.Taken.{Taken}
 use Rattle.cf_request.specs.Deadlines.{Forgets}
 use Rattle.cf_request.specs.Growing.{Grows}
-use Rattle.cf_request.specs.Machines.{AppliesWord, CancelsAll, GoesOn, Machine, OnlyFinds, OnlyTeller, Passes, Refuses, Restarts, SetsDeadline, SetsFollow, state_in}
+use Rattle.cf_request.specs.Machines.{AppliesWord, CancelsAll, GoesOn, Machine, OnlyDeadlines, OnlyFinds, OnlyTeller, Passes, Refuses, Restarts, SetsDeadline, SetsFollow, state_in}
 use Rattle.cf_request.specs.Ready.{HasLanes, Lanes}
 use Rattle.cf_request.specs.Telling.{AreFresh, AreSettled, IsApart, IsOnce, with_memory}
 use Rattle.cf_request.specs.declared.deadlines.Deadline.{Deadline}
@@ -57,7 +57,7 @@ pub data IsCall (old : Machine) (out : Out) (new : Machine) : Type 0 where
   goes_on : (who lane : ℕ) (held : Option Held) (next : Next) → out ≡ job_of who next.taken → GoesOn who lane held old next new → IsCall old out new
   sets_follow : (relay stage : ℕ) → out ≡ nothing → SetsFollow relay stage old new → IsCall old out new
   sets_deadline : (deadline : Deadline) → out ≡ nothing → SetsDeadline deadline old new → IsCall old out new
-  forgets : out ≡ nothing → Forgets (state_in old).stages old.deadlines new.deadlines → new ≡ record old { deadlines = new.deadlines } → IsCall old out new
+  forgets : out ≡ nothing → Forgets (state_in old).stages old.deadlines new.deadlines → OnlyDeadlines old new → IsCall old out new
   passes : (moment : ℕ) → out ≡ nothing → Passes moment old new → IsCall old out new
   refuses : (lane code : ℕ) → out ≡ nothing → Refuses lane code old new → IsCall old out new
   cancels_all : (who : ℕ) → out ≡ nothing → CancelsAll who old new → IsCall old out new

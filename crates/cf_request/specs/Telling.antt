@@ -8,8 +8,8 @@ use Rattle.cf_model.specs.Graphs.{IsClimbing}
 use Rattle.cf_model.specs.States.{State, outcome_in, start}
 use Rattle.cf_event.specs.Decoding.{event_of}
 use Rattle.cf_event.specs.Words.{word_of}
-use Rattle.cf_ledger.specs.Ledgers.{Does, Ledger, state_of}
-use Rattle.cf_request.specs.Ready.{Lanes}
+use Rattle.cf_ledger.specs.Ledgers.{Does, Ledger, stages_of, state_of}
+use Rattle.cf_request.specs.Ready.{Lanes, with_lane}
 
 -- whether a stage is settled
 abbrev pub is_settled_in : List Stage → ℕ → Bool
@@ -66,10 +66,15 @@ pub record Tells (word : ℕ) (old : Teller) (reply : Reply) (new : Teller) : Ty
   pub told : new.told ≡ old.told ++ fresh
   pub taken : new.taken ≡ old.taken
 
+-- so is a word that may attach a stage, which has this lane
+pub record TellsWord (lane word : ℕ) (old : Teller) (reply : Reply) (new : Teller) : Type 0 where
+  pub tells : Tells word old reply new
+  pub lanes : new.lanes ≡ with_lane (stages_of new.ledger) lane old.lanes
+
 -- an event that attaches nothing is done by its word, which is read as this event
 pub record TellsEvent (event : Event) (old : Teller) (reply : Reply) (new : Teller) : Type 0 where
   pub read : event_of (word_of event) ≡ Some event
-  pub tells : Tells (word_of event) old reply new
+  pub tells : TellsWord 0 (word_of event) old reply new
   pub answered : (reply, state_of new.ledger) ≡ answered (state_of old.ledger) event
   pub lanes : new.lanes ≡ old.lanes
 

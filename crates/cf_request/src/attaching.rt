@@ -1,9 +1,10 @@
 //! Stages that are attached by words of a caller.
-ghost use Rattle.std.specs.Prelude.{◌≡◌, ◌+◌, ◌<◌};
-ghost use Rattle.cf_event.specs.Words.{IsEvent};
+ghost use Rattle.std.specs.Prelude.{◌≡◌, ◌+◌, ◌<◌, ◌≤◌};
+ghost use Rattle.cf_event.specs.Words.{IsStage};
 ghost use Rattle.cf_ledger.specs.Ledgers.{stages_of, state_of};
 ghost use Rattle.cf_model.specs.Ranges.{EventFits};
 ghost use Rattle.cf_request.specs.Attaching.{TellsAttach};
+ghost use Rattle.cf_request.specs.Ready.{IsLane};
 
 use crate::teller::Teller;
 use cf_event::encode;
@@ -19,9 +20,10 @@ pub(crate) fn attach(
     function: Option<u16>,
     lane: u8,
 ) -> u16
-    requires is { IsEvent (Event.Attach who form of function) }
+    requires caller { who ≤ 63 }
+    requires stage { IsStage form of function }
     requires fits { EventFits (stages_of teller.old.ledger) (Event.Attach who form of function) }
-    requires lane { lane < teller.old.lanes.count }
+    requires lane { IsLane lane teller.old.lanes.count }
     requires room { 0 < (state_of teller.old.ledger).plan.room }
     requires memory { 0 < teller.old.ledger.free }
     ensures tells { TellsAttach lane (Event.Attach who form of function) teller.old teller.new }

@@ -114,8 +114,6 @@ fn attach_compose(
     ensures tells { TellsAttach lane (attaches_compose who how source function) teller.old teller.new }
     ensures at { result ≡ stages_of teller.old.ledger }
 {
-    // No stage's number is above 4,095.
-    let _known = teller.stages();
     attach(
         teller,
         who,
@@ -145,6 +143,7 @@ pub(crate) fn check_linking(
     stage: u16,
 ) -> Result<(), StepFault>
     ensures may { OnOk result (MayLink who composed stage (state_of teller.now.ledger)) }
+    ensures few { OnOk result (composed.stage ≤ 4095) }
     ensures why { IfErr result (λ fault. MayNotLink who composed stage (state_of teller.now.ledger) fault) }
 {
     if who > LAST_CALLER {

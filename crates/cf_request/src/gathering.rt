@@ -116,9 +116,6 @@ fn attach(teller: &mut Teller, who: u8, how: Gathering, of: Of) -> u16
     ensures room { (state_of teller.new.ledger).plan.room + 1 ≡ (state_of teller.old.ledger).plan.room }
     ensures memory { teller.new.ledger.free + 1 ≡ teller.old.ledger.free }
 {
-    // No stage's number is above 4,095, and there is a lane 0.
-    let _known = teller.stages();
-    let _lanes = teller.lanes();
     attach_stage(teller, who, form_of(how), of, None, 0)
 }
 

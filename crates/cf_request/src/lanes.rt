@@ -1,5 +1,5 @@
 //! A caller's step: it finishes what it holds, and claims what its lane has.
-ghost use Rattle.std.specs.Prelude.{◌≡◌, ◌↔◌, ◌<◌, ◌≤◌, IfErr, IsTrue, OnOk, Some, true};
+ghost use Rattle.std.specs.Prelude.{◌≡◌, ◌↔◌, ◌<◌, ◌≤◌, IfErr, IfSome, IsTrue, OnOk, Some, true};
 ghost use Rattle.cf_event.specs.Words.{word_of};
 ghost use Rattle.cf_forms.specs.Plans.{function_at};
 ghost use Rattle.cf_ledger.specs.Ledgers.{stages_of, state_of};
@@ -32,6 +32,7 @@ pub(crate) fn is_idle(teller: &Teller, lane: u8, held: Option<Held>) -> bool
 pub(crate) fn check_held(teller: &Teller, who: u8, held: Option<Held>) -> Result<(), StepFault>
     ensures caller { OnOk result (who ≤ 63) }
     ensures held { OnOk result (IsHeld who held (state_of teller.now.ledger)) }
+    ensures few { OnOk result (IfSome held (λ h. h.stage ≤ 4095)) }
     ensures why { IfErr result (λ fault. IsNoFinish who held (state_of teller.now.ledger) fault) }
 {
     if who > LAST_CALLER {
@@ -48,6 +49,7 @@ pub(crate) fn check_held(teller: &Teller, who: u8, held: Option<Held>) -> Result
 fn check_claim(teller: &Teller, who: u8, held: Held) -> Result<(), StepFault>
     requires caller { who ≤ 63 }
     ensures held { OnOk result (IsHeld who (Some held) (state_of teller.now.ledger)) }
+    ensures few { OnOk result (held.stage ≤ 4095) }
     ensures why { IfErr result (λ fault. IsNoFinish who (Some held) (state_of teller.now.ledger) fault) }
 {
     if held.stage >= teller.stages() {
@@ -64,6 +66,7 @@ fn check_claim(teller: &Teller, who: u8, held: Held) -> Result<(), StepFault>
 pub(crate) fn finish_held(teller: &mut Teller, who: u8, held: Option<Held>) -> Option<Finish>
     requires caller { who ≤ 63 }
     requires held { IsHeld who held (state_of teller.old.ledger) }
+    requires few { IfSome held (λ h. h.stage ≤ 4095) }
     requires memory { 0 < teller.old.ledger.free }
     ensures { FinishesHeld who held teller.old result teller.new }
 {
@@ -78,12 +81,11 @@ pub(crate) fn finish_held(teller: &mut Teller, who: u8, held: Option<Held>) -> O
 pub(crate) fn finish(teller: &mut Teller, who: u8, held: Held) -> Finish
     requires caller { who ≤ 63 }
     requires there { held.stage < stages_of teller.old.ledger }
+    requires few { held.stage ≤ 4095 }
     requires held { claim_at (state_of teller.old.ledger) held.stage ≡ Some who }
     requires memory { 0 < teller.old.ledger.free }
     ensures { FinishesStage who held teller.old result teller.new }
 {
-    // No stage's number is above 4,095.
-    let _known = teller.stages();
     let word = encode(&Event::Finish {
         who,
         stage: held.stage,
@@ -115,6 +117,7 @@ pub(crate) fn take(teller: &mut Teller, who: u8, lane: u8) -> Option<Taken>
 fn claim(teller: &mut Teller, who: u8, stage: u16) -> Taken
     requires caller { who ≤ 63 }
     requires there { stage < stages_of teller.old.ledger }
+    requires few { stage ≤ 4095 }
     requires ready { is_ready (stage_in (state_of teller.old.ledger).stages stage) ≡ true }
     requires memory { 0 < teller.old.ledger.free }
     ensures stage { result.stage ≡ stage }
@@ -122,8 +125,6 @@ fn claim(teller: &mut Teller, who: u8, stage: u16) -> Taken
     ensures function { result.function ≡ function_at (state_of teller.old.ledger).plan.stages stage }
     ensures done { TellsEvent (Event.Claim who stage) teller.old (Reply.Claim (Claimed.Granted result.args)) teller.new }
 {
-    // No stage's number is above 4,095.
-    let _known = teller.stages();
     let function = teller.ledger().function(stage);
     let word = encode(&Event::Claim { who, stage });
     match teller.claim(who, stage, word) {

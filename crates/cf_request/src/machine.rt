@@ -8,7 +8,7 @@ ghost use Rattle.cf_request.specs.Gathering.{Gathers, IsNoGather, gathers, stage
 ghost use Rattle.cf_request.specs.Growing.{Grows, IsNoGrowth};
 ghost use Rattle.cf_request.specs.Lanes.{IsIdle, NothingIsReady, ready_in};
 ghost use Rattle.cf_request.specs.Ready.{IsLaneCount};
-ghost use Rattle.cf_request.specs.Machines.{AppliesWord, CancelsAll, FindsFor, FindsToPass, GoesOn, IsNoCancel, IsNoDeadline, IsNoFollow, IsNoNext, IsNoPass, IsNoWord, IsShortFor, OnlyFinds, OnlyTeller, Passes, Refuses, Restarts, SetsDeadline, SetsFollow, free_in, open_in, stages_in, state_in, waiting_in};
+ghost use Rattle.cf_request.specs.Machines.{AppliesWord, CancelsAll, FindsFor, FindsToPass, GoesOn, IsNoCancel, IsNoDeadline, IsNoFollow, IsNoNext, IsNoPass, IsNoWord, IsShortFor, OnlyDeadlines, OnlyFinds, OnlyTeller, Passes, Refuses, Restarts, SetsDeadline, SetsFollow, free_in, open_in, stages_in, state_in, waiting_in};
 ghost use Rattle.cf_request.specs.Relays.{NoneBehind};
 ghost use Rattle.cf_request.specs.Rows.{AreCalls, nothing, unclaimed};
 ghost use Rattle.cf_request.specs.Telling.{AreFresh, AreSettled, IsOnce, with_memory};
@@ -228,6 +228,7 @@ impl Machine {
     /// Finishes a compose with any stage, where nothing stands against it, and memory was found for both words.
     fn link_found(&mut self, who: u8, composed: Composed, stage: u16) -> Result<Finish, StepFault>
         requires may { MayLink who composed stage (state_in self.old) }
+        requires few { composed.stage ≤ 4095 }
         requires memory { 2 + waiting_in self.old ≤ free_in self.old }
         ensures done { IfOk result (λ finish. LinksFound who composed stage self.old finish self.new) }
         ensures refused { OnErr result (OnlyFinds self.old self.new) }
@@ -244,13 +245,12 @@ impl Machine {
     fn finish_claimed(&mut self, who: u8, composed: Composed) -> Finish
         requires caller { who ≤ 63 }
         requires there { composed.stage < stages_in self.old }
+        requires few { composed.stage ≤ 4095 }
         requires relay { composed.relay < composed.stage }
         requires held { claim_at (state_in self.old) composed.stage ≡ Some who }
         requires memory { 1 + waiting_in self.old ≤ free_in self.old }
         ensures { FinishesClaimed who composed self.old result self.new }
     {
-        // There is a lane for each stage.
-        let _known = self.teller.lanes();
         let seen = self.teller.told().len();
         let held = Held {
             stage: composed.stage,
@@ -297,8 +297,8 @@ impl Machine {
         requires idle { IsIdle lane None self.now.teller }
         ensures { GoesOn who lane None self.now result self.now }
     {
-        // No relay is open whose stage is settled.
-        let _known = self.teller.lanes();
+        // Nothing of the machine is asked, and only here is it known that no relay is open whose stage is settled.
+        let _ = &self.relays;
         Next {
             finish: None,
             taken: None,
@@ -417,7 +417,7 @@ impl Machine {
         ensures none { IfNone result (NoneOpen self.old.deadlines (state_in self.old).stages) }
         ensures order { AreInOrder self.old.deadlines }
         ensures forgets { Forgets (state_in self.old).stages self.old.deadlines self.new.deadlines }
-        ensures rest { self.new ≡ record self.old { deadlines = self.new.deadlines } }
+        ensures rest { OnlyDeadlines self.old self.new }
     {
         let next = next_open(&self.teller, &mut self.deadlines)?;
         Some(told_from(self.moment, next))

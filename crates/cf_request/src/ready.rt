@@ -1,6 +1,6 @@
 //! The ready stages of each lane.
 ghost use Rattle.std.specs.Prelude.{◌≡◌, ◌+◌, ◌<◌, ◌≤◌, [], All, IfOk, false, length, position, replicate, slice_index_or, slice_set, take, vec_capacity};
-ghost use Rattle.cf_request.specs.Ready.{AreSets, IsLaneCount, count_of, lane_of, lanes_of, none_ready};
+ghost use Rattle.cf_request.specs.Ready.{AreSets, IsLane, IsLaneCount, count_of, lane_of, lanes_of, none_ready};
 
 use cf_bits::BitSet;
 use std::alloc::{AllocError, Global};
@@ -171,7 +171,7 @@ impl ReadySets {
     #[inline(always)]
     pub(crate) fn reach(&mut self, stages: u16, lane: u8)
         requires room { stages ≤ self.old.places }
-        requires lane { lane < length self.old.sets }
+        requires lane { IsLane lane (length self.old.sets) }
         ensures { self.new ≡ record self.old { of = lanes_of stages lane self.old.of } }
     {
         if self.of.len() < stages as usize {

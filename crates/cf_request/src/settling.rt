@@ -25,8 +25,6 @@ pub(crate) fn settle(teller: &mut Teller, who: u8, due: &Due)
     ensures { Settles who due.now teller.old teller.new }
 {
     let event = settle_event(who, due.stage, due.outcome);
-    // No stage's number is above 4,095.
-    let _known = teller.stages();
     let _ = teller.apply_event(&event);
 }
 

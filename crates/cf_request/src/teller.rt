@@ -9,8 +9,8 @@ ghost use Rattle.cf_event.specs.Decoding.{event_of};
 ghost use Rattle.cf_event.specs.Words.{IsEvent, word_of};
 ghost use Rattle.cf_ledger.specs.Ledgers.{AreTaken, IsShort, LedgerRefuses, roomier, stages_of, state_of, with_more};
 ghost use Rattle.cf_request.specs.Lanes.{IsLowestIn, NothingIsReady, ready_in};
-ghost use Rattle.cf_request.specs.Ready.{AreFitBut, FitState, HasLanes, IsFit, IsLaneCount, with_lane};
-ghost use Rattle.cf_request.specs.Telling.{AreFresh, AreSettled, AreSettledBelow, IsOnce, Tells, TellsEvent, is_settled_in, most_stages, with_memory};
+ghost use Rattle.cf_request.specs.Ready.{AreFitBut, FitState, HasLanes, IsFit, IsLane, IsLaneCount};
+ghost use Rattle.cf_request.specs.Telling.{AreFresh, AreSettled, AreSettledBelow, IsOnce, TellsEvent, TellsWord, is_settled_in, most_stages, with_memory};
 
 use crate::ready::ReadySets;
 use cf_event::encode;
@@ -109,10 +109,9 @@ impl Teller {
     /// behind the others. It is refused as by the ledger, and leaves all as it was then.
     #[inline(always)]
     pub fn apply(&mut self, word: u64, lane: u8) -> Result<Reply, LedgerFault>
-        requires { lane < self.old.lanes.count }
-        ensures done { IfOk result (λ reply. Tells word self.old reply self.new) }
-        ensures lanes { OnOk result (self.new.lanes
-            ≡ with_lane (stages_of self.new.ledger) lane self.old.lanes) }
+        requires { IsLane lane self.old.lanes.count }
+        ensures done { IfOk result (λ reply. TellsWord lane word self.old reply self.new) }
+        ensures all { OnOk result (HasLanes (state_of self.old.ledger) self.old.lanes.of) }
         ensures refused { OnErr result (self.new ≡ self.old) }
         ensures why { IfErr result (λ fault. LedgerRefuses (state_of self.old.ledger) word fault) }
         ensures short { IfErr result (λ fault. IsShort self.old.ledger.free fault) }
@@ -130,14 +129,14 @@ impl Teller {
     #[inline(always)]
     #[tactic(auto, using(crate::proofs::Words::event_told))]
     pub fn apply_event(&mut self, event: &Event) -> Reply
-        requires is { IsEvent event.now }
+        requires is { stages_of self.old.ledger ≤ 4096 → IsEvent event.now }
         requires fits { EventFits (stages_of self.old.ledger) event.now }
         requires attaches { is_attach event.now ≡ false }
         requires memory { 0 < self.old.ledger.free }
         ensures { TellsEvent event.now self.old result self.new }
     {
-        // There is a lane 0, and a lane for each stage.
-        let _known = self.lanes();
+        // The word is made before the ledger is asked, and only here is it known that no stage's number is above 4,095.
+        let _ = &self.ledger;
         match self.apply(encode(event), 0) {
             Ok(reply) => reply,
             Err(_) => unreachable!(),
@@ -154,8 +153,6 @@ impl Teller {
         requires memory { 0 < self.old.ledger.free }
         ensures { TellsEvent (Event.Claim who stage) self.old (Reply.Claim result) self.new }
     {
-        // There is a lane for each stage.
-        let _known = self.lanes();
         match self.claim_word(who, stage, word) {
             Ok(told) => told,
             Err(_) => unreachable!(),
@@ -168,13 +165,11 @@ impl Teller {
         requires read { event_of word ≡ Some (Event.Claim who stage) }
         requires named { word_of (Event.Claim who stage) ≡ word }
         requires there { stage < stages_of self.old.ledger }
-        ensures done { IfOk result (λ told. Tells word self.old (Reply.Claim told) self.new) }
-        ensures lanes { OnOk result (self.new.lanes
-            ≡ with_lane (stages_of self.new.ledger) 0 self.old.lanes) }
+        ensures done { IfOk result (λ told. TellsWord 0 word self.old (Reply.Claim told) self.new) }
+        ensures all { OnOk result (HasLanes (state_of self.old.ledger) self.old.lanes.of) }
         ensures why { IfErr result (λ fault. LedgerRefuses (state_of self.old.ledger) word fault) }
         ensures short { IfErr result (λ fault. IsShort self.old.ledger.free fault) }
     {
-        let _lanes = self.lanes.lanes();
         let told = self.ledger.claim(who, stage, word)?;
         let stages = self.ledger.stages();
         self.lanes.reach(stages, 0);
@@ -192,8 +187,6 @@ impl Teller {
         requires memory { 0 < self.old.ledger.free }
         ensures { TellsEvent (Event.Finish who stage answer) self.old (Reply.Finish result) self.new }
     {
-        // There is a lane for each stage.
-        let _known = self.lanes();
         match self.finish_word(who, stage, answer, word) {
             Ok(told) => told,
             Err(_) => unreachable!(),
@@ -211,13 +204,11 @@ impl Teller {
     ) -> Result<Finished, LedgerFault>
         requires read { event_of word ≡ Some (Event.Finish who stage answer) }
         requires named { word_of (Event.Finish who stage answer) ≡ word }
-        ensures done { IfOk result (λ told. Tells word self.old (Reply.Finish told) self.new) }
-        ensures lanes { OnOk result (self.new.lanes
-            ≡ with_lane (stages_of self.new.ledger) 0 self.old.lanes) }
+        ensures done { IfOk result (λ told. TellsWord 0 word self.old (Reply.Finish told) self.new) }
+        ensures all { OnOk result (HasLanes (state_of self.old.ledger) self.old.lanes.of) }
         ensures why { IfErr result (λ fault. LedgerRefuses (state_of self.old.ledger) word fault) }
         ensures short { IfErr result (λ fault. IsShort self.old.ledger.free fault) }
     {
-        let _lanes = self.lanes.lanes();
         let told = self.ledger.finish(who, stage, answer, word)?;
         let stages = self.ledger.stages();
         let place = self.ledger.len() - 1;
@@ -268,6 +259,7 @@ impl Teller {
     pub fn lowest(&self, lane: u8) -> Option<u16>
         requires { lane < self.now.lanes.count }
         ensures lowest { IfSome result (λ i. IsLowestIn (state_of self.now.ledger) self.now.lanes.of lane i) }
+        ensures few { IfSome result (λ i. i ≤ 4095) }
         ensures none { IfNone result (NothingIsReady self.now lane) }
     {
         self.lanes.lowest(lane)

@@ -1,5 +1,5 @@
 -- The word that fails a stage of a session that is gone.
-use Rattle.std.proofs.Common.{◌≡◌, ℕ, ◌+◌, ◌<◌, ◌≤◌, ◌⊎◌, inl, inr, true, false, List, [], ◌∷◌, Contains, length, ap, sym, subst, refl, arith}
+use Rattle.std.proofs.Common.{◌≡◌, ℕ, ◌<◌, ◌≤◌, ◌⊎◌, inl, inr, true, false, List, [], ◌∷◌, Contains, ap, sym, subst, refl, arith}
 use Rattle.std.specs.Prelude.{Option, Some, None}
 use Rattle.std.proofs.lemmas.Nat.{mod_below}
 use Rattle.cf_model.specs.declared.events.Event.{Event}
@@ -14,10 +14,9 @@ use Rattle.cf_model.specs.Events.{settled_by}
 use Rattle.cf_event.specs.Words.{IsEvent, word_of}
 use Rattle.cf_event.specs.Decoding.{event_of}
 use Rattle.cf_event.proofs.WordLemmas.{event_of_is}
-use Rattle.cf_ledger.specs.Ledgers.{Ledger, state_of as ledger_state}
 use Rattle.cf_row.specs.declared.entry.Entry.{Entry}
 use Rattle.cf_row.specs.Numbers.{FollowsRule}
-use Rattle.cf_row.specs.Rows.{Replica, ledger_of, stages_of, state_of}
+use Rattle.cf_row.specs.Rows.{Replica, stages_of, state_of}
 use Rattle.cf_row.specs.Grants.{IsHeldBy, NoneHeldBy}
 use Rattle.cf_row.specs.Abandoning.{Abandons}
 use Rattle.cf_row.specs.Puts.{attached_by, pair_of, pairs_of, who_at, who_by}
@@ -57,12 +56,6 @@ rule_small seen s who (inr (inr l)) =
     let is = l.shares in
     let small = mod_below s 64 (omega arith) in
     omega (arith, is, small)
-
--- and a stage's number below 4,096
-pub stage_small : (l : Ledger) (r : Replica) (n i : ℕ) → l ≡ ledger_of r → n ≡ length (ledger_state l).plan.stages → n + (ledger_state l).plan.room ≤ 4096 → i < stages_of r → i ≤ 4095
-stage_small l r n i is count few there =
-    let same = ap (λ (m : Ledger). length (ledger_state m).plan.stages) is in
-    omega (arith, same, count, few, there)
 
 -- ---- an open stage is failed
 

@@ -72,6 +72,7 @@ pub(crate) fn open_in(ledger: &Ledger, from: u16) -> Option<u16>
 pub(crate) fn held_in(ledger: &Ledger, claims: &[Claim], session: u64, from: u16) -> Option<u16>
     ensures held { IfSome result (λ i. IsHeldIn claims.now (state_of ledger.now) session i) }
     ensures there { IfSome result (λ i. i < stages_of ledger.now) }
+    ensures few { IfSome result (λ i. i ≤ 4095) }
     ensures above { IfSome result (λ i. from ≤ i) }
     ensures first { IfSome result (λ i. NoneHeldIn claims.now (state_of ledger.now) session from i) }
     ensures none { IfNone result

@@ -169,6 +169,7 @@ impl Replica {
     pub fn held(&self, session: u64, from: u16) -> Option<u16>
         ensures held { IfSome result (λ i. IsHeldBy self.now session i) }
         ensures there { IfSome result (λ i. i < stages_of self.now) }
+        ensures few { IfSome result (λ i. i ≤ 4095) }
         ensures above { IfSome result (λ i. from ≤ i) }
         ensures first { IfSome result (λ i. NoneHeldBy self.now session from i) }
         ensures none { IfNone result (NoneHeldBy self.now session from (stages_of self.now)) }
@@ -183,9 +184,6 @@ impl Replica {
         ensures none { IfNone result (NoneHeldBy self.now session from (stages_of self.now)) }
     {
         let stage = self.held(session, from)?;
-        let ledger = self.ledger();
-        // A graph has so few stages.
-        let _known = ledger.stages();
         let who = self.number();
         Some(encode(&Event::Fail { who, stage, code }))
     }
@@ -309,8 +307,8 @@ impl Replica {
         ensures all { Replays self.old put.now self.new }
         ensures less { self.new.free ≤ self.old.free }
     {
-        // What was seen are words.
-        let _known = self.ledger();
+        // No field is read here, and only so it is known that what was seen are words.
+        let _ = &self.ledger;
         let Ok(()) = self.replay(put) else {
             unreachable!();
         };

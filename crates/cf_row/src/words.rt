@@ -2,7 +2,10 @@
 ghost use Rattle.std.specs.Prelude.{◌≡◌, ◌+◌, ◌*◌, ◌≤◌, IfErr, IfNone, IfSome, OnOk, None, Some};
 ghost use Rattle.std.specs.Bool.{OnFalse, OnTrue};
 ghost use Rattle.cf_event.specs.Decoding.{event_of};
+ghost use Rattle.cf_ledger.specs.Ledgers.{AreTaken};
+ghost use Rattle.cf_model.specs.States.{start};
 ghost use Rattle.cf_row.specs.Puts.{AreWordsBehind, AreWordsFor, IsNoPut, IsWordFor, MayPut, attached_by, end_of_tokens};
+ghost use Rattle.cf_row.specs.Rows.{history_of};
 
 use crate::entry::TOKENS;
 use crate::faults::PutFault;
@@ -25,15 +28,14 @@ pub(crate) fn check(replica: &Replica, next: u64, words: &[u64]) -> Result<(), P
     if !are_behind(replica, replica.number(), words) {
         return Err(PutFault::NoWord);
     }
-    // What was seen are words that the graph takes.
-    let _known = replica.ledger();
     Ok(())
 }
 
-/// Whether these are words of events of this caller that the graph takes behind all that was seen.
+/// Whether these are words of events of this caller that the graph takes behind all that was seen. It took all of that.
 fn are_behind(replica: &Replica, who: u8, words: &[u64]) -> bool
     ensures are { OnTrue result (AreWordsBehind replica.now who words.now) }
     ensures none { OnFalse result (¬ AreWordsBehind replica.now who words.now) }
+    ensures taken { AreTaken (start replica.now.plan) (history_of replica.now.seen) }
 {
     let ledger = replica.ledger();
     are_for(words, who, ledger.stages(), ledger.room())

@@ -101,8 +101,6 @@ fn claim(graph: &mut Graph, who: u8, task: &mut CfTask)
     ensures state { graph.new.state ≡ claim_left who graph.old.state (lowest_ready_of graph.old.state) }
     ensures task { task.new ≡ claimed_task who graph.old.state task.old (lowest_ready_of graph.old.state) }
 {
-    // There is a state for each stage.
-    let _known = graph.stages();
     let Some(stage) = graph.lowest_ready() else {
         task.held = 0;
         return;

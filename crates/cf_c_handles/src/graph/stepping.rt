@@ -46,8 +46,6 @@ fn finish(graph: &mut Graph, who: u8, held: Option<Held>) -> Result<u32, Code>
 fn take(graph: &mut Graph, who: u8, task: &mut CfTask) -> Result<(), Code>
     ensures { GraphTakes who graph.old task.old result task.new graph.new }
 {
-    // There is a state for each stage.
-    let _known = graph.stages();
     let Some(stage) = graph.lowest_ready() else {
         task.held = 0;
         return Err(Code::Nothing);

@@ -74,8 +74,6 @@ fn claim(
     ensures { DoesWord word (HeldLedger ledger.old) (reply.old, news.old, n.old)
         result (HeldLedger ledger.new) (reply.new, news.new, n.new) }
 {
-    // There is a state and a claim for each stage.
-    let _known = ledger.stages();
     match ledger.claim(who, stage, word) {
         Err(fault) => Err(word_code(fault)),
         Ok(told) => {

@@ -1,7 +1,8 @@
 -- Which stages have come further: a stage that is written, a turn, and flags that are kept of it.
 use Rattle.std.proofs.Common.{◌≡◌, ◌≢◌, ℕ, ◌<◌, ◌≤◌, ◌∷◌, ◌++◌, [], List, Bool, true, false, Option, Some, None, length, suc, zero, arith, ap, sym, ◌∙◌, subst, refl, set, map, inl, inr}
-use Rattle.std.specs.Prelude.{slice_get, position, unwrap_or}
+use Rattle.std.specs.Prelude.{IfSome, slice_get, position, unwrap_or}
 use Rattle.std.proofs.lemmas.Bool.Decides.{eqb_tells}
+use Rattle.std.proofs.lemmas.List.Quantifiers.{position-Some}
 use Rattle.std.proofs.lemmas.Option.{slice_get_within}
 use Rattle.cf_outcome.specs.declared.outcome.Outcome.{Outcome}
 use Rattle.cf_forms.specs.declared.forms.Due.{Due}
@@ -9,7 +10,7 @@ use Rattle.cf_forms.specs.declared.forms.Due.TheVariants.{Waits, Settles, Needs}
 use Rattle.cf_forms.specs.Plans.{PlannedStage}
 use Rattle.cf_model.specs.declared.stage.Stage.{Stage}
 use Rattle.cf_model.specs.declared.stage.Stage.TheVariants.{Pending, Ready, Claimed, Linked, Settled}
-use Rattle.cf_model.specs.States.{is_ready, outcome_of}
+use Rattle.cf_model.specs.States.{State, is_ready, lowest_ready_of, outcome_of}
 use Rattle.cf_model.specs.Graphs.{AreChanges, MovesAlone, NoneLeftUpTo, rank, stage_in}
 use Rattle.cf_model.proofs.StateLemmas.{slice_get-set_other}
 use Rattle.cf_core.specs.declared.kept.KeptStage.{KeptStage}
@@ -25,7 +26,7 @@ use Rattle.cf_core.specs.Keeping.Turns.{planned_at, turned}
 use Rattle.cf_core.proofs.Keeping.Above.{leaves_none}
 use Rattle.cf_core.proofs.Keeping.Flags.{past_flags}
 use Rattle.cf_core.proofs.Keeping.Marking.{get-set_same}
-use Rattle.cf_core.proofs.Keeping.Lowest.{all_steady, none_marked}
+use Rattle.cf_core.proofs.Keeping.Lowest.{all_steady, length-settled_view, none_marked}
 use Rattle.cf_core.proofs.Keeping.Places.{kept_put}
 
 -- ---- a stage, as it is kept
@@ -258,6 +259,15 @@ moved_changes old new changed h = record {
 pub kept_all : (plan : List PlannedStage) (s : Stages) → AreSound plan s → position (λ b. b) s.marks ≡ None → stages_of s.kept.items ≡ settled_view_of plan s
 kept_all plan s h none =
     ap stages_of (sym (all_steady plan s.kept.items s.marks s.ready s.links s.steps s.turns h (none_marked s.marks (length plan) none (omega (arith, h.all_marks)))))
+
+-- there is a state for each stage
+pub all_in_view : (plan : List PlannedStage) (s : Stages) → AreSound plan s → length (settled_view_of plan s) ≡ length plan
+all_in_view plan s h = length-settled_view plan s.kept.items ∙ h.all_kept
+
+-- so the lowest ready stage is there
+pub lowest_there : (s : State) (o : Option ℕ) → o ≡ lowest_ready_of s → length s.stages ≡ length s.plan.stages → IfSome o (λ i. i < length s.plan.stages)
+lowest_there s None is all = tt
+lowest_there s (Some i) is all = let at = (position-Some is_ready s.stages i Pending (sym is)).0 in omega (arith, at, all)
 
 -- where no turn was left, treating stages changes nothing
 pub rests_alone : (i : ℕ) (s t : Stages) → (NoneLeftUpTo i (lowest_marked_in s) → t ≡ s) → lowest_marked_in s ≡ None → KeptMovesAlone i s t

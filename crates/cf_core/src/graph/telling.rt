@@ -49,13 +49,12 @@ impl Graph {
 
     /// A stage's state, where no turn is left.
     #[inline(always)]
+    #[tactic(auto, using(crate::proofs::Keeping::Changes::kept_all, crate::proofs::Keeping::Changes::kept_stage))]
     pub fn stage_now(&self, i: u16) -> Stage
         requires stage { i < length self.now.state.plan.stages }
         requires worked_out { self.now.left ≡ None }
         ensures { result ≡ stage_in self.now.state.stages i }
     {
-        // No turn is left, so what is kept is the state.
-        let _known = self.stages();
         self.stages.stage(i)
     }
 
@@ -83,23 +82,20 @@ impl Graph {
         ensures worked_out { self.new.left ≡ None }
         ensures counted { CountsTurns self.old self.new }
     {
-        // No turn is left, so what is kept is the state.
-        let _known = self.stages();
+        // No turn is left, so what is kept is the state: a graph knows that where a field of it was read.
+        let _ = &self.stages;
         match *e {
             Event::Claim { who, stage } => {
                 let told = self.claim_telling(who, stage, news);
-                let _known_after = self.stages();
                 Reply::Claim(told)
             }
             Event::Finish { who, stage, answer } => {
                 let told = self.finish_telling(who, stage, answer, news);
-                let _known_after = self.stages();
                 Reply::Finish(told)
             }
             Event::Tick { moment, .. } => {
                 let told = self.tick_telling(moment, flags);
                 drain(flags, news);
-                let _known_after = self.stages();
                 Reply::Tick(told)
             }
             _ => {
@@ -107,7 +103,6 @@ impl Graph {
                 let before = self.rank(d);
                 let reply = self.answer(e);
                 self.write_moved(d, before, news);
-                let _known_after = self.stages();
                 reply
             }
         }
@@ -162,6 +157,7 @@ impl Graph {
 
     /// Takes all turns that are left, and sets the flags of the stages that they move.
     #[inline(always)]
+    #[tactic(auto, using(crate::proofs::Keeping::Changes::kept_all))]
     fn tell_rest(&mut self, changed: &mut BitSet)
         requires flags { length self.old.state.plan.stages ≤ length changed.old }
         ensures told { TellOn self.old.kept changed.old self.new.kept changed.new }
@@ -172,8 +168,6 @@ impl Graph {
         ensures counted { CountsTurns self.old self.new }
     {
         self.stages.tell_rest(&self.plan, changed);
-        // No turn is left, so what is kept is the state.
-        let _known = self.stages();
     }
 
     /// Writes a stage behind those of a row, if it has moved on by itself, takes all turns that are left, and writes the
@@ -198,6 +192,7 @@ impl Graph {
 
     /// Takes all turns that are left, and writes the stages that they move behind those of a row.
     #[inline(always)]
+    #[tactic(auto, using(crate::proofs::Keeping::Changes::kept_all))]
     fn write_rest(&mut self, news: &mut Vec<u16>)
         requires places { HasPlaces (length self.old.state.plan.stages) self.old.left
             (length news.old.items) (vec_capacity news.old) }
@@ -209,8 +204,6 @@ impl Graph {
         ensures counted { CountsTurns self.old self.new }
     {
         self.stages.write_rest(&self.plan, news);
-        // No turn is left, so what is kept is the state.
-        let _known = self.stages();
     }
 
     /// Lets time pass as `tick` does. After each limit all turns are taken that it makes due.

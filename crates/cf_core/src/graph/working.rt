@@ -46,6 +46,7 @@ impl Graph {
 
     /// Works on at most `few` stages. Where it says fewer, no stage is ready.
     fn work_few<F: Functions>(&mut self, who: u8, functions: &mut F, few: u32) -> u32
+        requires { 0 < few }
         ensures within { result ≤ few }
         ensures called { Runs F.calls who self.old.state functions.old result self.new.state functions.new }
         ensures none { result < few → lowest_ready_of self.new.state ≡ None }
@@ -58,8 +59,6 @@ impl Graph {
             }
             calls += 1;
         }
-        // The turns of a graph are within their bound.
-        let _known = self.turns();
         calls
     }
 

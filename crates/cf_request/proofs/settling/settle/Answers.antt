@@ -1,8 +1,11 @@
-use Rattle.std.proofs.Common.{subst}
+use Rattle.std.proofs.Common.{arith, subst}
 use Rattle.cf_model.specs.declared.events.Event.{Event}
 use Rattle.cf_request.specs.Telling.{TellsEvent}
 use Rattle.cf_request.proofs.Turns.{settle_ends}
 use Rattle.cf_request.proofs.settling.settle.Goals as goal
+
+pub apply_event-requires-clause-is : goal.apply_event-requires-clause-is
+apply_event-requires-clause-is c = λ few. c.settle_event-event.ensures.event c.requires.caller (let there = c.requires.is_open.0 in omega (arith, there, few))
 
 pub returns : goal.returns
 returns c =

@@ -12,4 +12,11 @@ loop-calls-preserved g c =
           c.work_once.ensures.called c.if-is_none.ensures h.called;
       within = omega (arith, c.loop-calls-test.true);
       counted = omega (arith, before, turns);
+      few = λ some. c.work_once.ensures.counted.few;
     }
+
+pub returns-clause-counted : goal.returns-clause-counted
+returns-clause-counted g c = record {
+  counted = c.loop-calls.invariant.counted;
+  few = c.loop-calls.invariant.few (omega (arith, c.requires, c.loop-calls-test.false));
+}

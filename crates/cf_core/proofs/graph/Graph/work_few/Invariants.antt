@@ -1,5 +1,6 @@
-use Rattle.std.proofs.Common.{◌≤◌, ◌-◌}
+use Rattle.std.proofs.Common.{◌<◌, ◌≤◌, ◌-◌}
 use Rattle.cf_model.specs.Calling.{Runs}
+use Rattle.cf_model.specs.Graphs.{most_turns}
 use Rattle.cf_core.proofs.graph.Graph.work_few.Given as goal
 
 abbrev pub invariant-loop-calls : goal.invariant-loop-calls
@@ -7,6 +8,7 @@ invariant-loop-calls g l = record {
   called : Runs g.F.Functions.calls l.who l.initial.self.state l.initial.functions l.calls l.self.state l.functions;
   within : l.calls ≤ l.few;
   counted : l.initial.self.turns ≤ l.self.turns;
+  few : 0 < l.calls → l.self.turns ≤ most_turns l.self.state.plan.stages;
 }
 
 abbrev pub decreases-loop-calls : goal.decreases-loop-calls

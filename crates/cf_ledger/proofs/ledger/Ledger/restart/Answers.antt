@@ -14,7 +14,7 @@ invariant_of-self c =
     let plan = with_room l.plan l.room in
     let g = c.start_again.new.graph in
     let h = c.self.invariant.kept in
-    let whole : l.plan.opened ≡ length l.plan.stages = ap (λ (p : Planned). p.opened) c.stages-known.ensures.whole in
+    let whole : l.plan.opened ≡ length l.plan.stages = ap (λ (p : Planned). p.opened) c.self.invariant.whole in
     let again : g.state ≡ start plan =
     c.start_again.ensures.start ∙ ap (λ (s : State). start (reopened s.plan)) h.left ∙ ap start (grown_reopens l.plan l.room (decoded l.words.items) whole) in
     let none : IsKept plan [] g l.changed [] = record {
@@ -30,6 +30,7 @@ invariant_of-self c =
     let empty = ap length c.clear.ensures.items in
     let same = c.clear.ensures.capacity in
     record {
+      whole = c.self.invariant.whole;
       kept = subst (λ lists. IsKept plan c.clear.new.self.items g l.changed lists) (sym c.clear-2.ensures.lists)
           (subst (λ (words : List ℕ). IsKept plan words g l.changed []) (sym c.clear.ensures.items) none);
       places = places_stay l.free (length l.changed) (length l.changed) l.words c.clear.new.self l.news c.clear-2.new.self c.self.invariant.places refl (omega (arith, empty, same)) c.clear-2.ensures.kept_more c.clear-2.ensures.kept_free;

@@ -23,6 +23,7 @@ returns-clause-kept c =
     let flags = c.requires.kept.kept.flags in
     let place = c.requires.place.of_words in
     record {
+      whole = c.requires.kept.whole;
       kept = subst (λ words. IsKept plan words g.graph b.changed g.self.lists) (sym c.push_reserved.ensures.items)
           (kept_push plan b.words.items b.graph g.graph c.args.word event (ToldFinish c.note_finish-told.result) b.changed b.changed b.news.lists g.self.lists
           c.requires.kept.kept c.requires.read c.requires.named (record { fits = c.requires.there; room = tt }) (ap (λ (p : Finished × State). (ToldFinish p.0, p.1)) t.told)

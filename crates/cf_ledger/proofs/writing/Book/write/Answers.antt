@@ -17,6 +17,7 @@ returns-clause-kept c =
     let stages = t.free in
     let place = c.requires.place.of_words in
     record {
+      whole = c.requires.kept.whole;
       kept = subst (λ words. IsKept plan words g.graph g.flags g.self.lists) (sym c.push_reserved.ensures.items)
           (kept_push plan b.words.items b.graph g.graph c.args.word c.args.event.now c.note-reply.result b.changed g.flags b.news.lists g.self.lists
           c.requires.kept.kept c.requires.read c.requires.named c.requires.taken t.told t.worked_out t.unset t.flags t.lists);

@@ -1,10 +1,8 @@
-use Rattle.std.proofs.Common.{◌-◌, ◌≤◌, ◌∙◌, ℕ, List, ap, arith, length, refl, subst}
+use Rattle.std.proofs.Common.{◌-◌, ◌≤◌, ℕ, List, ap, arith, length, refl, subst}
 use Rattle.std.specs.Prelude.{vec_capacity}
 use Rattle.std.specs.VecDeque.{deque_capacity}
-use Rattle.cf_ledger.specs.Ledgers.{stages_of, state_of}
+use Rattle.cf_ledger.specs.Ledgers.{state_of}
 use Rattle.cf_request.specs.Machines.{AppliesWord, Machine}
-use Rattle.cf_request.specs.Ready.{with_lane}
-use Rattle.cf_request.specs.Telling.{Teller}
 use Rattle.cf_request.proofs.Machines.{kept_all, kept_word, may_word}
 use Rattle.cf_request.proofs.machine.Machine.apply.Goals as goal
 
@@ -13,13 +11,13 @@ catch_up-self-inside-requires-clause-may c =
     let m = c.self.inside in
     let enough : m.relays.waiting ≤ c.reserve.new.self.ledger.free - 1 = omega (arith, c.in_ok-reserve.ensures.enough, c.words_beside.ensures.enough) in
     may_word _ m.teller c.reserve.new.self c.apply.new.self c.args.word c.in_ok-reply.reply m.relays m.deadlines.items m.own (length c.told-seen.result.now)
-    c.self.invariant.0 c.self.invariant.1 c.self.invariant.2 c.in_ok-reserve.ensures.found (ap (λ (l : List ℕ). length l) c.told-seen.ensures.told) enough c.in_ok-reply.ensures.done
+    c.self.invariant.0 c.self.invariant.1 c.self.invariant.2 c.in_ok-reserve.ensures.found (ap (λ (l : List ℕ). length l) c.told-seen.ensures.told) enough c.in_ok-reply.ensures.done.tells
 
 pub invariant_of-self-2 : goal.invariant_of-self-2
 invariant_of-self-2 c =
     let m = c.self.inside in
     kept_all m.own c.apply.new.self c.catch_up-self-inside.new.teller m.relays m.deadlines.items c.catch_up-self-inside.result (state_of m.teller.ledger).stages c.catch_up-self-inside.ensures.settled
-    (kept_word _ m.teller c.reserve.new.self c.apply.new.self c.args.word c.in_ok-reply.reply m.relays.follows.items m.deadlines.items m.own c.self.invariant.0 c.in_ok-reserve.ensures.found c.in_ok-reply.ensures.done)
+    (kept_word _ m.teller c.reserve.new.self c.apply.new.self c.args.word c.in_ok-reply.reply m.relays.follows.items m.deadlines.items m.own c.self.invariant.0 c.in_ok-reserve.ensures.found c.in_ok-reply.ensures.done.tells)
     c.self.invariant.2 c.catch_up-self-inside.ensures.counted c.catch_up-self-inside.ensures.fewer
 
 pub returns-clause-done : goal.returns-clause-done
@@ -36,7 +34,6 @@ returns-clause-done c =
       finds = record { words = c.words_beside.result; enough = omega (arith, most, c.words_beside.ensures.enough); few = omega (arith, few, c.words_beside.ensures.few); is = c.in_ok-reserve.ensures.found };
       between = b;
       tells = c.in_ok-reply.ensures.done;
-      lanes = c.in_ok-reply.ensures.lanes ∙ ap (λ (t : Teller). with_lane (stages_of b.ledger) c.args.lane t.lanes) c.in_ok-reserve.ensures.found;
       catches_up = c.catch_up-self-inside.ensures.settled;
       same = refl;
     })

@@ -35,5 +35,5 @@ returns c =
     let first : Machine = record { teller = m.teller; follows = m.relays.follows.items; deadlines = m.deadlines.items; moment = m.moment; own = m.own; relay_places = vec_capacity m.relays.follows; deadline_places = deque_capacity m.deadlines } in
     let enough = subst (λ (x : Machine). 1 + waiting_in x ≤ free_in x) (sym c.self.view_is) c.requires.memory in
     subst (λ (old : Machine). FinishesClaimed c.args.who c.args.composed old c.finish-finish.result (record first { teller = d })) c.self.view_is
-    (finishes_claimed c.args.who c.args.composed first c.finish-finish.result b d c.lanes-known.ensures.all c.finish-finish.ensures
+    (finishes_claimed c.args.who c.args.composed first c.finish-finish.result b d c.finish-finish.ensures
     c.catch_up-self-inside.ensures.settled (omega (arith, enough)))

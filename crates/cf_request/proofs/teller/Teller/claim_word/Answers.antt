@@ -3,10 +3,10 @@ use Rattle.cf_model.specs.declared.events.Reply.TheVariants.{Claim as Told}
 use Rattle.cf_model.specs.States.{is_ready}
 use Rattle.cf_ledger.specs.Ledgers.{stages_of, state_of}
 use Rattle.cf_ledger.proofs.Words.{all_states}
-use Rattle.cf_request.specs.Ready.{AreFitBut, ReadySets, lanes_of}
-use Rattle.cf_request.specs.Telling.{Teller, Tells}
+use Rattle.cf_request.specs.Ready.{AreFitBut, HasLanes, ReadySets, lanes_of, with_lane}
+use Rattle.cf_request.specs.Telling.{Teller, TellsWord}
 use Rattle.cf_request.proofs.Claims.{kept_claim, left_claim, tells_claim}
-use Rattle.cf_request.proofs.Sets.{Marks, fit_state, lanes_in, lanes_reached, marks_more}
+use Rattle.cf_request.proofs.Sets.{Marks, fit_state, lanes_in, lanes_reached, lanes_seen, marks_more}
 use Rattle.cf_request.proofs.Telling.{view_of}
 use Rattle.cf_request.proofs.Words.{none_lost}
 use Rattle.cf_request.proofs.teller.Teller.claim_word.Goals as goal
@@ -43,8 +43,19 @@ invariant_of-self-2 c =
           (λ i. (after c).rest.rest i (λ no. no)),
     )
 
+seen : (c : goal.After-write) → lanes_in c.write.new.self ≡ with_lane (stages_of c.claim.new.self) 0 (lanes_in c.self.inside.lanes)
+seen c =
+    let t = c.self.inside in
+    lanes_seen t.lanes c.write.new.self c.stages-stages.result (stages_of c.claim.new.self) 0 (written c) ((after c).count ∙ ap (λ (r : ReadySets). length r.sets) c.reach.ensures) c.stages-stages.ensures.count
+
 pub returns-clause-done : goal.returns-clause-done
 returns-clause-done c =
     let t = c.self.inside in
-    subst (λ (x : Teller). Tells c.args.word x (Told c.in_ok-told.told) (view_of c.claim.new.self t.order.items t.count (lanes_in c.write.new.self))) c.self.view_is
-    (tells_claim t.ledger c.claim.new.self c.args.word c.args.who c.args.stage (Told c.in_ok-told.told) t.order.items t.count (lanes_in t.lanes) (lanes_in c.write.new.self) c.in_ok-told.ensures.done c.requires.read)
+    subst (λ (x : Teller). TellsWord 0 c.args.word x (Told c.in_ok-told.told) (view_of c.claim.new.self t.order.items t.count (lanes_in c.write.new.self))) c.self.view_is
+    (record {
+      tells = tells_claim t.ledger c.claim.new.self c.args.word c.args.who c.args.stage (Told c.in_ok-told.told) t.order.items t.count (lanes_in t.lanes) (lanes_in c.write.new.self) c.in_ok-told.ensures.done c.requires.read;
+      lanes = seen c;
+    })
+
+pub returns-clause-all : goal.returns-clause-all
+returns-clause-all c = subst (λ (x : Teller). HasLanes (state_of x.ledger) x.lanes.of) c.self.view_is c.self.invariant.1.all

@@ -3,7 +3,7 @@ use Rattle.cf_ledger.specs.Ledgers.{stages_of, state_of}
 use Rattle.cf_ledger.proofs.Words.{all_states}
 use Rattle.cf_model.specs.declared.events.Reply.TheVariants.{Finish as Told}
 use Rattle.cf_request.specs.Ready.{AreFitBut, HasLanes, ReadySets, lanes_of, with_lane}
-use Rattle.cf_request.specs.Telling.{IsKept, Teller, Tells}
+use Rattle.cf_request.specs.Telling.{IsKept, Teller, TellsWord}
 use Rattle.cf_request.proofs.Sets.{fit_state, lanes_in, lanes_reached, lanes_seen, left_by}
 use Rattle.cf_request.proofs.Telling.{kept_note, news_fit, news_room, same_most, tells_note, view_of}
 use Rattle.cf_request.proofs.teller.Teller.finish_word.Goals as goal
@@ -61,10 +61,12 @@ invariant_of-self-2 c =
 pub returns-clause-done : goal.returns-clause-done
 returns-clause-done c =
     let t = c.self.inside in
-    subst (λ (x : Teller). Tells c.args.word x (Told c.in_ok-told.told) (view_of c.finish.new.self c.note.new.order.items t.count (lanes_in c.note.new.sets))) c.self.view_is
-    (tells_note t.ledger c.finish.new.self c.args.word (c.len-place.result - 1) (Told c.in_ok-told.told) t.order.items c.note.new.order.items c.news-changed.result.now (vec_capacity t.order) t.count (lanes_in t.lanes) (lanes_in c.note.new.sets)
-    c.self.invariant.0 c.in_ok-told.ensures.done (ap (λ (n : ℕ). n - 1) c.len-place.ensures) c.news-changed.ensures c.note.ensures.noted)
+    subst (λ (x : Teller). TellsWord 0 c.args.word x (Told c.in_ok-told.told) (view_of c.finish.new.self c.note.new.order.items t.count (lanes_in c.note.new.sets))) c.self.view_is
+    (record {
+      tells = tells_note t.ledger c.finish.new.self c.args.word (c.len-place.result - 1) (Told c.in_ok-told.told) t.order.items c.note.new.order.items c.news-changed.result.now (vec_capacity t.order) t.count (lanes_in t.lanes) (lanes_in c.note.new.sets)
+          c.self.invariant.0 c.in_ok-told.ensures.done (ap (λ (n : ℕ). n - 1) c.len-place.ensures) c.news-changed.ensures c.note.ensures.noted;
+      lanes = seen c;
+    })
 
-pub returns-clause-lanes : goal.returns-clause-lanes
-returns-clause-lanes c =
-    subst (λ (x : Teller). lanes_in c.note.new.sets ≡ with_lane (stages_of c.finish.new.self) 0 x.lanes) c.self.view_is (seen c)
+pub returns-clause-all : goal.returns-clause-all
+returns-clause-all c = subst (λ (x : Teller). HasLanes (state_of x.ledger) x.lanes.of) c.self.view_is c.self.invariant.1.all

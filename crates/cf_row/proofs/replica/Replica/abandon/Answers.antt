@@ -1,12 +1,12 @@
 use Rattle.std.proofs.Common.{arith}
-use Rattle.cf_row.proofs.Abandoned.{abandons, rule_small, stage_small}
+use Rattle.cf_row.proofs.Abandoned.{abandons, rule_small}
 use Rattle.cf_row.proofs.replica.Replica.abandon.Goals as goal
 
 pub encode-requires : goal.encode-requires
 encode-requires c =
     let code = c.ranges.code.fits in (
       rule_small c.args.self.now.seen c.args.self.now.session c.number-who.result c.number-who.ensures,
-      stage_small c.ledger-ledger.result.now c.args.self.now c.stages-known.result c.in_ok-stage.stage c.ledger-ledger.ensures.ledger c.stages-known.ensures.count c.stages-known.ensures.few c.in_ok-stage.ensures.there,
+      c.in_ok-stage.ensures.few,
       omega (arith, code),
     )
 
