@@ -176,10 +176,13 @@ def rows_of_requests(tools: Tools, made: Path) -> List[Row]:
 def rows_of_rust(tools: Tools, made: Path) -> List[Row]:
     """Without the crates of others, so that nothing but the project's own is built, and over Debian's with all features, which are built once."""
     python, offline, needs = tools["python3"], "clients/rust/offline", ["library", "cargo", "python3"]
-    over_debian, with_all = [python, offline, "--debian"], ["-q", "--workspace", "--all-features"]
+    features = [f"cf/{it}" for it in ["rayon", "serde", "testing", "tokio", "tracing"]]
+    features += [f"cf-store/{it}" for it in ["etcd", "postgres", "sqlite", "testing"]]  # (all but `dynamic` of cf-sys)
+    over_debian, with_all = [python, offline, "--debian"], ["-q", "--workspace", "--features", ",".join(features)]
     stored, order, orders = [*needs, DEBIANS], made / "cargo/debian/debug/examples/order", made / "rust-orders.db"
     built = [*over_debian, "build", *with_all, *(word for name in ["handler", "killed", "keyed"] for word in ("--example", name))]
-    lints = ["--workspace", "--all-features", "--all-targets", "--", "-D", "warnings"]
+    every = ["--workspace", "--all-features"]
+    lints = [*every, "--all-targets", "--", "-D", "warnings"]
     over_stores = ["again", "ends", "flows", "postgres", "questions", "sqlite", "transactions", "whole"]
     sources = sorted(str(path.relative_to(TOP)) for path in (TOP / "clients/rust").glob("cf*/**/*.rs"))
 
@@ -209,7 +212,7 @@ def rows_of_rust(tools: Tools, made: Path) -> List[Row]:
             ],
         ),
         Row("the examples of Rust's pages", stored, [[*over_debian, "test", *with_all, "--doc"]]),
-        Row("the reference of Rust's crates", stored, [["env", "RUSTDOCFLAGS=-D warnings", *over_debian, "doc", *with_all, "--no-deps"]]),
+        Row("the reference of Rust's crates", stored, [["env", "RUSTDOCFLAGS=-D warnings", *over_debian, "doc", "-q", "--no-deps", *every]]),
         Row(
             "Rust's order whose process is killed",
             stored,
