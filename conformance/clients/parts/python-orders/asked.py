@@ -127,6 +127,8 @@ class Asked:
                 words = ["value", str(history.values[int(words[1])])]
             elif words[:2] == ["fault", "thrown"]:
                 words = ["fault", "thrown", str(history.errors[int(words[2])].code), words[3]]
+            elif words[:2] == ["fault", "timeout"]:
+                words = ["fault", "timeout", words[-1]]  # (a limit of a question has no code, and one of a stage that of its exception)
             texts.append("value nil" if words == ["value", "None"] else " ".join(words))
         return tuple(texts)
 
