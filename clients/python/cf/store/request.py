@@ -726,7 +726,7 @@ class DurableRequest:
             self._service._tell_end(self)
 
     def _cancel_all(self) -> None:
-        for number, stage in list(self._stages.items()):
+        for number, stage in self._stages.copy().items():
             if not stage.done() and self._view.plan.rows[number:] and self._view.holder(number) is None:
                 stage.cancel()
 

@@ -293,7 +293,7 @@ class DurableService(concurrent.futures.Executor):
         """The functions that run in this process now, the longest-running first."""
         now = self._host.monotonic()
         return sorted(
-            (Running(name, stage, function, now - since) for (name, stage), (function, since) in list(self._runs.items())), key=lambda it: -it.seconds
+            (Running(name, stage, function, now - since) for (name, stage), (function, since) in self._runs.copy().items()), key=lambda it: -it.seconds
         )
 
     def shutdown(self, wait: bool = True, *, cancel_futures: bool = False) -> None:
@@ -439,7 +439,7 @@ class DurableService(concurrent.futures.Executor):
                     if not self._submit(timer.request, self._fire, timer):
                         self._firing.remove(timer[:3])
         # (before the store is asked: what is opened meanwhile, or again, isn't in its answer)
-        kept = {name: request.kept for name, request in list(self._requests.items())}
+        kept = {name: request.kept for name, request in self._requests.copy().items()}  # (list() of items may run others' finalizers)
         ends, mark = self.store.news(None if looks else self._mark)
         closed = kept.keys() - ends.keys() if looks else [name for name, end in ends.items() if end < 0]
         for name in closed:
