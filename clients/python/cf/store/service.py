@@ -293,7 +293,8 @@ class DurableService(concurrent.futures.Executor):
         """The functions that run in this process now, the longest-running first."""
         now = self._host.monotonic()
         return sorted(
-            (Running(name, stage, function, now - since) for (name, stage), (function, since) in self._runs.copy().items()), key=lambda it: -it.seconds
+            (Running(name, stage, function, now - since) for (name, stage), (function, since) in self._runs.copy().items()),
+            key=lambda it: -it.seconds,
         )
 
     def shutdown(self, wait: bool = True, *, cancel_futures: bool = False) -> None:
