@@ -560,7 +560,8 @@ impl Stages {
         );
     }
 
-    /// The outcome of a stage, if it is kept as settled.
+    /// The outcome of a stage, if it is kept as settled. Where a caller only asks whether there is one, nothing is copied.
+    #[inline(always)]
     pub fn outcome(&self, i: u16) -> Option<Outcome>
         requires { i < length self.now.kept.items }
         ensures { result ≡ outcome_of ((kept_at self.now.kept.items i).stage) }

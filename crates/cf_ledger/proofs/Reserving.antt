@@ -60,6 +60,15 @@ one_of_two most u x h =
     let c = h.of_stages in
     record { of_words = omega (arith, a); of_lists = omega (arith, b); of_stages = omega (arith, c) }
 
+-- and so there is where there are places for some
+pub one_of_some : {Z : Type 0} (n most : ℕ) (u : Vec ℕ Z) (x : News) → 0 < n → HavePlaces n most u x → HavePlaces 1 most u x
+one_of_some n most u x some h =
+    let a = h.of_words in
+    let b = h.of_lists in
+    let c = h.of_stages in
+    let up = mul-le-mul_right most (let le : 1 ≤ n = omega (arith, some) in le) in
+    record { of_words = omega (arith, a, some); of_lists = omega (arith, b, some); of_stages = omega (arith, c, up) }
+
 -- where there are places for so many, more are asked for if some are missing
 pub places_short : {Z : Type 0} (n count most : ℕ) (u : Vec ℕ Z) (x : News) → HavePlaces n most u x → (count ≤ x.more → x.free < count * most) → n < count
 places_short n count most u x h missing = elim (cases_lt n count) [

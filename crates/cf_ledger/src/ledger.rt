@@ -158,6 +158,30 @@ impl Ledger {
         Ok(self.book.finish(who, stage, answer, word))
     }
 
+    /// Does a claim as `claim` does, where memory was found for a word. No place is looked for.
+    #[inline(always)]
+    pub fn claim_found(&mut self, who: u8, stage: u16, word: u64) -> Claimed
+        requires read { event_of word ≡ Some (Claims who stage) }
+        requires named { word_of (Claims who stage) ≡ word }
+        requires there { stage < stages_of self.old }
+        requires memory { 0 < self.old.free }
+        ensures { Does word self.old (ToldClaim result) self.new }
+    {
+        self.book.claim(who, stage, word)
+    }
+
+    /// Does a finish as `finish` does, where memory was found for a word. No place is looked for.
+    #[inline(always)]
+    pub fn finish_found(&mut self, who: u8, stage: u16, answer: Answer, word: u64) -> Finished
+        requires read { event_of word ≡ Some (FinishesAs who stage answer) }
+        requires named { word_of (FinishesAs who stage answer) ≡ word }
+        requires there { stage < stages_of self.old }
+        requires memory { 0 < self.old.free }
+        ensures { Does word self.old (ToldFinish result) self.new }
+    {
+        self.book.finish(who, stage, answer, word)
+    }
+
     /// Does a word of any kind as `apply` does, in a call of its own.
     #[inline(never)]
     pub fn apply_other(&mut self, word: u64) -> Result<Reply, LedgerFault>
