@@ -18,7 +18,7 @@ pub(crate) const SOURCE_AND_SUPPLY: [Row<'static>; 2] = [
 ];
 
 /// A source, and an apply of it by function 0.
-pub(crate) const SOURCE_AND_APPLY: [Row<'static>; 2] = [
+pub(crate) static SOURCE_AND_APPLY: [Row<'static>; 2] = [
     (Form::Source, &[], None),
     (Form::Apply, &[0], Some(0)),
 ];
@@ -55,13 +55,4 @@ pub(crate) fn plan_with(rt: &impl Abort, alloc: Global, stages: Stages) -> Plan 
         Stages::These(rows) => plan_of(rt, alloc, rows),
         Stages::Supplies(count) => supplies(rt, alloc, count),
     }
-}
-
-/// So many sources.
-pub(crate) fn sources(rt: &impl Abort, alloc: Global, count: u16) -> Plan {
-    let mut builder = PlanBuilder::new(alloc);
-    for _ in 0..count {
-        must(rt, builder.stage(Form::Source, &[], None));
-    }
-    must(rt, builder.build())
 }

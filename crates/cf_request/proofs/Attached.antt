@@ -2,6 +2,7 @@
 use Rattle.std.proofs.Common.{◌≡◌, ℕ, zero, suc, ◌+◌, ◌-◌, ◌<◌, ◌≤◌, ◌∙◌, Bool, Option, Some, List, [], ◌∷◌, ◌++◌, get_or, length, length-append, refl, ap, sym, arith, subst, append_assoc, append-nil, replicate}
 use Rattle.std.specs.Prelude.{is_some, option_and_then}
 use Rattle.std.proofs.Math.Nat.{max-eq_left}
+use Rattle.std.proofs.lemmas.List.Elements.{All-weaker}
 use Rattle.cf_forms.specs.declared.forms.Form.{Form}
 use Rattle.cf_forms.specs.declared.forms.Of.{Of}
 use Rattle.cf_forms.specs.declared.forms.Of.TheVariants.{None as NoSource, One, Two}
@@ -26,13 +27,15 @@ use Rattle.cf_ledger.specs.declared.faults.LedgerFault.{LedgerFault}
 use Rattle.cf_ledger.specs.declared.faults.LedgerFault.TheVariants.{NoMemory, NoEvent, NoStage, NoRoom}
 use Rattle.cf_request.specs.Attaching.{TellsAttach, TellsAttaches}
 use Rattle.cf_request.specs.Machines.{AppliesWord, IsMachine, Machine, free_in, stages_in, state_in, waiting_in}
-use Rattle.cf_request.specs.Relays.{AreRelays, AreThere, IsRelayDue, NoneBehind, waiting_of}
+use Rattle.cf_request.specs.Joins.{IsJoin, sources_of as joined}
+use Rattle.cf_request.specs.Relays.{AreRelays, AreThere, IsNotBehind, IsRelayDue, NoneBehind, waiting_of}
 use Rattle.cf_request.specs.Rows.{AreCalls, IsCall, nothing}
 use Rattle.cf_request.specs.Rows.IsCall.{applies, reserves}
 use Rattle.cf_request.specs.Telling.{Teller, TellsWord, with_memory}
 use Rattle.cf_request.specs.declared.deadlines.Deadline.{Deadline}
-use Rattle.cf_request.specs.declared.relays.Follow.{Follow}
+use Rattle.cf_request.specs.declared.joins.Join.{Join}
 use Rattle.cf_request.proofs.Behind.{stay_word}
+use Rattle.cf_request.proofs.Decided.{undecided_same}
 use Rattle.cf_request.proofs.Machines.{kept_memory, relays_later}
 use Rattle.cf_request.proofs.Memory.{few_relays, relays_stay, spends_word}
 use Rattle.cf_request.proofs.Telling.{next_is}
@@ -180,16 +183,19 @@ row_of lane (e ∷ events) old new (who, form, of, function, is, are) room (betw
 
 -- ---- a machine that attaches them
 
--- none is behind where none was
-pub none_row : (follows : List Follow) (events : List Event) (old new : Teller) → AttachesRow events old new → AreThere (state_of old.ledger) follows → NoneBehind follows (state_of old.ledger).stages →
-    NoneBehind follows (state_of new.ledger).stages
-none_row follows events old new row there none = λ k d l on.
-    let f = get_or follows k d in
-    let relay = row.stays f.relay ((there k d l).0) in
-    let stage = row.stays f.stage ((there k d l).1) in
-    ap is_some relay ∙ none k d l (sym (ap is_some stage) ∙ on)
+row_behind : (events : List Event) (old new : Teller) (j : Join) → AttachesRow events old new → IsJoin (stages_of old.ledger) j → IsNotBehind (state_of old.ledger).stages j → IsNotBehind (state_of new.ledger).stages j
+row_behind events old new j row there h =
+    let before = (state_of old.ledger).stages in
+    let after = (state_of new.ledger).stages in
+    λ decided. ap is_some (row.stays j.stage there.stage) ∙ h (λ undecided. decided
+    (undecided_same (outcome_in before) (outcome_in after) j (All-weaker (λ (i : ℕ). i < stages_of old.ledger) (λ (i : ℕ). outcome_in after i ≡ outcome_in before i) (λ i l. row.stays i l) (joined j) there.sources) undecided))
 
-pub kept_attach : (words : ℕ) (a r b : Teller) (events : List Event) (follows : List Follow) (deadlines : List Deadline) (own : ℕ) (flags : List Bool) (waiting : ℕ) → r ≡ with_memory words a → AttachesRow events r b →
+-- none is behind where none was
+pub none_row : (follows : List Join) (events : List Event) (old new : Teller) → AttachesRow events old new → AreThere (state_of old.ledger) follows → NoneBehind follows (state_of old.ledger).stages →
+    NoneBehind follows (state_of new.ledger).stages
+none_row follows events old new row there none = λ k d l. row_behind events old new (get_or follows k d) row (there k d l) (none k d l)
+
+pub kept_attach : (words : ℕ) (a r b : Teller) (events : List Event) (follows : List Join) (deadlines : List Deadline) (own : ℕ) (flags : List Bool) (waiting : ℕ) → r ≡ with_memory words a → AttachesRow events r b →
     IsMachine a follows deadlines own → NoneBehind follows (state_of a.ledger).stages → AreRelays (state_of a.ledger).stages follows flags waiting →
     IsMachine b follows deadlines own × NoneBehind follows (state_of b.ledger).stages × AreRelays (state_of b.ledger).stages follows flags waiting
 kept_attach words a r b events follows deadlines own flags waiting found row machine none relays =
@@ -223,7 +229,7 @@ applies_attach who form of function lane m between done enough none =
     }
 
 -- relays that are open
-waiting_less : (follows : List Follow) (old new : Teller) → StaySettled (state_of old.ledger).stages (state_of new.ledger).stages → length (waiting_of (state_of new.ledger).stages follows) ≤ length (waiting_of (state_of old.ledger).stages follows)
+waiting_less : (follows : List Join) (old new : Teller) → StaySettled (state_of old.ledger).stages (state_of new.ledger).stages → length (waiting_of (state_of new.ledger).stages follows) ≤ length (waiting_of (state_of old.ledger).stages follows)
 waiting_less follows old new stay = relays_stay follows (state_of old.ledger).stages (state_of new.ledger).stages stay
 
 calls_row : (lane : ℕ) (events : List Event) (m : Machine) (end : Teller) → AreAttaches events → length events ≤ (state_in m).plan.room → length events + waiting_in m ≤ free_in m → AreThere (state_in m) m.follows →

@@ -1,5 +1,5 @@
 -- A claim changes one stage at most, which is settled neither before nor after.
-use Rattle.std.proofs.Common.{◌≡◌, ◌≢◌, ℕ, zero, suc, Option, Some, true, false, List, [], ◌∷◌, length, set, refl, ap, sym, ◌∙◌, arith, subst, inl, inr, append-nil, drop}
+use Rattle.std.proofs.Common.{◌≡◌, ◌≢◌, ◌<◌, ℕ, zero, suc, Option, Some, true, false, List, [], ◌∷◌, length, set, refl, ap, sym, ◌∙◌, arith, subst, inl, inr, append-nil, drop}
 use Rattle.std.specs.Prelude.{is_some, option_and_then, unwrap_or}
 use Rattle.std.proofs.lemmas.Bool.{cases_eq}
 use Rattle.std.proofs.lemmas.List.Elements.{All-nil}
@@ -11,6 +11,7 @@ use Rattle.cf_model.specs.declared.events.Event.TheVariants.{Claim as Claims}
 use Rattle.cf_model.specs.declared.events.Reply.{Reply}
 use Rattle.cf_model.specs.Events.{answered, claimed_by, claiming}
 use Rattle.cf_model.specs.Graphs.{stage_in}
+use Rattle.cf_model.specs.Ranges.{EventFits}
 use Rattle.cf_model.specs.States.{State, outcome_of}
 use Rattle.cf_model.proofs.StateLemmas.{slice_get-set_other}
 use Rattle.cf_event.specs.Decoding.{event_of}
@@ -19,6 +20,7 @@ use Rattle.cf_request.specs.Ready.{AreFitBut, FitState, Lanes, ReadySets, lanes_
 use Rattle.cf_request.specs.Telling.{AreFresh, AreSettled, IsKept, Tells, is_settled_in}
 use Rattle.cf_request.proofs.Sets.{fit_others, fit_reached_all}
 use Rattle.cf_request.proofs.Telling.{next_is, same_most, settled_more, view_of}
+use Rattle.cf_request.proofs.Words.{none_lost}
 
 others_by : (x : Stage) (s : State) (who i j : ℕ) → j ≢ i → stage_in ((claimed_by x s who i).1.stages) j ≡ stage_in s.stages j
 others_by (Ready args) s who i j differs = ap (λ (o : Option Stage). unwrap_or o Pending) (slice_get-set_other s.stages i j Claimed differs)
@@ -73,6 +75,14 @@ pub tells_claim : (old new : Ledger) (word who i : ℕ) (reply : Reply) (order :
     Tells word (view_of old order count before) reply (view_of new order count after)
 tells_claim old new word who i reply order count before after does is =
     record { does = does; fresh = []; are = fresh_claim old new word who i reply does is; told = sym (append-nil (drop count order)); taken = refl }
+
+-- its stage is there, and still is
+pub there_claim : (old new : Ledger) (word who i : ℕ) (reply : Reply) → Does word old reply new → event_of word ≡ Some (Claims who i) → i < stages_of new
+there_claim old new word who i reply does is =
+    let same : does.event ≡ Claims who i = (let read = does.read in cc) in
+    let fits : EventFits (stages_of old) (Claims who i) = subst (EventFits (stages_of old)) same does.taken.fits in
+    let less = none_lost old new word reply does in
+    omega (arith, fits, less)
 
 -- the stage alone is left
 pub left_claim : (old new : Ledger) (word who i stages : ℕ) (reply : Reply) (r : ReadySets) → Does word old reply new → event_of word ≡ Some (Claims who i) → length (state_of old).stages ≡ stages_of old → FitState (state_of old) r →

@@ -26,14 +26,14 @@ use Rattle.cf_request.specs.Lanes.{FinishesStage}
 use Rattle.cf_request.specs.Machines.{CatchesUp, IsMachine, Machine, SetsFollow, free_in, stages_in, state_in, waiting_in}
 use Rattle.cf_request.specs.Relays.{AreRelays, IsRelayDue, MayCatchUp, NoneBehind, open_relays, waiting_of}
 use Rattle.cf_request.specs.Rows.{AreCalls, IsCall, nothing}
-use Rattle.cf_request.specs.Rows.IsCall.{applies, sets_follow}
+use Rattle.cf_request.specs.Rows.IsCall.{applies, sets_join}
 use Rattle.cf_request.specs.Settling.{AreSettledInTurn, fault_event, settle_event}
 use Rattle.cf_request.specs.Telling.{Teller, TellsWord, is_settled_in}
 use Rattle.cf_request.specs.declared.composing.Composed.{Composed}
 use Rattle.cf_request.specs.declared.composing.Composing.{Composing}
 use Rattle.cf_request.specs.declared.composing.Composing.TheVariants.{Compose, ExceptionallyCompose}
 use Rattle.cf_request.specs.declared.deadlines.Deadline.{Deadline}
-use Rattle.cf_request.specs.declared.relays.Follow.{Follow}
+use Rattle.cf_request.specs.declared.joins.Join.{Join}
 use Rattle.cf_request.specs.declared.relays.Relays.{Relays}
 use Rattle.cf_request.specs.declared.settling.Due.{Due}
 use Rattle.cf_request.proofs.Attached.{AreAttaches, AttachesRow, call_found, found_none, row_of}
@@ -87,13 +87,13 @@ settle_claims : (s : State) (who i : ℕ) (o : Outcome) → (answered s (settle_
 settle_claims s who i (Gives v) = settled_claims (outcome_at s i) s i (Gives v)
 settle_claims s who i (Fault cause wrapped) = fault_claims s who i cause
 
-turns_claims : (P : State → Due → Type 0) (who : ℕ) (dues : List Due) (a b : Teller) → AreSettledInTurn P who a dues b → (state_of b.ledger).claims ≡ (state_of a.ledger).claims
+turns_claims : (P : Teller → Due → Type 0) (who : ℕ) (dues : List Due) (a b : Teller) → AreSettledInTurn P who a dues b → (state_of b.ledger).claims ≡ (state_of a.ledger).claims
 turns_claims P who [] a b same = ap (λ (t : Teller). (state_of t.ledger).claims) same
 turns_claims P who (d ∷ dues) a b (between, waits, due, did, rest) =
     turns_claims P who dues between b rest ∙ ap (λ (s : State). s.claims) (after_event (settle_event who d.stage d.outcome) a between did.reply did.done) ∙ settle_claims (state_of a.ledger) who d.stage d.outcome
 
 -- each word is one relay's
-turns_spend : (follows : List Follow) (who : ℕ) (dues : List Due) (a b : Teller) → AreSettledInTurn (IsRelayDue follows) who a dues b →
+turns_spend : (follows : List Join) (who : ℕ) (dues : List Due) (a b : Teller) → AreSettledInTurn (IsRelayDue follows) who a dues b →
     a.ledger.free + length (waiting_of (state_of b.ledger).stages follows) ≤ b.ledger.free + length (waiting_of (state_of a.ledger).stages follows)
 turns_spend follows who [] a b same = subst (λ (t : Teller). a.ledger.free + length (waiting_of (state_of t.ledger).stages follows) ≤ t.ledger.free + length (waiting_of (state_of a.ledger).stages follows)) (sym same) (omega arith)
 turns_spend follows who (d ∷ dues) a b (between, waits, due, did, rest) =
@@ -111,8 +111,9 @@ pub record LeavesClaims (old new : Machine) : Type 0 where
   pub memory : 2 + waiting_in old ≤ free_in old → 1 + waiting_in new ≤ free_in new
 
 pub leaves_claims : (relay stage : ℕ) (old new : Machine) → SetsFollow relay stage old new → LeavesClaims old new
-leaves_claims relay stage old new h =
-    let f : Follow = record { relay = relay; stage = stage } in
+leaves_claims relay stage old new sets =
+    let h = sets.sets in
+    let j = sets.join in
     let a = h.found in
     let stages = (state_of a.ledger).stages in
     let settles = h.catches_up.settles in
@@ -122,7 +123,7 @@ leaves_claims relay stage old new h =
     let more = free_found h.finds.words old.teller a h.finds.is in
     let waits = ap (λ (t : Teller). length (waiting_of (state_of t.ledger).stages old.follows)) h.finds.is in
     let push : length (waiting_of stages new.follows) ≤ length (waiting_of stages old.follows) + 1 =
-    subst (λ (l : List Follow). length (waiting_of stages l) ≤ length (waiting_of stages old.follows) + 1) (sym h.set) (filter_push (λ (g : Follow). not (is_settled_in stages g.relay)) old.follows f) in
+    subst (λ (l : List Join). length (waiting_of stages l) ≤ length (waiting_of stages old.follows) + 1) (sym h.set) (filter_push (λ (x : Join). not (is_settled_in stages x.stage)) old.follows j) in
     record {
       claims = λ i. same_claim i (state_in old).claims (state_in new).claims claims;
       count = keeps.count ∙ ap (λ (t : Teller). stages_of t.ledger) h.finds.is;
@@ -173,7 +174,7 @@ finishes_claimed who composed m f b d done caught enough =
 pub calls_link : (who : ℕ) (composed : Composed) (stage : ℕ) (old : Machine) (finish : Finish) (new : Machine) → Links who composed stage old finish new → AreCalls old (nothing ∷ nothing ∷ nothing ∷ []) new
 calls_link who composed stage old finish new h =
     let last : (x : Machine) × IsCall h.linked.between nothing x × (new ≡ x) = (new, applies finish.word 0 (ToldFinish (finished_as finish.late)) refl h.linked.finishes.applies, refl) in
-    (record old { teller = h.found }, call_found h.finds.words old h.found h.finds.is, (h.linked.between, sets_follow composed.relay stage refl h.linked.follows, last))
+    (record old { teller = h.found }, call_found h.finds.words old h.found h.finds.is, (h.linked.between, sets_join h.linked.follows.join refl h.linked.follows.sets, last))
 
 pub ok_so : {A E : Type 0} (r : Result A E) (P : A → Type 0) (Q : Type 0) → IfOk r P → ((a : A) → P a → Q) → OnOk r Q
 ok_so (Ok a) P Q h then = then a h

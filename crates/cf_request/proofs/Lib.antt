@@ -1,4 +1,5 @@
 pub mod Lists
+pub mod Decided
 pub mod Telling
 pub mod Words
 pub mod Sets
@@ -12,6 +13,7 @@ pub mod Restarts
 pub mod Rooms
 pub mod Rows
 pub mod Machines
+pub mod Found
 pub mod Attached
 pub mod Gathered
 pub mod Composes

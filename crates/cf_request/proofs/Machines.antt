@@ -1,11 +1,11 @@
 -- What a machine keeps.
-use Rattle.std.proofs.Common.{◌≡◌, ℕ, zero, suc, ◌+◌, ◌-◌, ◌<◌, ◌≤◌, Bool, true, false, arith, replicate, cond, inl, inr, Option, Some, None, List, [], ◌∷◌, ◌++◌, length, length-append, refl, ap, set, sym, ◌∙◌, subst}
+use Rattle.std.proofs.Common.{◌≡◌, ◌≢◌, ℕ, zero, suc, ◌+◌, ◌-◌, ◌<◌, ◌≤◌, Bool, true, false, arith, replicate, cond, inl, inr, Option, Some, None, List, [], ◌∷◌, ◌++◌, All, get_or, length, length-append, refl, ap, set, sym, ◌∙◌, subst}
 use Rattle.std.specs.Prelude.{◌==◌, ◌&&◌, Err, IfNone, IfOk, Ok, Result, is_some, not, slice_get, unwrap_or}
 use Rattle.std.specs.List.{filter}
 use Rattle.std.proofs.Math.Nat.{le-max_left}
 use Rattle.std.proofs.lemmas.Bool.{cases_lt, eq-eqb}
-use Rattle.std.proofs.lemmas.List.{length-replicate, length-set}
-use Rattle.std.proofs.lemmas.List.Elements.{All-nil, All-push, All-weaker}
+use Rattle.std.proofs.lemmas.List.{length-replicate}
+use Rattle.std.proofs.lemmas.List.Elements.{All-cons, All-nil, All-push, All-weaker}
 use Rattle.cf_forms.specs.declared.forms.Args.{Args}
 use Rattle.cf_model.specs.declared.events.Event.TheVariants.{Claim as Claims, Finish as Finishes}
 use Rattle.cf_model.specs.declared.events.Reply.{Reply}
@@ -24,26 +24,31 @@ use Rattle.cf_ledger.specs.declared.step.Finish.{Finish}
 use Rattle.cf_ledger.specs.declared.step.Held.{Held}
 use Rattle.cf_ledger.specs.declared.step.Taken.{Taken}
 use Rattle.cf_request.specs.Deadlines.{Forgets, Sets}
+use Rattle.cf_request.specs.Joins.{AreAllThere, IsFollow, IsJoin, sources_of}
 use Rattle.cf_request.specs.Lanes.{FinishesHeld, IsIdle, NoneReadyIn, NothingIsReady, TakesIn, ready_below}
-use Rattle.cf_request.specs.Machines.{CancelsAll, CatchesUp, GoesOn, IsMachine, IsNoWord, Machine, Refuses, open_in}
+use Rattle.cf_request.specs.Machines.{AreBothThere, CancelsAll, CatchesUp, GoesOn, IsMachine, IsNoFollow, IsNoJoin, IsNoWord, Machine, Refuses, open_in, stages_in}
 use Rattle.cf_request.specs.Ready.{Lanes, lane_of}
 use Rattle.cf_request.specs.Refusals.{AllSettled, IsCancelled, IsRefused}
-use Rattle.cf_request.specs.Relays.{AreBehindBy, AreMarked, AreRelays, IsRelayDue, IsRelayOr, MayCatchUp, MayCatchUpWith, NoneBehind, is_in_flags, open_relays, waiting_of}
+use Rattle.cf_request.specs.Relays.{AreIn, AreRelays, IsNotBehind, IsRelayDue, IsRelayOr, MarksAll, MayCatchUp, MayCatchUpWith, NoneBehind, open_relays, waiting_of}
 use Rattle.cf_request.specs.Settling.{SettlesDue}
 use Rattle.cf_request.specs.Telling.{Teller, Tells, TellsEvent, is_settled_in, with_memory}
 use Rattle.cf_request.specs.declared.deadlines.Deadline.{Deadline}
+use Rattle.cf_request.specs.declared.faults.JoinFault.{JoinFault}
+use Rattle.cf_request.specs.declared.faults.JoinFault.TheVariants.{NoMemory as NoMemoryForJoin, NoStage as NoStageForJoin, NoQuorum}
+use Rattle.cf_request.specs.declared.faults.MachineFault.TheVariants.{NoMemory as NoMemoryForIt}
 use Rattle.cf_request.specs.declared.machine.Next.{Next}
-use Rattle.cf_request.specs.declared.relays.Follow.{Follow}
+use Rattle.cf_request.specs.declared.joins.Join.{Join}
 use Rattle.cf_request.specs.declared.relays.Relays.{Relays}
 use Rattle.cf_request.specs.declared.settling.Due.{Due}
+use Rattle.cf_request.proofs.Decided.{undecided_same}
 use Rattle.cf_request.proofs.Lists.{weigh}
 use Rattle.cf_request.proofs.Memory.{relays_stay, spends_held, spends_word}
 use Rattle.cf_request.proofs.Moments.{set_left, set_more}
-use Rattle.cf_request.proofs.Behind.{behind_more, looked_held, looked_none, looked_word, marked_more, stay_word}
+use Rattle.cf_request.proofs.Behind.{looked_held, looked_none, looked_word, marked_more, stay_word}
 use Rattle.cf_request.proofs.Turns.{Keeps, StaySettled, after_event, dues_none, follows_kept, follows_word, keeps_dues, keeps_event, keeps_memory, keeps_same, keeps_then, limits_kept, limits_word}
 use Rattle.cf_request.proofs.Words.{none_lost}
 
-pub kept_by : (a b : Teller) (follows : List Follow) (deadlines : List Deadline) (own : ℕ) → Keeps a b → IsMachine a follows deadlines own → IsMachine b follows deadlines own
+pub kept_by : (a b : Teller) (follows : List Join) (deadlines : List Deadline) (own : ℕ) → Keeps a b → IsMachine a follows deadlines own → IsMachine b follows deadlines own
 kept_by a b follows deadlines own keeps h =
     record {
       relays = follows_kept a b follows keeps h.relays;
@@ -51,12 +56,12 @@ kept_by a b follows deadlines own keeps h =
       caller = h.caller;
     }
 
-pub kept_memory : (words : ℕ) (a b : Teller) (follows : List Follow) (deadlines : List Deadline) (own : ℕ) → b ≡ with_memory words a → IsMachine a follows deadlines own →
+pub kept_memory : (words : ℕ) (a b : Teller) (follows : List Join) (deadlines : List Deadline) (own : ℕ) → b ≡ with_memory words a → IsMachine a follows deadlines own →
     IsMachine b follows deadlines own
 kept_memory words a b follows deadlines own is h = kept_by a b follows deadlines own (keeps_memory words a b is) h
 
 -- what is kept, once memory is found and a word is done
-pub kept_word : (words : ℕ) (a r b : Teller) (word : ℕ) (reply : Reply) (follows : List Follow) (deadlines : List Deadline) (own : ℕ) → IsMachine a follows deadlines own → r ≡ with_memory words a → Tells word r reply b → IsMachine b follows deadlines own
+pub kept_word : (words : ℕ) (a r b : Teller) (word : ℕ) (reply : Reply) (follows : List Join) (deadlines : List Deadline) (own : ℕ) → IsMachine a follows deadlines own → r ≡ with_memory words a → Tells word r reply b → IsMachine b follows deadlines own
 kept_word words a r b word reply follows deadlines own was found tells =
     let h = kept_memory words a r follows deadlines own found was in
     let less = none_lost r.ledger b.ledger word reply tells.does in
@@ -67,23 +72,23 @@ kept_word words a r b word reply follows deadlines own was found tells =
     }
 
 -- and once due stages are settled
-pub kept_dues : (P : State → Due → Type 0) (who : ℕ) (a b : Teller) (follows : List Follow) (deadlines : List Deadline) (own : ℕ) → SettlesDue P who a b → IsMachine a follows deadlines own →
+pub kept_dues : (P : Teller → Due → Type 0) (who : ℕ) (a b : Teller) (follows : List Join) (deadlines : List Deadline) (own : ℕ) → SettlesDue P who a b → IsMachine a follows deadlines own →
     IsMachine b follows deadlines own
 kept_dues P who a b follows deadlines own h m = kept_by a b follows deadlines own (keeps_dues P who a b h) m
 
 -- ---- relays that are open
 
-pub relays_first : (stages : List Stage) (follows : List Follow) (flags : List Bool) (waiting : ℕ) → follows ≡ [] → flags ≡ replicate 4096 false → waiting ≡ 0 → AreRelays stages follows flags waiting
+pub relays_first : (stages : List Stage) (follows : List Join) (flags : List Bool) (waiting : ℕ) → follows ≡ [] → flags ≡ replicate 4096 false → waiting ≡ 0 → AreRelays stages follows flags waiting
 relays_first stages follows flags waiting none clear first =
-    subst (λ (l : List Follow). AreRelays stages l flags waiting) (sym none) (record {
+    subst (λ (l : List Join). AreRelays stages l flags waiting) (sym none) (record {
       flags = ap (λ (l : List Bool). length l) clear ∙ length-replicate 4096 false;
-      marked = All-nil (λ (f : Follow). is_in_flags flags f.stage ≡ true);
+      marked = All-nil (λ (j : Join). AreIn flags (sources_of j));
       most = omega (arith, first);
       few = omega (arith, first);
     })
 
 -- what is settled stays so, and then no more relays are open
-pub relays_later : (old new : List Stage) (follows : List Follow) (flags : List Bool) (waiting : ℕ) → StaySettled old new → AreRelays old follows flags waiting → AreRelays new follows flags waiting
+pub relays_later : (old new : List Stage) (follows : List Join) (flags : List Bool) (waiting : ℕ) → StaySettled old new → AreRelays old follows flags waiting → AreRelays new follows flags waiting
 relays_later old new follows flags waiting stay h = record {
   flags = h.flags;
   marked = h.marked;
@@ -91,7 +96,7 @@ relays_later old new follows flags waiting stay h = record {
   few = h.few;
 }
 
-pub none_found : (words : ℕ) (a r : Teller) (follows : List Follow) → r ≡ with_memory words a → NoneBehind follows (state_of a.ledger).stages → NoneBehind follows (state_of r.ledger).stages
+pub none_found : (words : ℕ) (a r : Teller) (follows : List Join) → r ≡ with_memory words a → NoneBehind follows (state_of a.ledger).stages → NoneBehind follows (state_of r.ledger).stages
 none_found words a r follows is h = subst (λ (t : Teller). NoneBehind follows (state_of t.ledger).stages) (sym is) h
 
 pub may_word : (words : ℕ) (a r b : Teller) (word : ℕ) (reply : Reply) (w : Relays) (deadlines : List Deadline) (own seen : ℕ) → IsMachine a w.follows.items deadlines own → NoneBehind w.follows.items (state_of a.ledger).stages →
@@ -135,7 +140,7 @@ kept_all own a b w deadlines now stages h m relays most fewer =
       record { flags = relays.flags; marked = relays.marked; most = most; few = omega (arith, few, fewer) },
     )
 
-pub kept_rest : (P : State → Due → Type 0) (who words : ℕ) (a r b : Teller) (w : Relays) (deadlines : List Deadline) (own : ℕ) → r ≡ with_memory words a → SettlesDue P who r b →
+pub kept_rest : (P : Teller → Due → Type 0) (who words : ℕ) (a r b : Teller) (w : Relays) (deadlines : List Deadline) (own : ℕ) → r ≡ with_memory words a → SettlesDue P who r b →
     IsMachine a w.follows.items deadlines own → AreRelays (state_of a.ledger).stages w.follows.items w.followed w.waiting → NoneBehind w.follows.items (state_of b.ledger).stages →
     IsMachine b w.follows.items deadlines own × NoneBehind w.follows.items (state_of b.ledger).stages × AreRelays (state_of b.ledger).stages w.follows.items w.followed w.waiting
 kept_rest P who words a r b w deadlines own found h m relays none = (
@@ -144,80 +149,125 @@ kept_rest P who words a r b w deadlines own found h m relays none = (
   relays_later (state_of a.ledger).stages (state_of b.ledger).stages w.follows.items w.followed w.waiting (keeps_then a r b (keeps_memory words a r found) (keeps_dues P who r b h)).settled relays,
 )
 
--- ---- one more relay
+-- where memory alone is found
+pub kept_found : (words : ℕ) (a r : Teller) (w : Relays) (deadlines : List Deadline) (own : ℕ) → r ≡ with_memory words a →
+    IsMachine a w.follows.items deadlines own × NoneBehind w.follows.items (state_of a.ledger).stages × AreRelays (state_of a.ledger).stages w.follows.items w.followed w.waiting →
+    IsMachine r w.follows.items deadlines own × NoneBehind w.follows.items (state_of r.ledger).stages × AreRelays (state_of r.ledger).stages w.follows.items w.followed w.waiting
+kept_found words a r w deadlines own found h = (
+  kept_memory words a r w.follows.items deadlines own found h.0,
+  none_found words a r w.follows.items found h.1,
+  relays_later (state_of a.ledger).stages (state_of r.ledger).stages w.follows.items w.followed w.waiting (keeps_memory words a r found).settled h.2,
+)
 
-pub kept_follow : (t : Teller) (follows : List Follow) (deadlines : List Deadline) (own : ℕ) (f : Follow) → IsMachine t follows deadlines own → f.relay < stages_of t.ledger →
-    f.stage < stages_of t.ledger → IsMachine t (follows ++ f ∷ []) deadlines own
-kept_follow t follows deadlines own f h relay stage = record {
-  relays = All-push (λ (f : Follow). (f.relay < stages_of t.ledger) × (f.stage < stages_of t.ledger)) follows f h.relays (relay, stage);
+-- and a place in the row
+pub kept_place : (words : ℕ) (a r : Teller) (w : Relays) (now : List Join) (deadlines : List Deadline) (own : ℕ) → r ≡ with_memory words a → now ≡ w.follows.items →
+    IsMachine a w.follows.items deadlines own × NoneBehind w.follows.items (state_of a.ledger).stages × AreRelays (state_of a.ledger).stages w.follows.items w.followed w.waiting →
+    IsMachine r now deadlines own × NoneBehind now (state_of r.ledger).stages × AreRelays (state_of r.ledger).stages now w.followed w.waiting
+kept_place words a r w now deadlines own found same h =
+    subst (λ (l : List Join). IsMachine r l deadlines own × NoneBehind l (state_of r.ledger).stages × AreRelays (state_of r.ledger).stages l w.followed w.waiting) (sym same) (kept_found words a r w deadlines own found h)
+
+-- ---- one more join
+
+pub kept_join : (t : Teller) (follows : List Join) (deadlines : List Deadline) (own : ℕ) (j : Join) → IsMachine t follows deadlines own → IsJoin (stages_of t.ledger) j → IsMachine t (follows ++ j ∷ []) deadlines own
+kept_join t follows deadlines own j h join = record {
+  relays = All-push (IsJoin (stages_of t.ledger)) follows j h.relays join;
   limits = h.limits;
   caller = h.caller;
 }
 
-push_first : (b : Bool) (f : Follow) → length (cond b (f ∷ []) []) ≤ 1
-push_first true f = omega arith
-push_first false f = omega arith
+push_first : (b : Bool) (j : Join) → length (cond b (j ∷ []) []) ≤ 1
+push_first true j = omega arith
+push_first false j = omega arith
 
-push_by : (b : Bool) (x : Follow) (new old : List Follow) → length new ≤ length old + 1 → length (cond b (x ∷ new) new) ≤ length (cond b (x ∷ old) old) + 1
+push_by : (b : Bool) (x : Join) (new old : List Join) → length new ≤ length old + 1 → length (cond b (x ∷ new) new) ≤ length (cond b (x ∷ old) old) + 1
 push_by true x new old l = omega (arith, l)
 push_by false x new old l = l
 
-pub filter_push : (p : Follow → Bool) (xs : List Follow) (f : Follow) → length (filter p (xs ++ f ∷ [])) ≤ length (filter p xs) + 1
-filter_push p [] f = push_first (p f) f
-filter_push p (x ∷ xs) f = push_by (p x) x (filter p (xs ++ f ∷ [])) (filter p xs) (filter_push p xs f)
+pub filter_push : (p : Join → Bool) (xs : List Join) (j : Join) → length (filter p (xs ++ j ∷ [])) ≤ length (filter p xs) + 1
+filter_push p [] j = push_first (p j) j
+filter_push p (x ∷ xs) j = push_by (p x) x (filter p (xs ++ j ∷ [])) (filter p xs) (filter_push p xs j)
 
-relays_push : (stages : List Stage) (follows : List Follow) (flags now : List Bool) (waiting : ℕ) (f : Follow) → AreRelays stages follows flags waiting → f.stage < length flags → now ≡ set flags f.stage true → AreRelays stages (follows ++ f ∷ []) now (waiting + 1)
-relays_push stages follows flags now waiting f h l is =
-    let more = filter_push (λ (g : Follow). not (is_settled_in stages g.relay)) follows f in
+relays_push : (stages : List Stage) (follows : List Join) (flags now : List Bool) (waiting : ℕ) (j : Join) → AreRelays stages follows flags waiting → MarksAll (sources_of j) flags now → AreRelays stages (follows ++ j ∷ []) now (waiting + 1)
+relays_push stages follows flags now waiting j h marks =
+    let more = filter_push (λ (x : Join). not (is_settled_in stages x.stage)) follows j in
     let most = h.most in
     let few = h.few in
-    let size = length-append follows (f ∷ []) in
+    let size = length-append follows (j ∷ []) in
     record {
-      flags = ap (λ (xs : List Bool). length xs) is ∙ length-set flags f.stage true ∙ h.flags;
-      marked = subst (λ (xs : List Bool). AreMarked xs (follows ++ f ∷ [])) (sym is) (marked_more flags follows f l h.marked);
+      flags = marks.flags ∙ h.flags;
+      marked = marked_more flags now follows j marks h.marked;
       most = omega (arith, more, most);
       few = omega (arith, few, size);
     }
 
--- what is to hold where a stage has just got a follower
-record MayFollowRow (t : Teller) (follows : List Follow) (flags : List Bool) (waiting stage : ℕ) (deadlines : List Deadline) (own : ℕ) : Type 0 where
+-- what is to hold where a stage has just become a join
+record MayJoinRow (t : Teller) (follows : List Join) (flags : List Bool) (waiting : ℕ) (is_due : Bool) (deadlines : List Deadline) (own : ℕ) : Type 0 where
   pub machine : IsMachine t follows deadlines own
-  pub seen_is : AreBehindBy (stage ∷ []) follows (state_of t.ledger).stages
+  pub none : is_due ≡ false → NoneBehind follows (state_of t.ledger).stages
   pub relays : AreRelays (state_of t.ledger).stages follows flags waiting
   pub memory : length (waiting_of (state_of t.ledger).stages follows) ≤ t.ledger.free
 
-pub record MayFollow (t : Teller) (w : Relays) (stage : ℕ) (deadlines : List Deadline) (own : ℕ) : Type 0 where
+pub record MayJoin (t : Teller) (w : Relays) (is_due : Bool) (deadlines : List Deadline) (own : ℕ) : Type 0 where
   pub machine : IsMachine t w.follows.items deadlines own
   pub relays : AreRelays (state_of t.ledger).stages w.follows.items w.followed w.waiting
-  pub may : MayCatchUpWith t w stage
+  pub may : MayCatchUpWith t w is_due
 
-may_follow_row : (words : ℕ) (a r : Teller) (follows : List Follow) (deadlines : List Deadline) (own : ℕ) (flags now : List Bool) (waiting : ℕ) (f : Follow) → IsMachine a follows deadlines own →
-    NoneBehind follows (state_of a.ledger).stages → AreRelays (state_of a.ledger).stages follows flags waiting → r ≡ with_memory words a → 1 + waiting ≤ r.ledger.free → now ≡ set flags f.stage true → f.relay < stages_of r.ledger →
-    f.stage < stages_of r.ledger → f.stage < length flags → MayFollowRow r (follows ++ f ∷ []) now (waiting + 1) f.stage deadlines own
-may_follow_row words a r follows deadlines own flags now waiting f machine none relays found enough is relay stage flag =
+may_join_row : (words : ℕ) (a r : Teller) (follows : List Join) (deadlines : List Deadline) (own : ℕ) (flags now : List Bool) (waiting : ℕ) (j : Join) (is_due : Bool) → IsMachine a follows deadlines own →
+    NoneBehind follows (state_of a.ledger).stages → AreRelays (state_of a.ledger).stages follows flags waiting → r ≡ with_memory words a → 1 + waiting ≤ r.ledger.free → MarksAll (sources_of j) flags now → IsJoin (stages_of r.ledger) j →
+    (is_due ≡ false → IsNotBehind (state_of r.ledger).stages j) → MayJoinRow r (follows ++ j ∷ []) now (waiting + 1) is_due deadlines own
+may_join_row words a r follows deadlines own flags now waiting j is_due machine none relays found enough marks join behind =
     let first = relays_later (state_of a.ledger).stages (state_of r.ledger).stages follows flags waiting (keeps_memory words a r found).settled relays in
-    let last = relays_push (state_of r.ledger).stages follows flags now waiting f first flag is in
+    let last = relays_push (state_of r.ledger).stages follows flags now waiting j first marks in
     let most = last.most in
     record {
-      machine = kept_follow r follows deadlines own f (kept_memory words a r follows deadlines own found machine) relay stage;
-      seen_is = behind_more follows f (state_of r.ledger).stages (none_found words a r follows found none);
+      machine = kept_join r follows deadlines own j (kept_memory words a r follows deadlines own found machine) join;
+      none = λ isnt. All-push (IsNotBehind (state_of r.ledger).stages) follows j (none_found words a r follows found none) (behind isnt);
       relays = last;
       memory = omega (arith, most, enough);
     }
 
 -- where so many were counted, one more is
-pub may_follow : (words : ℕ) (a r : Teller) (old w : Relays) (deadlines : List Deadline) (own : ℕ) (f : Follow) → w.follows.items ≡ old.follows.items ++ f ∷ [] → w.followed ≡ set old.followed f.stage true → w.waiting ≡ old.waiting + 1 →
+pub may_join : (words : ℕ) (a r : Teller) (old w : Relays) (deadlines : List Deadline) (own : ℕ) (j : Join) (is_due : Bool) → w.follows.items ≡ old.follows.items ++ j ∷ [] → MarksAll (sources_of j) old.followed w.followed → w.waiting ≡ old.waiting + 1 →
     IsMachine a old.follows.items deadlines own → NoneBehind old.follows.items (state_of a.ledger).stages → AreRelays (state_of a.ledger).stages old.follows.items old.followed old.waiting → r ≡ with_memory words a →
-    1 + old.waiting ≤ r.ledger.free → f.relay < stages_of r.ledger → f.stage < stages_of r.ledger → f.stage < length old.followed → MayFollow r w f.stage deadlines own
-may_follow words a r old w deadlines own f rows marks count machine none relays found enough relay stage flag =
-    let row = subst (λ (l : List Follow). MayFollowRow r l w.followed (old.waiting + 1) f.stage deadlines own) (sym rows)
-    (may_follow_row words a r old.follows.items deadlines own old.followed w.followed old.waiting f machine none relays found enough marks relay stage flag) in
+    1 + old.waiting ≤ r.ledger.free → IsJoin (stages_of r.ledger) j → (is_due ≡ false → IsNotBehind (state_of r.ledger).stages j) → MayJoin r w is_due deadlines own
+may_join words a r old w deadlines own j is_due rows marks count machine none relays found enough join behind =
+    let row = subst (λ (l : List Join). MayJoinRow r l w.followed (old.waiting + 1) is_due deadlines own) (sym rows)
+    (may_join_row words a r old.follows.items deadlines own old.followed w.followed old.waiting j is_due machine none relays found enough marks join behind) in
     let most = row.relays.most in
     record {
       machine = row.machine;
       relays = subst (λ (n : ℕ). AreRelays (state_of r.ledger).stages w.follows.items w.followed n) (sym count) row.relays;
-      may = record { settle = record { there = row.machine.relays; counted = omega (arith, most, count); memory = row.memory }; behind = row.seen_is };
+      may = record { settle = record { there = row.machine.relays; counted = omega (arith, most, count); memory = row.memory }; none = row.none };
     }
+
+-- ---- a join of one
+
+follow_there : (relay stage n : ℕ) (j : Join) → IsFollow relay stage j → relay < n → stage < n → AreAllThere n j
+follow_there relay stage n j is first second =
+    let a = is.same in
+    let b = is.source in (
+      omega (arith, first, a),
+      All-cons (λ (i : ℕ). i < n) j.source j.others.items (omega (arith, second, b)) (subst (λ (l : List ℕ). All (λ (i : ℕ). i < n) l) (sym is.none) (All-nil (λ (i : ℕ). i < n))),
+    )
+
+pub no_follow : (relay stage : ℕ) (j : Join) (m : Machine) → IsFollow relay stage j → IsNoJoin j m NoMemoryForJoin → IsNoFollow relay stage m NoMemoryForIt
+no_follow relay stage j m is (inl short) = inl short
+no_follow relay stage j m is (inr (join, none)) =
+    let first = join.stage in
+    let second = join.sources 0 0 (omega arith) in
+    let a = is.same in
+    let b = is.source in
+    inr (omega (arith, first, a), omega (arith, second, b), none)
+
+pub not_there : (relay stage : ℕ) (j : Join) (m : Machine) (fault : JoinFault) → IsFollow relay stage j → fault ≢ NoMemoryForJoin → IsNoJoin j m fault → ¬ AreBothThere relay stage m
+not_there relay stage j m NoMemoryForJoin is other h both = other refl
+not_there relay stage j m NoStageForJoin is other h both = h (follow_there relay stage (stages_in m) j is both.0 both.1)
+not_there relay stage j m NoQuorum is other h both = h.1 (let one = is.one in (omega (arith, one), omega (arith, one)))
+
+-- where nothing is told to be due
+pub behind_if : (o : Option Due) (b : Bool) (P : Type 0) → IfNone o P → b ≡ is_some o → b ≡ false → P
+behind_if None b P h is isnt = h
+behind_if (Some d) b P h is isnt = let wrong : true ≡ false = sym is ∙ isnt in absurd (cc)
 
 -- ---- a step of a caller
 
@@ -232,7 +282,7 @@ keeps_takes who lane old None new h = keeps_same old new h.1
 keeps_takes who lane old (Some t) new h = keeps_event (Claims who t.stage) old new (ToldClaim (Granted t.args)) refl h.done
 
 -- what is kept, once memory is found and what is held is finished
-pub kept_finish : (words : ℕ) (a r b : Teller) (who : ℕ) (held : Option Held) (finish : Option Finish) (follows : List Follow) (deadlines : List Deadline) (own : ℕ) → IsMachine a follows deadlines own →
+pub kept_finish : (words : ℕ) (a r b : Teller) (who : ℕ) (held : Option Held) (finish : Option Finish) (follows : List Join) (deadlines : List Deadline) (own : ℕ) → IsMachine a follows deadlines own →
     r ≡ with_memory words a → FinishesHeld who held r finish b → IsMachine b follows deadlines own
 kept_finish words a r b who held finish follows deadlines own h found done =
     kept_by r b follows deadlines own (keeps_held who held r finish b done) (kept_memory words a r follows deadlines own found h)
@@ -277,17 +327,18 @@ claimed_outcome (Linked k) s who i j h = refl
 claimed_outcome (Settled o) s who i j h = refl
 
 -- a claim settles nothing
-claim_same : (who i : ℕ) (old new : Teller) (reply : Reply) → TellsEvent (Claims who i) old reply new → (j : ℕ) → is_settled_in (state_of new.ledger).stages j ≡ is_settled_in (state_of old.ledger).stages j
+claim_same : (who i : ℕ) (old new : Teller) (reply : Reply) → TellsEvent (Claims who i) old reply new → (j : ℕ) → outcome_in (state_of new.ledger).stages j ≡ outcome_in (state_of old.ledger).stages j
 claim_same who i old new reply h j =
     let s = state_of old.ledger in
-    ap (λ (t : State). is_settled_in t.stages j) (after_event (Claims who i) old new reply h) ∙ ap is_some (claimed_outcome (stage_at s i) s who i j refl)
+    ap (λ (t : State). outcome_in t.stages j) (after_event (Claims who i) old new reply h) ∙ claimed_outcome (stage_at s i) s who i j refl
 
-none_same : (follows : List Follow) (old new : List Stage) → ((j : ℕ) → is_settled_in new j ≡ is_settled_in old j) → NoneBehind follows old → NoneBehind follows new
-none_same follows old new same h =
-    All-weaker (λ (f : Follow). is_settled_in old f.stage ≡ true → is_settled_in old f.relay ≡ true) (λ (f : Follow). is_settled_in new f.stage ≡ true → is_settled_in new f.relay ≡ true)
-    (λ f k on. same f.relay ∙ k (sym (same f.stage) ∙ on)) follows h
+behind_same : (old new : List Stage) (j : Join) → ((i : ℕ) → outcome_in new i ≡ outcome_in old i) → IsNotBehind old j → IsNotBehind new j
+behind_same old new j same h = λ decided. ap is_some (same j.stage) ∙ h (λ undecided. decided (undecided_same (outcome_in old) (outcome_in new) j (λ k d l. same (get_or (sources_of j) k d)) undecided))
 
-pub none_takes : (follows : List Follow) (who lane : ℕ) (old : Teller) (taken : Option Taken) (new : Teller) → TakesIn who lane old taken new → NoneBehind follows (state_of old.ledger).stages →
+none_same : (follows : List Join) (old new : List Stage) → ((i : ℕ) → outcome_in new i ≡ outcome_in old i) → NoneBehind follows old → NoneBehind follows new
+none_same follows old new same h = All-weaker (IsNotBehind old) (IsNotBehind new) (λ j k. behind_same old new j same k) follows h
+
+pub none_takes : (follows : List Join) (who lane : ℕ) (old : Teller) (taken : Option Taken) (new : Teller) → TakesIn who lane old taken new → NoneBehind follows (state_of old.ledger).stages →
     NoneBehind follows (state_of new.ledger).stages
 none_takes follows who lane old None new h none = subst (λ (t : Teller). NoneBehind follows (state_of t.ledger).stages) (sym h.1) none
 none_takes follows who lane old (Some t) new h none =
@@ -295,7 +346,7 @@ none_takes follows who lane old (Some t) new h none =
 
 -- ---- what is set
 
-pub kept_set : (t : Teller) (follows : List Follow) (old new : List Deadline) (own : ℕ) (d : Deadline) → IsMachine t follows old own → d.stage < stages_of t.ledger →
+pub kept_set : (t : Teller) (follows : List Join) (old new : List Deadline) (own : ℕ) (d : Deadline) → IsMachine t follows old own → d.stage < stages_of t.ledger →
     Sets (state_of t.ledger).stages d old new → IsMachine t follows new own
 kept_set t follows old new own d h l sets = record {
   relays = h.relays;
@@ -304,7 +355,7 @@ kept_set t follows old new own d h l sets = record {
 }
 
 -- and where some are forgotten
-pub kept_left : (t : Teller) (follows : List Follow) (old new : List Deadline) (own : ℕ) → IsMachine t follows old own → Forgets (state_of t.ledger).stages old new → IsMachine t follows new own
+pub kept_left : (t : Teller) (follows : List Join) (old new : List Deadline) (own : ℕ) → IsMachine t follows old own → Forgets (state_of t.ledger).stages old new → IsMachine t follows new own
 kept_left t follows old new own h forgets = record {
   relays = h.relays;
   limits = set_left (state_of t.ledger) (state_of t.ledger).stages old new forgets h.limits;

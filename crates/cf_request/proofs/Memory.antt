@@ -23,7 +23,7 @@ use Rattle.cf_request.specs.Relays.{IsRelayDue, IsRelayOr, NoneBehind, waiting_o
 use Rattle.cf_request.specs.Settling.{IsOpen, Settles, settle_event}
 use Rattle.cf_request.specs.Telling.{Teller, Tells, is_settled_in}
 use Rattle.cf_request.specs.declared.deadlines.Deadline.{Deadline}
-use Rattle.cf_request.specs.declared.relays.Follow.{Follow}
+use Rattle.cf_request.specs.declared.joins.Join.{Join}
 use Rattle.cf_request.specs.declared.settling.Due.{Due}
 use Rattle.cf_request.proofs.Moments.{next_in}
 use Rattle.cf_request.proofs.Turns.{StaySettled, keeps_settle}
@@ -80,45 +80,46 @@ still_open false b h e = refl
 
 -- ---- relays
 
-pub few_relays : (stages : List Stage) (follows : List Follow) → length (waiting_of stages follows) ≤ length follows
+pub few_relays : (stages : List Stage) (follows : List Join) → length (waiting_of stages follows) ≤ length follows
 few_relays stages follows =
-    let size = length-filter (λ (f : Follow). not (is_settled_in stages f.relay)) follows in
-    let few = count_by-le-length (λ (f : Follow). not (is_settled_in stages f.relay)) follows in
+    let size = length-filter (λ (j : Join). not (is_settled_in stages j.stage)) follows in
+    let few = count_by-le-length (λ (j : Join). not (is_settled_in stages j.stage)) follows in
     omega (arith, size, few)
 
-among : (follows : List Follow) (s : State) (d : Due) (due : IsRelayDue follows s d) → Contains follows due.follow
-among follows s d due =
-    subst (λ (l : List Follow). Contains l due.follow) (sym due.is) (Contains-append_right due.front (due.follow ∷ due.back) due.follow (0, omega arith, refl))
+among : (follows : List Join) (t : Teller) (d : Due) (due : IsRelayDue follows t d) → Contains follows due.join
+among follows t d due =
+    subst (λ (l : List Join). Contains l due.join) (sym due.is) (Contains-append_right due.front (due.join ∷ due.back) due.join (0, omega arith, refl))
 
-pub relay_waits : (follows : List Follow) (s : State) (d : Due) → IsOpen s d.stage → IsRelayDue follows s d → 0 < length (waiting_of s.stages follows)
-relay_waits follows s d waits due =
-    some (λ (f : Follow). not (is_settled_in s.stages f.relay)) follows due.follow (among follows s d due) (ap not (ap (is_settled_in s.stages) due.relay ∙ waits.1))
+pub relay_waits : (follows : List Join) (t : Teller) (d : Due) → IsOpen (state_of t.ledger) d.stage → IsRelayDue follows t d → 0 < length (waiting_of (state_of t.ledger).stages follows)
+relay_waits follows t d waits due =
+    let stages = (state_of t.ledger).stages in
+    some (λ (j : Join). not (is_settled_in stages j.stage)) follows due.join (among follows t d due) (ap not (ap (is_settled_in stages) due.due.stage ∙ waits.1))
 
-pub relays_stay : (follows : List Follow) (old new : List Stage) → StaySettled old new → length (waiting_of new follows) ≤ length (waiting_of old follows)
+pub relays_stay : (follows : List Join) (old new : List Stage) → StaySettled old new → length (waiting_of new follows) ≤ length (waiting_of old follows)
 relays_stay follows old new stay =
-    no_more (λ (f : Follow). not (is_settled_in old f.relay)) (λ (f : Follow). not (is_settled_in new f.relay)) (λ f e. still_open (is_settled_in old f.relay) (is_settled_in new f.relay) (stay f.relay) e) follows
+    no_more (λ (j : Join). not (is_settled_in old j.stage)) (λ (j : Join). not (is_settled_in new j.stage)) (λ j e. still_open (is_settled_in old j.stage) (is_settled_in new j.stage) (stay j.stage) e) follows
 
 bools : (b : Bool) → (b ≡ true) ⊎ (b ≡ false)
 bools true = inl refl
 bools false = inr refl
 
 -- where no relay is open, none is behind
-pub none_waiting : (stages : List Stage) (follows : List Follow) → length (waiting_of stages follows) ≤ 0 → NoneBehind follows stages
-none_waiting stages follows h = λ k d l on.
+pub none_waiting : (stages : List Stage) (follows : List Join) → length (waiting_of stages follows) ≤ 0 → NoneBehind follows stages
+none_waiting stages follows h = λ k d l.
     let f = get_or follows k d in
-    elim (bools (is_settled_in stages f.relay)) [
-      | inl settled ↦ settled
-      | inr waits ↦ (let more = some (λ (g : Follow). not (is_settled_in stages g.relay)) follows f (k, l, get_or_default follows k f d l) (ap not waits) in absurd (omega (arith, more, h)))
+    elim (bools (is_settled_in stages f.stage)) [
+      | inl settled ↦ λ decided. settled
+      | inr waits ↦ (let more = some (λ (j : Join). not (is_settled_in stages j.stage)) follows f (k, l, get_or_default follows k f d l) (ap not waits) in absurd (omega (arith, more, h)))
     ]
 
-pub relays_fewer : (follows : List Follow) (who : ℕ) (d : Due) (old new : Teller) → IsOpen (state_of old.ledger) d.stage → IsRelayDue follows (state_of old.ledger) d → Settles who d old new →
+pub relays_fewer : (follows : List Join) (who : ℕ) (d : Due) (old new : Teller) → IsOpen (state_of old.ledger) d.stage → IsRelayDue follows old d → Settles who d old new →
     length (waiting_of (state_of new.ledger).stages follows) < length (waiting_of (state_of old.ledger).stages follows)
 relays_fewer follows who d old new waits due h =
     let before = (state_of old.ledger).stages in
     let after = (state_of new.ledger).stages in
     let stay = (keeps_settle who d old new h).settled in
-    fewer (λ (f : Follow). not (is_settled_in before f.relay)) (λ (f : Follow). not (is_settled_in after f.relay)) (λ f e. still_open (is_settled_in before f.relay) (is_settled_in after f.relay) (stay f.relay) e) follows due.follow (among follows (state_of old.ledger) d due)
-    (ap not (ap (is_settled_in before) due.relay ∙ waits.1)) (ap not (ap (is_settled_in after) due.relay ∙ ap is_some h.ends))
+    fewer (λ (j : Join). not (is_settled_in before j.stage)) (λ (j : Join). not (is_settled_in after j.stage)) (λ j e. still_open (is_settled_in before j.stage) (is_settled_in after j.stage) (stay j.stage) e) follows due.join (among follows old d due)
+    (ap not (ap (is_settled_in before) due.due.stage ∙ waits.1)) (ap not (ap (is_settled_in after) due.due.stage ∙ ap is_some h.ends))
 
 -- ---- deadlines
 
@@ -154,16 +155,16 @@ limits_fewer moment come deadlines who d old new later due h =
 
 -- ---- relays and deadlines
 
-abbrev pub left_of : List Stage → List Follow → List Deadline → ℕ
+abbrev pub left_of : List Stage → List Join → List Deadline → ℕ
 left_of stages follows deadlines = length (waiting_of stages follows) + length (open_of stages deadlines)
 
-pub due_waits : (follows : List Follow) (moment come : ℕ) (deadlines : List Deadline) (s : State) (d : Due) → All (λ e. moment < e.moment) (drop come deadlines) → IsOpen s d.stage → IsRelayOr follows (IsOverdue moment deadlines) s d →
-    0 < left_of s.stages follows (take come deadlines)
-due_waits follows moment come deadlines s d later waits (inl relay) = let l = relay_waits follows s d waits relay in omega (arith, l)
-due_waits follows moment come deadlines s d later waits (inr other) = let l = limit_waits moment come deadlines s d later waits other.1 in omega (arith, l)
+pub due_waits : (follows : List Join) (moment come : ℕ) (deadlines : List Deadline) (t : Teller) (d : Due) → All (λ e. moment < e.moment) (drop come deadlines) → IsOpen (state_of t.ledger) d.stage → IsRelayOr follows (IsOverdue moment deadlines) t d →
+    0 < left_of (state_of t.ledger).stages follows (take come deadlines)
+due_waits follows moment come deadlines t d later waits (inl relay) = let l = relay_waits follows t d waits relay in omega (arith, l)
+due_waits follows moment come deadlines t d later waits (inr other) = let l = limit_waits moment come deadlines (state_of t.ledger) d later waits other.1 in omega (arith, l)
 
-pub dues_fewer : (follows : List Follow) (moment come : ℕ) (deadlines : List Deadline) (who : ℕ) (d : Due) (old new : Teller) → All (λ e. moment < e.moment) (drop come deadlines) → IsOpen (state_of old.ledger) d.stage →
-    IsRelayOr follows (IsOverdue moment deadlines) (state_of old.ledger) d → Settles who d old new → left_of (state_of new.ledger).stages follows (take come deadlines) < left_of (state_of old.ledger).stages follows (take come deadlines)
+pub dues_fewer : (follows : List Join) (moment come : ℕ) (deadlines : List Deadline) (who : ℕ) (d : Due) (old new : Teller) → All (λ e. moment < e.moment) (drop come deadlines) → IsOpen (state_of old.ledger) d.stage →
+    IsRelayOr follows (IsOverdue moment deadlines) old d → Settles who d old new → left_of (state_of new.ledger).stages follows (take come deadlines) < left_of (state_of old.ledger).stages follows (take come deadlines)
 dues_fewer follows moment come deadlines who d old new later waits (inl relay) h =
     let less = relays_fewer follows who d old new waits relay h in
     let rest = limits_stay (take come deadlines) (state_of old.ledger).stages (state_of new.ledger).stages (keeps_settle who d old new h).settled in

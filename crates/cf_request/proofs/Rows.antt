@@ -26,7 +26,7 @@ use Rattle.cf_request.specs.Ready.{Lanes, with_lane}
 use Rattle.cf_request.specs.Refusals.{IsCancelled, IsRefused}
 use Rattle.cf_request.specs.Relays.{IsRelayDue, IsRelayOr}
 use Rattle.cf_request.specs.Rows.{AddsBehind, AddsLanes, AreCalls, BeginsAnew, ComesToAnEnd, IsCall, IsLater, IsOpened, Job, Out, RunsOnce, TellsOnce, Took, WasGranted, WordsTellAll, all_jobs, all_told, job_of, nothing, room_in, stage_of, unclaimed}
-use Rattle.cf_request.specs.Rows.IsCall.{applies, goes_on, sets_follow, sets_deadline, forgets, passes, refuses, cancels_all, took, grows, reserves, is_refused}
+use Rattle.cf_request.specs.Rows.IsCall.{applies, goes_on, sets_join, sets_deadline, forgets, passes, refuses, cancels_all, took, grows, reserves, is_refused}
 use Rattle.cf_request.specs.Settling.{AreSettledInTurn, SettlesDue, settle_event}
 use Rattle.cf_request.specs.Telling.{AreFresh, AreSettled, AreSettledBy, IsApart, Teller, Tells, TellsEvent, with_memory}
 use Rattle.cf_request.specs.declared.machine.Next.{Next}
@@ -118,12 +118,12 @@ onward_word old new word reply t lanes = record {
 onward_event : (e : Event) (old new : Teller) (reply : Reply) → TellsEvent e old reply new → Onward old new
 onward_event e old new reply h = onward_word old new (word_of e) reply h.tells.tells (lanes_is old.lanes new.lanes h.lanes)
 
-onward_turns : (P : State → Due → Type 0) (who : ℕ) (dues : List Due) (a b : Teller) → AreSettledInTurn P who a dues b → Onward a b
+onward_turns : (P : Teller → Due → Type 0) (who : ℕ) (dues : List Due) (a b : Teller) → AreSettledInTurn P who a dues b → Onward a b
 onward_turns P who [] a b same = onward_is a b same
 onward_turns P who (d ∷ dues) a b (between, waits, due, did, rest) =
     onward_then a between b (onward_event (settle_event who d.stage d.outcome) a between did.reply did.done) (onward_turns P who dues between b rest)
 
-onward_dues : (P : State → Due → Type 0) (who : ℕ) (a b : Teller) → SettlesDue P who a b → Onward a b
+onward_dues : (P : Teller → Due → Type 0) (who : ℕ) (a b : Teller) → SettlesDue P who a b → Onward a b
 onward_dues P who a b h = onward_turns P who h.dues a b h.are
 
 onward_held : (who : ℕ) (held : Option Held) (old : Teller) (finish : Option Finish) (new : Teller) → FinishesHeld who held old finish new → Onward old new
@@ -239,10 +239,10 @@ more_room old new h =
     subst (Effect a nothing) (sym (ap (λ (m : Machine). m.teller) h.is)) now
 
 -- memory is found, and then due stages are settled
-settles_found : (P : State → Due → Type 0) (who least most : ℕ) (old found new : Teller) → Finds least most old found → SettlesDue P who found new → Onward old new
+settles_found : (P : Teller → Due → Type 0) (who least most : ℕ) (old found new : Teller) → Finds least most old found → SettlesDue P who found new → Onward old new
 settles_found P who least most old found new h k = onward_then old found new (onward_found least most old found h) (onward_dues P who found new k)
 
-settles : (P : State → Due → Type 0) (who n : ℕ) (old new : Teller) → SettlesDue P who (record old { ledger = record old.ledger { free = n } }) new → Onward old new
+settles : (P : Teller → Due → Type 0) (who n : ℕ) (old new : Teller) → SettlesDue P who (record old { ledger = record old.ledger { free = n } }) new → Onward old new
 settles P who n old new h = let found : Teller = record old { ledger = record old.ledger { free = n } } in onward_then old found new (onward_free old n) (onward_dues P who found new h)
 
 -- what comes before a claim
@@ -260,7 +260,7 @@ effect old new out (applies word lane reply none h) =
     (onward_then found h.between new.teller (onward_word found h.between word reply h.tells.tells lanes) (onward_dues (IsRelayDue old.follows) old.own h.between new.teller h.catches_up.settles)))
 effect old new out (goes_on who lane held next is h) =
     subst (λ (o : Out). Effect old.teller o new.teller) (sym is) (takes who lane old.teller h.between next.taken new.teller (onward_to_claim who lane held old new next h) h.takes)
-effect old new out (sets_follow relay stage none h) =
+effect old new out (sets_join join none h) =
     quiet old.teller new.teller out none (settles_found (IsRelayDue new.follows) old.own (1 + waiting_in old) (1 + length old.follows) old.teller h.found new.teller h.finds h.catches_up.settles)
 effect old new out (sets_deadline deadline none h) = quiet old.teller new.teller out none (onward_is old.teller new.teller (ap (λ (m : Machine). m.teller) h.same))
 effect old new out (forgets none forgotten same) = quiet old.teller new.teller out none (onward_is old.teller new.teller (ap (λ (m : Machine). m.teller) same))

@@ -13,16 +13,19 @@ use Rattle.std.proofs.lemmas.Option.{get_or_from_slice_get}
 use Rattle.cf_forms.specs.Plans.{Planned, with_room}
 use Rattle.cf_model.specs.declared.stage.Stage.{Stage}
 use Rattle.cf_model.specs.Graphs.{AreNews, stage_in}
+use Rattle.cf_model.specs.declared.events.Event.{Event}
 use Rattle.cf_model.specs.declared.events.Reply.{Reply}
+use Rattle.cf_model.specs.Calls.{is_attach}
 use Rattle.cf_model.specs.Events.{answered}
 use Rattle.cf_model.specs.States.{State, is_ready}
+use Rattle.cf_event.specs.Decoding.{event_of}
 use Rattle.cf_ledger.specs.Ledgers.{Does, Ledger, stages_of, state_at, state_of}
 use Rattle.cf_request.specs.Lanes.{IsLowestIn, NoneReadyIn, ready_below}
 use Rattle.cf_request.specs.Ready.{AreFitBut, AreSets, FitState, HasLanes, IsFit, Lanes, ReadySets, count_of, is_in, lane_of, lanes_of, none_ready, with_lane}
 use Rattle.cf_request.specs.Telling.{most_stages}
 use Rattle.cf_request.proofs.Lists.{contains_cases}
 use Rattle.cf_request.proofs.Telling.{last_news, next_is, none_there, same_most}
-use Rattle.cf_request.proofs.Words.{at_most_one, none_lost}
+use Rattle.cf_request.proofs.Words.{at_most_one, lanes_stay, none_lost, none_more}
 
 abbrev weight : Bool → ℕ
 weight b = cond b 1 0
@@ -239,6 +242,13 @@ lanes_reached old new word stages lane reply r does is h =
     let more = at_most_one old new word reply does in
     let all = h.all in
     lanes_count_by (nat_lt (length r.of) stages) stages lane r.of refl (omega (arith, all, less, is)) (omega (arith, all, more, is)) ∙ is
+
+-- a word that attaches nothing leaves each stage its lane
+pub lanes_kept : (e : Event) (old new : Ledger) (word : ℕ) (reply : Reply) (r : ReadySets) → event_of word ≡ Some e → is_attach e ≡ false → Does word old reply new → FitState (state_of old) r → length r.of ≡ stages_of new
+lanes_kept e old new word reply r is isnt does h = h.all ∙ sym (none_more e old new word reply is isnt does)
+
+pub sets_stay : (stages lane : ℕ) (r : ReadySets) → length r.of ≡ stages → r ≡ (record r { of = lanes_of stages lane r.of })
+sets_stay stages lane r same = sym (ap (λ (of : List ℕ). let x : ReadySets = record r { of = of } in x) (lanes_stay stages lane r.of same))
 
 -- what is left, once a word is done
 pub left_by : (old new : Ledger) (word place stages lane : ℕ) (reply : Reply) (news : List ℕ) (r : ReadySets) → (does : Does word old reply new) → place ≡ length new.events - 1 → AreNews (state_at new place).stages (state_at new (place + 1)).stages news →

@@ -19,12 +19,13 @@ use Rattle.cf_model.proofs.Moves.{new_states-settled}
 use Rattle.cf_model.proofs.StateLemmas.{after-unsettled}
 use Rattle.cf_ledger.specs.Ledgers.{Ledger, stages_of, state_of}
 use Rattle.cf_request.specs.Deadlines.{AreSet}
+use Rattle.cf_request.specs.Joins.{IsJoin, sources_of}
 use Rattle.cf_request.specs.Ready.{Lanes}
 use Rattle.cf_request.specs.Relays.{AreThere}
 use Rattle.cf_request.specs.Settling.{AreSettledInTurn, IsOpen, Settles, SettlesDue, fault_event, raw, settle_event}
 use Rattle.cf_request.specs.Telling.{Teller, TellsEvent, is_settled_in, with_memory}
 use Rattle.cf_request.specs.declared.deadlines.Deadline.{Deadline}
-use Rattle.cf_request.specs.declared.relays.Follow.{Follow}
+use Rattle.cf_request.specs.declared.joins.Join.{Join}
 use Rattle.cf_request.specs.declared.settling.Due.{Due}
 use Rattle.cf_request.proofs.Telling.{outcome_stage, stays}
 use Rattle.cf_request.proofs.Words.{same_count}
@@ -129,15 +130,15 @@ keeps_event e old new reply isnt h =
 pub keeps_settle : (who : ℕ) (d : Due) (old new : Teller) → Settles who d old new → Keeps old new
 keeps_settle who d old new h = keeps_event (settle_event who d.stage d.outcome) old new h.reply (no_attach who d.stage d.outcome) h.done
 
-keeps_turns : (P : State → Due → Type 0) (who : ℕ) (dues : List Due) (a b : Teller) → AreSettledInTurn P who a dues b → Keeps a b
+keeps_turns : (P : Teller → Due → Type 0) (who : ℕ) (dues : List Due) (a b : Teller) → AreSettledInTurn P who a dues b → Keeps a b
 keeps_turns P who [] a b same = keeps_same a b same
 keeps_turns P who (d ∷ dues) a b (between, waits, due, did, rest) = keeps_then a between b (keeps_settle who d a between did) (keeps_turns P who dues between b rest)
 
-pub keeps_dues : (P : State → Due → Type 0) (who : ℕ) (a b : Teller) → SettlesDue P who a b → Keeps a b
+pub keeps_dues : (P : Teller → Due → Type 0) (who : ℕ) (a b : Teller) → SettlesDue P who a b → Keeps a b
 keeps_dues P who a b h = keeps_turns P who h.dues a b h.are
 
-pub follows_kept : (a b : Teller) (follows : List Follow) → Keeps a b → AreThere (state_of a.ledger) follows → AreThere (state_of b.ledger) follows
-follows_kept a b follows keeps h = subst (λ (n : ℕ). All (λ (f : Follow). (f.relay < n) × (f.stage < n)) follows) (sym keeps.count) h
+pub follows_kept : (a b : Teller) (follows : List Join) → Keeps a b → AreThere (state_of a.ledger) follows → AreThere (state_of b.ledger) follows
+follows_kept a b follows keeps h = subst (λ (n : ℕ). All (IsJoin n) follows) (sym keeps.count) h
 
 pub limits_kept : (a b : Teller) (ds : List Deadline) → Keeps a b → AreSet (state_of a.ledger) ds → AreSet (state_of b.ledger) ds
 limits_kept a b ds keeps h = record { there = subst (λ (n : ℕ). All (λ (d : Deadline). d.stage < n) ds) (sym keeps.count) h.there; in_order = h.in_order }
@@ -147,10 +148,17 @@ pub lane_kept : (a b : Teller) (lane : ℕ) → Keeps a b → lane < a.lanes.cou
 lane_kept a b lane keeps h = subst (λ (l : Lanes). lane < l.count) (sym keeps.lanes) h
 
 -- a word leaves what is named there
-pub follows_word : (a b : Ledger) (follows : List Follow) → stages_of a ≤ stages_of b → AreThere (state_of a) follows → AreThere (state_of b) follows
+join_word : (a b : ℕ) (j : Join) → a ≤ b → IsJoin a j → IsJoin b j
+join_word a b j l h = record {
+  some = h.some;
+  enough = h.enough;
+  stage = let x = h.stage in omega (arith, x, l);
+  sources = All-weaker (λ (i : ℕ). i < a) (λ (i : ℕ). i < b) (λ i k. omega (arith, k, l)) (sources_of j) h.sources;
+}
+
+pub follows_word : (a b : Ledger) (follows : List Join) → stages_of a ≤ stages_of b → AreThere (state_of a) follows → AreThere (state_of b) follows
 follows_word a b follows l there =
-    All-weaker (λ (f : Follow). (f.relay < stages_of a) × (f.stage < stages_of a)) (λ (f : Follow). (f.relay < stages_of b) × (f.stage < stages_of b))
-    (λ f k. (let x = k.0 in omega (arith, x, l), let y = k.1 in omega (arith, y, l))) follows there
+    All-weaker (IsJoin (stages_of a)) (IsJoin (stages_of b)) (λ j k. join_word (stages_of a) (stages_of b) j l k) follows there
 
 pub limits_word : (a b : Ledger) (ds : List Deadline) → stages_of a ≤ stages_of b → AreSet (state_of a) ds → AreSet (state_of b) ds
 limits_word a b ds l h = record {
@@ -160,14 +168,14 @@ limits_word a b ds l h = record {
 
 -- ---- a turn more
 
-pub dues_none : (P : State → Due → Type 0) (who : ℕ) (a : Teller) → SettlesDue P who a a
+pub dues_none : (P : Teller → Due → Type 0) (who : ℕ) (a : Teller) → SettlesDue P who a a
 dues_none P who a = record { dues = []; are = refl; lanes = refl }
 
-turns_push : (P : State → Due → Type 0) (who : ℕ) (dues : List Due) (a b c : Teller) (d : Due) → AreSettledInTurn P who a dues b → IsOpen (state_of b.ledger) d.stage → P (state_of b.ledger) d → Settles who d b c →
+turns_push : (P : Teller → Due → Type 0) (who : ℕ) (dues : List Due) (a b c : Teller) (d : Due) → AreSettledInTurn P who a dues b → IsOpen (state_of b.ledger) d.stage → P b d → Settles who d b c →
     AreSettledInTurn P who a (dues ++ d ∷ []) c
 turns_push P who [] a b c d same waits due done =
-    (c, subst (λ (t : Teller). IsOpen (state_of t.ledger) d.stage) same waits, subst (λ (t : Teller). P (state_of t.ledger) d) same due, subst (λ (t : Teller). Settles who d t c) same done, refl)
+    (c, subst (λ (t : Teller). IsOpen (state_of t.ledger) d.stage) same waits, subst (λ (t : Teller). P t d) same due, subst (λ (t : Teller). Settles who d t c) same done, refl)
 turns_push P who (x ∷ dues) a b c d (between, was, is, did, rest) waits due done = (between, was, is, did, turns_push P who dues between b c d rest waits due done)
 
-pub dues_more : (P : State → Due → Type 0) (who : ℕ) (a b c : Teller) (d : Due) → SettlesDue P who a b → IsOpen (state_of b.ledger) d.stage → P (state_of b.ledger) d → Settles who d b c → SettlesDue P who a c
+pub dues_more : (P : Teller → Due → Type 0) (who : ℕ) (a b c : Teller) (d : Due) → SettlesDue P who a b → IsOpen (state_of b.ledger) d.stage → P b d → Settles who d b c → SettlesDue P who a c
 dues_more P who a b c d h waits due done = record { dues = h.dues ++ d ∷ []; are = turns_push P who h.dues a b c d h.are waits due done; lanes = done.done.lanes ∙ h.lanes }

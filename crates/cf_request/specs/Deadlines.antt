@@ -8,7 +8,7 @@ use Rattle.cf_model.specs.States.{State}
 use Rattle.cf_request.specs.Relays.{NoneBehind}
 use Rattle.cf_request.specs.Telling.{is_settled_in}
 use Rattle.cf_request.specs.declared.deadlines.Deadline.{Deadline}
-use Rattle.cf_request.specs.declared.relays.Follow.{Follow}
+use Rattle.cf_request.specs.declared.joins.Join.{Join}
 use Rattle.cf_request.specs.declared.settling.Due.{Due}
 
 -- none comes before one that stands in front of it
@@ -82,7 +82,7 @@ pub record Sets (stages : List Stage) (d : Deadline) (old new : List Deadline) :
   pub put : IsPutAmong d kept new
 
 -- neither a relay nor a deadline is left
-abbrev pub NoneLeft : List Follow → ℕ → List Deadline → List Stage → Type 0
+abbrev pub NoneLeft : List Join → ℕ → List Deadline → List Stage → Type 0
 NoneLeft follows moment deadlines stages = NoneBehind follows stages × NoneOverdue moment deadlines stages
 
 -- ---- parts of it

@@ -1,6 +1,7 @@
 pub mod Ready
 pub mod Telling
 pub mod Settling
+pub mod Joins
 pub mod Relays
 pub mod Deadlines
 pub mod Lanes

@@ -10,22 +10,25 @@ use Rattle.cf_ledger.specs.declared.faults.StepFault.{StepFault}
 use Rattle.cf_ledger.specs.declared.faults.StepFault.TheVariants.{NoMemory as NoMemoryForStep, NoCaller, NoStage as NoStageForStep, NotHeld}
 use Rattle.cf_ledger.specs.declared.step.Held.{Held}
 use Rattle.cf_request.specs.Deadlines.{AllOpen, AreCome, AreSet, Forgets, IsOverdue, NoneLeft, Sets, open_of}
+use Rattle.cf_request.specs.Joins.{IsFollow, IsJoin, MayNotJoin}
 use Rattle.cf_request.specs.Lanes.{FinishesHeld, IsIdle, TakesIn}
 use Rattle.cf_request.specs.Refusals.{AllSettled, IsCancelled, IsRefused, NoneToRefuse, open_below}
 use Rattle.cf_request.specs.Relays.{AreThere, IsRelayDue, IsRelayOr, NoneBehind, waiting_of}
 use Rattle.cf_request.specs.Settling.{SettlesDue}
 use Rattle.cf_request.specs.Telling.{AreFresh, Teller, TellsWord, with_memory}
 use Rattle.cf_request.specs.declared.deadlines.Deadline.{Deadline}
+use Rattle.cf_request.specs.declared.faults.JoinFault.{JoinFault}
+use Rattle.cf_request.specs.declared.faults.JoinFault.TheVariants.{NoMemory as NoMemoryForJoin}
 use Rattle.cf_request.specs.declared.faults.MachineFault.{MachineFault}
 use Rattle.cf_request.specs.declared.faults.MachineFault.TheVariants.{NoMemory, NoStage, Past, Full}
 use Rattle.cf_request.specs.declared.machine.Next.{Next}
-use Rattle.cf_request.specs.declared.relays.Follow.{Follow}
+use Rattle.cf_request.specs.declared.joins.Join.{Join}
 
 -- What is told of a ledger and who runs its stages, which stages follow which, the deadlines, the last moment, and the machine's own caller.
 -- Then for how many relays and for how many deadlines memory was found.
 pub record Machine : Type 0 where
   pub teller : Teller
-  pub follows : List Follow
+  pub follows : List Join
   pub deadlines : List Deadline
   pub moment : ℕ
   pub own : ℕ
@@ -45,7 +48,7 @@ abbrev pub free_in : Machine → ℕ
 free_in m = m.teller.ledger.free
 
 -- all stages that are named are there
-pub record IsMachine (teller : Teller) (follows : List Follow) (deadlines : List Deadline) (own : ℕ) : Type 0 where
+pub record IsMachine (teller : Teller) (follows : List Join) (deadlines : List Deadline) (own : ℕ) : Type 0 where
   pub relays : AreThere (state_of teller.ledger) follows
   pub limits : AreSet (state_of teller.ledger) deadlines
   pub caller : own ≤ 63
@@ -76,7 +79,7 @@ pub record Finds (least most : ℕ) (old found : Teller) : Type 0 where
   pub is : found ≡ with_memory words old
 
 -- all relays are settled whose stages are
-pub record CatchesUp (own : ℕ) (follows : List Follow) (old new : Teller) : Type 0 where
+pub record CatchesUp (own : ℕ) (follows : List Join) (old new : Teller) : Type 0 where
   pub settles : SettlesDue (IsRelayDue follows) own old new
   pub none : NoneBehind follows (state_of new.ledger).stages
 
@@ -153,16 +156,22 @@ IsNoNext who lane held m fault = IsNoStep who held (state_in m) fault
 abbrev pub AreBothThere : ℕ → ℕ → Machine → Type 0
 AreBothThere relay stage m = (relay < stages_in m) × (stage < stages_in m)
 
--- memory is found, the relay follows the stage, behind those that were set before, and relays are settled
-pub record SetsFollow (relay stage : ℕ) (old new : Machine) : Type 0 where
-  pub there : AreBothThere relay stage old
-  pub set : new.follows ≡ old.follows ++ (record { relay = relay; stage = stage }) ∷ []
+-- memory is found, the stage is a join from now on, behind those that were set before, and joins are settled
+pub record SetsJoin (join : Join) (old new : Machine) : Type 0 where
+  pub there : IsJoin (stages_in old) join
+  pub set : new.follows ≡ old.follows ++ join ∷ []
   pub fits : length new.follows ≤ new.relay_places
   pub places : old.relay_places ≤ new.relay_places
   pub found : Teller
   pub finds : FindsFor 1 old found
   pub catches_up : CatchesUp old.own new.follows found new.teller
   pub same : new ≡ record old { teller = new.teller; follows = new.follows; relay_places = new.relay_places }
+
+-- so is a relay that follows a stage
+pub record SetsFollow (relay stage : ℕ) (old new : Machine) : Type 0 where
+  pub join : Join
+  pub is : IsFollow relay stage join
+  pub sets : SetsJoin join old new
 
 -- there is a place for no relay more
 abbrev pub NoRelayFits : Machine → Type 0
@@ -175,6 +184,11 @@ IsNoFollow relay stage m NoMemory =
 IsNoFollow relay stage m NoStage = ¬ AreBothThere relay stage m
 IsNoFollow relay stage m Past = ⊥
 IsNoFollow relay stage m Full = ⊥
+
+-- why no stage is a join: too little memory was found for the words, or there is no place for it, or else the first of its reasons
+abbrev pub IsNoJoin : Join → Machine → JoinFault → Type 0
+IsNoJoin join m NoMemoryForJoin = IsShortFor 1 m ⊎ (IsJoin (stages_in m) join × NoRelayFits m)
+IsNoJoin join m fault = MayNotJoin (stages_in m) join fault
 
 -- ---- deadlines
 

@@ -10,7 +10,7 @@ use Rattle.cf_request.specs.Settling.{IsOpen}
 use Rattle.cf_request.specs.Telling.{is_settled_in}
 use Rattle.cf_request.specs.declared.refusals.Ending.{Ending}
 use Rattle.cf_request.specs.declared.refusals.Ending.TheVariants.{OfLane, OfAll}
-use Rattle.cf_request.specs.declared.relays.Follow.{Follow}
+use Rattle.cf_request.specs.declared.joins.Join.{Join}
 use Rattle.cf_request.specs.declared.settling.Due.{Due}
 
 -- the lowest ready stage of the lane, which fails with the code
@@ -19,7 +19,7 @@ pub record IsRefused (lanes : List ℕ) (lane code : ℕ) (s : State) (d : Due) 
   pub outcome : d.outcome ≡ Fault (Thrown code) false
 
 -- no relay is behind, and no stage of the lane is ready
-abbrev pub NoneToRefuse : List Follow → List ℕ → ℕ → State → Type 0
+abbrev pub NoneToRefuse : List Join → List ℕ → ℕ → State → Type 0
 NoneToRefuse follows lanes lane s = NoneBehind follows s.stages × NoneReadyIn s lanes lane (length s.plan.stages)
 
 -- how many stages below a number are open

@@ -1,39 +1,43 @@
 -- Stages that follow another stage of the same request.
-use Rattle.std.specs.Prelude.{◌≡◌, ◌⊎◌, ℕ, ◌<◌, ◌≤◌, Bool, true, false, Some, List, [], ◌∷◌, ◌++◌, All, Contains, drop, length, not, slice_index_or}
+use Rattle.std.specs.Prelude.{◌≡◌, ◌⊎◌, ℕ, ◌≤◌, Bool, true, false, List, ◌∷◌, ◌++◌, All, Contains, drop, length, not, slice_index_or}
 use Rattle.std.specs.List.{filter}
 use Rattle.cf_model.specs.declared.stage.Stage.{Stage}
 use Rattle.cf_model.specs.States.{State, outcome_in}
 use Rattle.cf_ledger.specs.Ledgers.{state_of}
-use Rattle.cf_request.specs.Telling.{Teller, is_settled_in}
-use Rattle.cf_request.specs.declared.relays.Follow.{Follow}
+use Rattle.cf_request.specs.Joins.{IsDueBy, IsJoin, IsUndecided, sources_of}
+use Rattle.cf_request.specs.Telling.{Teller, is_settled_in, order_in}
+use Rattle.cf_request.specs.declared.joins.Join.{Join}
 use Rattle.cf_request.specs.declared.relays.Relays.{Relays}
 use Rattle.cf_request.specs.declared.settling.Due.{Due}
 
--- the stages that they name are there
-abbrev pub AreThere : State → List Follow → Type 0
-AreThere s follows = All (λ f. (f.relay < length s.plan.stages) × (f.stage < length s.plan.stages)) follows
+-- they are joins of stages that are there
+abbrev pub AreThere : State → List Join → Type 0
+AreThere s follows = All (IsJoin (length s.plan.stages)) follows
 
--- no relay is open whose stage is settled
-abbrev pub NoneBehind : List Follow → List Stage → Type 0
-NoneBehind follows stages = All (λ f. is_settled_in stages f.stage ≡ true → is_settled_in stages f.relay ≡ true) follows
+-- if a join is decided, it is settled
+abbrev pub IsNotBehind : List Stage → Join → Type 0
+IsNotBehind stages j = ¬ IsUndecided (outcome_in stages) j → is_settled_in stages j.stage ≡ true
 
--- those whose relay is open
-abbrev pub waiting_of : List Stage → List Follow → List Follow
-waiting_of stages follows = filter (λ f. not (is_settled_in stages f.relay)) follows
+-- no join is open that is decided
+abbrev pub NoneBehind : List Join → List Stage → Type 0
+NoneBehind follows stages = All (IsNotBehind stages) follows
 
--- the first of those, in the order in which they were set, that are open though their stage is settled, with the outcome of its stage
-pub record IsRelayDue (follows : List Follow) (s : State) (d : Due) : Type 0 where
-  pub follow : Follow
-  pub front : List Follow
-  pub back : List Follow
-  pub is : follows ≡ front ++ follow ∷ back
-  pub first : NoneBehind front s.stages
-  pub relay : follow.relay ≡ d.stage
-  pub settled : outcome_in s.stages follow.stage ≡ Some d.outcome
+-- those that are open
+abbrev pub waiting_of : List Stage → List Join → List Join
+waiting_of stages follows = filter (λ j. not (is_settled_in stages j.stage)) follows
 
--- a relay, or, where none is behind, what is due otherwise
-abbrev pub IsRelayOr : List Follow → (State → Due → Type 0) → State → Due → Type 0
-IsRelayOr follows IsDue s d = IsRelayDue follows s d ⊎ (NoneBehind follows s.stages × IsDue s d)
+-- the first of those, in the order in which they were set, that are open though they are decided
+pub record IsRelayDue (follows : List Join) (t : Teller) (d : Due) : Type 0 where
+  pub join : Join
+  pub front : List Join
+  pub back : List Join
+  pub is : follows ≡ front ++ join ∷ back
+  pub first : NoneBehind front (state_of t.ledger).stages
+  pub due : IsDueBy (state_of t.ledger).stages (order_in t) join d
+
+-- one of them, or, where none is behind, what is due otherwise
+abbrev pub IsRelayOr : List Join → (State → Due → Type 0) → Teller → Due → Type 0
+IsRelayOr follows IsDue t d = IsRelayDue follows t d ⊎ (NoneBehind follows (state_of t.ledger).stages × IsDue (state_of t.ledger) d)
 
 -- ---- which stages are followed
 
@@ -41,12 +45,22 @@ IsRelayOr follows IsDue s d = IsRelayDue follows s d ⊎ (NoneBehind follows s.s
 abbrev pub is_in_flags : List Bool → ℕ → Bool
 is_in_flags flags i = slice_index_or flags i false
 
--- the stage of each relay is marked
-abbrev pub AreMarked : List Bool → List Follow → Type 0
-AreMarked followed follows = All (λ f. is_in_flags followed f.stage ≡ true) follows
+-- these are in it
+abbrev pub AreIn : List Bool → List ℕ → Type 0
+AreIn flags stages = All (λ i. is_in_flags flags i ≡ true) stages
+
+-- the sources of each join are marked
+abbrev pub AreMarked : List Bool → List Join → Type 0
+AreMarked followed follows = All (λ j. AreIn followed (sources_of j)) follows
+
+-- these come in, and none goes out
+pub record MarksAll (stages : List ℕ) (old new : List Bool) : Type 0 where
+  pub flags : length new ≡ length old
+  pub stay : (i : ℕ) → is_in_flags old i ≡ true → is_in_flags new i ≡ true
+  pub marked : AreIn new stages
 
 -- there is a flag for each stage that there may ever be, those of stages that are followed are set, and of the relays so many are open at most
-pub record AreRelays (stages : List Stage) (follows : List Follow) (followed : List Bool) (waiting : ℕ) : Type 0 where
+pub record AreRelays (stages : List Stage) (follows : List Join) (followed : List Bool) (waiting : ℕ) : Type 0 where
   pub flags : length followed ≡ 4096
   pub marked : AreMarked followed follows
   pub most : length (waiting_of stages follows) ≤ waiting
@@ -56,12 +70,16 @@ pub record AreRelays (stages : List Stage) (follows : List Follow) (followed : L
 abbrev pub NoneFollowed : List Bool → List ℕ → Type 0
 NoneFollowed followed stages = All (λ i. is_in_flags followed i ≡ false) stages
 
--- a relay is open whose stage is settled only if that stage is one of these
-abbrev pub AreBehindBy : List ℕ → List Follow → List Stage → Type 0
-AreBehindBy news follows stages = All (λ f. is_settled_in stages f.stage ≡ true → (is_settled_in stages f.relay ≡ true) ⊎ Contains news f.stage) follows
+-- two rows have a stage in common
+abbrev pub HaveCommon : List ℕ → List ℕ → Type 0
+HaveCommon xs ys = (i : ℕ) × Contains xs i × Contains ys i
+
+-- a join is open and decided only if a source of it is one of these
+abbrev pub AreBehindBy : List ℕ → List Join → List Stage → Type 0
+AreBehindBy news follows stages = All (λ j. IsNotBehind stages j ⊎ HaveCommon (sources_of j) news) follows
 
 -- so many of what is told were looked at: a relay is behind only because of a stage that is told later
-pub record AreLookedAt (seen : ℕ) (told : List ℕ) (follows : List Follow) (stages : List Stage) : Type 0 where
+pub record AreLookedAt (seen : ℕ) (told : List ℕ) (follows : List Join) (stages : List Stage) : Type 0 where
   pub within : seen ≤ length told
   pub rest : AreBehindBy (drop seen told) follows stages
 
@@ -83,7 +101,7 @@ pub record MayCatchUp (t : Teller) (r : Relays) (seen : ℕ) : Type 0 where
   pub marked : AreMarked r.followed r.follows.items
   pub looked_at : AreLookedAt seen t.told r.follows.items (state_of t.ledger).stages
 
--- or because of one stage
-pub record MayCatchUpWith (t : Teller) (r : Relays) (stage : ℕ) : Type 0 where
+-- or only if another is known to be
+pub record MayCatchUpWith (t : Teller) (r : Relays) (is_due : Bool) : Type 0 where
   pub settle : MaySettle t r
-  pub behind : AreBehindBy (stage ∷ []) r.follows.items (state_of t.ledger).stages
+  pub none : is_due ≡ false → NoneBehind r.follows.items (state_of t.ledger).stages

@@ -18,10 +18,11 @@ use Rattle.cf_ledger.specs.declared.step.Held.{Held}
 use Rattle.cf_ledger.specs.declared.step.Taken.{Taken}
 use Rattle.cf_request.specs.Deadlines.{Forgets}
 use Rattle.cf_request.specs.Growing.{Grows}
-use Rattle.cf_request.specs.Machines.{AppliesWord, CancelsAll, GoesOn, Machine, OnlyDeadlines, OnlyFinds, OnlyTeller, Passes, Refuses, Restarts, SetsDeadline, SetsFollow, state_in}
+use Rattle.cf_request.specs.Machines.{AppliesWord, CancelsAll, GoesOn, Machine, OnlyDeadlines, OnlyFinds, OnlyTeller, Passes, Refuses, Restarts, SetsDeadline, SetsJoin, state_in}
 use Rattle.cf_request.specs.Ready.{HasLanes, Lanes}
 use Rattle.cf_request.specs.Telling.{AreFresh, AreSettled, IsApart, IsOnce, with_memory}
 use Rattle.cf_request.specs.declared.deadlines.Deadline.{Deadline}
+use Rattle.cf_request.specs.declared.joins.Join.{Join}
 use Rattle.cf_request.specs.declared.machine.Next.{Next}
 
 -- ---- calls
@@ -55,7 +56,7 @@ pub record Took (count : ℕ) (old new : Machine) : Type 0 where
 pub data IsCall (old : Machine) (out : Out) (new : Machine) : Type 0 where
   applies : (word lane : ℕ) (reply : Reply) → out ≡ nothing → AppliesWord word lane old reply new → IsCall old out new
   goes_on : (who lane : ℕ) (held : Option Held) (next : Next) → out ≡ job_of who next.taken → GoesOn who lane held old next new → IsCall old out new
-  sets_follow : (relay stage : ℕ) → out ≡ nothing → SetsFollow relay stage old new → IsCall old out new
+  sets_join : (join : Join) → out ≡ nothing → SetsJoin join old new → IsCall old out new
   sets_deadline : (deadline : Deadline) → out ≡ nothing → SetsDeadline deadline old new → IsCall old out new
   forgets : out ≡ nothing → Forgets (state_in old).stages old.deadlines new.deadlines → OnlyDeadlines old new → IsCall old out new
   passes : (moment : ℕ) → out ≡ nothing → Passes moment old new → IsCall old out new

@@ -39,14 +39,14 @@ pub record Settles (who : ℕ) (d : Due) (old new : Teller) : Type 0 where
   pub done : TellsEvent (settle_event who d.stage d.outcome) old reply new
   pub ends : outcome_in (state_of new.ledger).stages d.stage ≡ Some (raw d.outcome)
 
--- these are settled, one after another: each is open, and due in the state that those before it leave
-abbrev pub AreSettledInTurn : (State → Due → Type 0) → ℕ → Teller → List Due → Teller → Type 0
+-- these are settled, one after another: each is open, and due as those before it leave the ledger and what was told
+abbrev pub AreSettledInTurn : (Teller → Due → Type 0) → ℕ → Teller → List Due → Teller → Type 0
 AreSettledInTurn IsDue who old [] new = new ≡ old
 AreSettledInTurn IsDue who old (d ∷ dues) new =
-    (between : Teller) × IsOpen (state_of old.ledger) d.stage × IsDue (state_of old.ledger) d × Settles who d old between × AreSettledInTurn IsDue who between dues new
+    (between : Teller) × IsOpen (state_of old.ledger) d.stage × IsDue old d × Settles who d old between × AreSettledInTurn IsDue who between dues new
 
 -- stages that were due are settled, and nothing else is done
-pub record SettlesDue (IsDue : State → Due → Type 0) (who : ℕ) (old new : Teller) : Type 0 where
+pub record SettlesDue (IsDue : Teller → Due → Type 0) (who : ℕ) (old new : Teller) : Type 0 where
   pub dues : List Due
   pub are : AreSettledInTurn IsDue who old dues new
   pub lanes : new.lanes ≡ old.lanes

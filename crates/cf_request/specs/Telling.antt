@@ -43,6 +43,10 @@ pub record Teller : Type 0 where
   pub told : List ℕ
   pub lanes : Lanes
 
+-- the settled stages, in the order in which they were settled
+abbrev pub order_in : Teller → List ℕ
+order_in t = t.taken ++ t.told
+
 -- the same, with memory for so many words at least
 abbrev pub with_memory : ℕ → Teller → Teller
 with_memory words t = record t { ledger = record t.ledger { free = max t.ledger.free words } }

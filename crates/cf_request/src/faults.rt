@@ -25,3 +25,24 @@ impl From<AllocError> for MachineFault {
         MachineFault::NoMemory
     }
 }
+
+/// Why a stage isn't set as a join.
+#[derive(Clone, Copy, Debug, PartialEq, Eq)]
+pub enum JoinFault {
+    /// There is no memory for it, and nothing else stands against it.
+    NoMemory,
+    /// A stage that it names isn't there.
+    NoStage,
+    /// It wants none of its sources, or more than there are.
+    NoQuorum,
+}
+
+impl From<AllocError> for JoinFault {
+    ghost use Rattle.cf_request.specs.declared.faults.JoinFault.TheVariants.{NoMemory};
+
+    ghost from_gives = { λ _ fault. fault ≡ NoMemory };
+
+    fn from(_refused: AllocError) -> JoinFault {
+        JoinFault::NoMemory
+    }
+}

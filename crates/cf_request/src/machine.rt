@@ -1,5 +1,7 @@
 //! The machine.
-ghost use Rattle.std.specs.Prelude.{◌≡◌, ◌≢◌, ◌+◌, ◌-◌, ◌^◌, ◌<◌, ◌≤◌, ◌++◌, ◌∷◌, [], All, IfErr, IfNone, IfOk, IfSome, None, OnErr, OnOk, Some, drop, length, replicate, take, true};
+ghost use Rattle.std.specs.Prelude.{◌≡◌, ◌≢◌, ℕ, ◌+◌, ◌-◌, ◌^◌, ◌<◌, ◌≤◌, ◌++◌, ◌∷◌, [], All, IfErr, IfNone, IfOk, IfSome, None, OnErr, OnOk, Some, drop, length, replicate, take, true};
+ghost use Rattle.cf_event.specs.Decoding.{event_of};
+ghost use Rattle.cf_event.specs.Words.{word_of};
 ghost use Rattle.cf_forms.specs.Plans.{has_place, with_room};
 ghost use Rattle.cf_model.specs.States.{claim_at, start};
 ghost use Rattle.cf_request.specs.Composing.{Composes, FinishesClaimed, Links, IsNoCompose, IsNoLink, IsShortToLink, LinksFound, MayLink, composes};
@@ -8,24 +10,26 @@ ghost use Rattle.cf_request.specs.Gathering.{Gathers, IsNoGather, gathers, stage
 ghost use Rattle.cf_request.specs.Growing.{Grows, IsNoGrowth};
 ghost use Rattle.cf_request.specs.Lanes.{IsIdle, NothingIsReady, ready_in};
 ghost use Rattle.cf_request.specs.Ready.{IsLaneCount};
-ghost use Rattle.cf_request.specs.Machines.{AppliesWord, CancelsAll, FindsFor, FindsToPass, GoesOn, IsNoCancel, IsNoDeadline, IsNoFollow, IsNoNext, IsNoPass, IsNoWord, IsShortFor, OnlyDeadlines, OnlyFinds, OnlyTeller, Passes, Refuses, Restarts, SetsDeadline, SetsFollow, free_in, open_in, stages_in, state_in, waiting_in};
+ghost use Rattle.cf_request.specs.Machines.{AppliesWord, CancelsAll, FindsFor, FindsToPass, GoesOn, IsNoCancel, IsNoDeadline, IsNoFollow, IsNoJoin, IsNoNext, IsNoPass, IsNoWord, IsShortFor, OnlyDeadlines, OnlyFinds, OnlyTeller, Passes, Refuses, Restarts, SetsDeadline, SetsFollow, SetsJoin, free_in, open_in, stages_in, state_in, waiting_in};
 ghost use Rattle.cf_request.specs.Relays.{NoneBehind};
 ghost use Rattle.cf_request.specs.Rows.{AreCalls, nothing, unclaimed};
 ghost use Rattle.cf_request.specs.Telling.{AreFresh, AreSettled, IsOnce, with_memory};
 
 use crate::composing::{Composed, Composing, check_composing, check_linking, compose};
 use crate::deadlines::{Deadline, come_by, next_open, pass, set, told_from};
-use crate::faults::MachineFault;
+use crate::faults::{JoinFault, MachineFault};
 use crate::gathering::{Gathering, check_gathering, gather};
 use crate::growing::room_for;
+use crate::joins::{Join, check_join, due_by};
 use crate::lanes::{check_held, finish, finish_held, is_idle, take};
 use crate::refusals::{Ending, end_all, open_stages};
-use crate::relays::{Follow, Relays, catch_up, catch_up_with};
+use crate::relays::{Relays, catch_up, catch_up_with, mark_sources};
 use crate::teller::Teller;
 use cf_bits::BitSet;
-use cf_event::LAST_CALLER;
+use cf_event::{LAST_CALLER, claim_of, giving_of};
 use cf_forms::Answer;
 use cf_ledger::{Finish, Held, Ledger, LedgerFault, Reply, StepFault, Taken};
+use cf_model::{Claimed, Event, Finished};
 use cf_plan::Plan;
 use std::alloc::{AllocError, Global};
 use std::collections::VecDeque;
@@ -142,6 +146,68 @@ impl Machine {
     /// open, want of memory is looked for last, as by a ledger.
     #[inline(always)]
     pub fn apply(&mut self, word: u64, lane: u8) -> Result<Reply, LedgerFault>
+        requires { lane < self.old.teller.lanes.count }
+        ensures done { IfOk result (λ reply. AppliesWord word lane self.old reply self.new) }
+        ensures refused { OnErr result (OnlyFinds self.old self.new) }
+        ensures why { IfErr result (λ fault. IsNoWord word self.old fault) }
+        ensures found { IfErr result (λ fault. fault ≢ LedgerFault.NoMemory → waiting_in self.old ≤ free_in self.new) }
+    {
+        // The reply of each of the two most frequent kinds of word is known where it is given on.
+        if let Some((who, stage)) = claim_of(word) {
+            return Ok(Reply::Claim(self.apply_claim(who, stage, word)?));
+        }
+        if let Some((who, stage, v)) = giving_of(word) {
+            let answer = Answer::Give(v);
+            return Ok(Reply::Finish(self.apply_finish(who, stage, answer, word)?));
+        }
+        self.apply_other(word, lane)
+    }
+
+    /// Does a claim, whose word this is, as `apply` does.
+    #[inline(always)]
+    fn apply_claim(&mut self, who: u8, stage: u16, word: u64) -> Result<Claimed, LedgerFault>
+        requires read { event_of word ≡ Some (Event.Claim who stage) }
+        requires named { word_of (Event.Claim who stage) ≡ word }
+        ensures done { IfOk result (λ told.
+            (lane : ℕ) → AppliesWord word lane self.old (Reply.Claim told) self.new) }
+        ensures refused { OnErr result (OnlyFinds self.old self.new) }
+        ensures why { IfErr result (λ fault. IsNoWord word self.old fault) }
+        ensures found { IfErr result (λ fault. fault ≢ LedgerFault.NoMemory → waiting_in self.old ≤ free_in self.new) }
+    {
+        self.teller.reserve(words_beside(self.relays.waiting))?;
+        let seen = self.teller.told().len();
+        let told = self.teller.claim_word(who, stage, word)?;
+        self.relays.waiting = catch_up(&mut self.teller, &self.relays, seen, self.own);
+        Ok(told)
+    }
+
+    /// Does a finish, whose word this is, as `apply` does.
+    #[inline(always)]
+    fn apply_finish(
+        &mut self,
+        who: u8,
+        stage: u16,
+        answer: Answer,
+        word: u64,
+    ) -> Result<Finished, LedgerFault>
+        requires read { event_of word ≡ Some (Event.Finish who stage answer) }
+        requires named { word_of (Event.Finish who stage answer) ≡ word }
+        ensures done { IfOk result (λ told.
+            (lane : ℕ) → AppliesWord word lane self.old (Reply.Finish told) self.new) }
+        ensures refused { OnErr result (OnlyFinds self.old self.new) }
+        ensures why { IfErr result (λ fault. IsNoWord word self.old fault) }
+        ensures found { IfErr result (λ fault. fault ≢ LedgerFault.NoMemory → waiting_in self.old ≤ free_in self.new) }
+    {
+        self.teller.reserve(words_beside(self.relays.waiting))?;
+        let seen = self.teller.told().len();
+        let told = self.teller.finish_word(who, stage, answer, word)?;
+        self.relays.waiting = catch_up(&mut self.teller, &self.relays, seen, self.own);
+        Ok(told)
+    }
+
+    /// Does a word of any kind as `apply` does.
+    #[inline(always)]
+    fn apply_other(&mut self, word: u64, lane: u8) -> Result<Reply, LedgerFault>
         requires { lane < self.old.teller.lanes.count }
         ensures done { IfOk result (λ reply. AppliesWord word lane self.old reply self.new) }
         ensures refused { OnErr result (OnlyFinds self.old self.new) }
@@ -342,8 +408,8 @@ impl Machine {
         self.teller.ready(lane)
     }
 
-    /// A stage ends from now on as another does, if it is open when that one settles. It is refused for the first of:
-    /// memory for words, a stage that isn't there, memory for one relay more.
+    /// A stage ends from now on as another does, if it is open when that one settles: it is a join of one. It is refused
+    /// for the first of: memory for words, a stage that isn't there, memory for one join more.
     pub fn follow(&mut self, relay: u16, stage: u16) -> Result<(), MachineFault>
         ensures set { OnOk result (SetsFollow relay stage self.old self.new) }
         ensures refused { OnErr result (OnlyFinds self.old self.new) }
@@ -351,16 +417,38 @@ impl Machine {
         ensures found { IfErr result (λ fault.
             fault ≡ MachineFault.NoStage → 1 + waiting_in self.old ≤ free_in self.new) }
     {
-        self.teller.reserve(1 + self.relays.waiting)?;
-        let stages = self.teller.stages();
-        if relay >= stages || stage >= stages {
-            return Err(MachineFault::NoStage);
+        let others = Vec::new(*self.relays.follows.allocator());
+        let join = Join {
+            stage: relay,
+            wanted: 1,
+            source: stage,
+            others,
+        };
+        match self.join(join) {
+            Ok(()) => Ok(()),
+            Err(JoinFault::NoMemory) => Err(MachineFault::NoMemory),
+            Err(_) => Err(MachineFault::NoStage),
         }
+    }
+
+    /// A stage ends from now on as soon as it is decided what a number of other stages come to, if it is open then. It is
+    /// refused for the first of: memory for words, a stage that isn't there, a number that is 0 or more than all, memory
+    /// for one join more.
+    pub fn join(&mut self, join: Join) -> Result<(), JoinFault>
+        ensures set { OnOk result (SetsJoin join self.old self.new) }
+        ensures refused { OnErr result (OnlyFinds self.old self.new) }
+        ensures why { IfErr result (λ fault. IsNoJoin join self.old fault) }
+        ensures found { IfErr result (λ fault.
+            fault ≢ JoinFault.NoMemory → 1 + waiting_in self.old ≤ free_in self.new) }
+    {
+        self.teller.reserve(1 + self.relays.waiting)?;
+        check_join(&self.teller, &join)?;
         self.relays.follows.reserve(1)?;
-        self.relays.follows.push_reserved(Follow { relay, stage });
-        self.relays.followed.insert(stage);
+        let is_due = due_by(&self.teller, &join).is_some();
+        mark_sources(&mut self.relays.followed, &join);
+        self.relays.follows.push_reserved(join);
         self.relays.waiting += 1;
-        self.relays.waiting = catch_up_with(&mut self.teller, &self.relays, stage, self.own);
+        self.relays.waiting = catch_up_with(&mut self.teller, &self.relays, is_due, self.own);
         Ok(())
     }
 
@@ -410,6 +498,7 @@ impl Machine {
     /// that come at the same moment it was set first. One that lies before the last moment is due at once: it is told with
     /// that moment. So `pass` to the moment that is told goes on. Those of settled stages that come before it are
     /// forgotten.
+    #[inline(always)]
     pub fn next_deadline(&mut self) -> Option<Deadline>
         ensures next { IfSome result (λ d.
             IsNextDue self.old.moment self.old.deadlines (state_in self.old).stages d) }
@@ -419,6 +508,9 @@ impl Machine {
         ensures forgets { Forgets (state_in self.old).stages self.old.deadlines self.new.deadlines }
         ensures rest { OnlyDeadlines self.old self.new }
     {
+        if self.deadlines.is_empty() {
+            return None;
+        }
         let next = next_open(&self.teller, &mut self.deadlines)?;
         Some(told_from(self.moment, next))
     }

@@ -63,7 +63,7 @@ fn next_ended(teller: &Teller, relays: &Relays, seen: &mut usize, ending: Ending
     requires seen { AreLookedAt seen.old teller.now.told relays.now.follows.items (state_of teller.now.ledger).stages }
     ensures is_open { IfSome result (λ d. IsOpen (state_of teller.now.ledger) d.stage) }
     ensures due { IfSome result (λ d.
-        IsRelayOr relays.now.follows.items (IsEnded teller.now.lanes.of ending) (state_of teller.now.ledger) d) }
+        IsRelayOr relays.now.follows.items (IsEnded teller.now.lanes.of ending) teller.now d) }
     ensures behind { IfNone result (NoneBehind relays.now.follows.items (state_of teller.now.ledger).stages) }
     ensures seen { AreLookedAt seen.new teller.now.told relays.now.follows.items (state_of teller.now.ledger).stages }
     ensures none { IfNone result (NoneToEnd teller.now.lanes.of ending (state_of teller.now.ledger)) }

@@ -1,30 +1,23 @@
 //! Stages that follow another stage of the same request.
-ghost use Rattle.std.specs.Prelude.{◌≡◌, ◌+◌, ◌≤◌, ◌<◌, IfNone, IfSome, Some, false, true};
-ghost use Rattle.cf_ledger.specs.Ledgers.{stages_of, state_of};
-ghost use Rattle.cf_model.specs.States.{outcome_in};
+ghost use Rattle.std.specs.Prelude.{◌≡◌, ◌+◌, ◌≤◌, ◌<◌, All, IfNone, IfSome, length, true};
+ghost use Rattle.cf_ledger.specs.Ledgers.{state_of};
+ghost use Rattle.cf_request.specs.Joins.{sources_of};
 ghost use Rattle.cf_request.specs.Machines.{CatchesUp};
-ghost use Rattle.cf_request.specs.Relays.{AreLookedAt, AreMarked, AreThere, IsRelayDue, MayCatchUp, MayCatchUpWith, MaySettle, NoneBehind, NoneFollowed, is_in_flags, open_relays};
+ghost use Rattle.cf_request.specs.Relays.{AreLookedAt, AreMarked, AreThere, IsRelayDue, MayCatchUp, MayCatchUpWith, MarksAll, MaySettle, NoneBehind, NoneFollowed, is_in_flags, open_relays};
 ghost use Rattle.cf_request.specs.Settling.{IsOpen};
-ghost use Rattle.cf_request.specs.Telling.{is_settled_in};
 
+use crate::joins::{Join, due_by};
 use crate::settling::{Due, settle};
 use crate::teller::Teller;
 use cf_bits::BitSet;
 
-/// A stage that ends as another does.
-#[derive(Clone, Copy, Debug, PartialEq, Eq)]
-pub struct Follow {
-    pub relay: u16,
-    pub stage: u16,
-}
-
-/// Which stages follow which.
+/// Which stages follow which: the joins.
 ///
 /// The set of the stages that are followed is kept beside them, so that a call that settles none of them looks at no
-/// relay, and how many relays are open at most, for each of which a call finds memory.
+/// join, and how many joins are open at most, for each of which a call finds memory.
 #[derive(Drop)]
 pub(crate) struct Relays {
-    pub follows: Vec<Follow>,
+    pub follows: Vec<Join>,
     pub followed: BitSet,
     pub waiting: usize,
 }
@@ -50,16 +43,15 @@ pub(crate) fn catch_up(teller: &mut Teller, relays: &Relays, seen: usize, who: u
     settle_behind(teller, relays, who)
 }
 
-/// The same where a stage has just got a follower. It looks at relays only if that stage is settled.
-pub(crate) fn catch_up_with(teller: &mut Teller, relays: &Relays, stage: u16, who: u8) -> usize
+/// The same where a join may be behind only if another is known to be.
+pub(crate) fn catch_up_with(teller: &mut Teller, relays: &Relays, is_due: bool, who: u8) -> usize
     requires caller { who ≤ 63 }
-    requires stage { stage < stages_of teller.old.ledger }
-    requires may { MayCatchUpWith teller.old relays.now stage }
+    requires may { MayCatchUpWith teller.old relays.now is_due }
     ensures settled { CatchesUp who relays.now.follows.items teller.old teller.new }
     ensures counted { open_relays teller.new relays.now ≤ result }
     ensures fewer { result ≤ relays.now.waiting }
 {
-    if teller.outcome(stage).is_none() {
+    if !is_due {
         return relays.waiting;
     }
     settle_behind(teller, relays, who)
@@ -90,7 +82,7 @@ pub(crate) fn first_behind(teller: &Teller, relays: &Relays, seen: usize) -> Opt
     requires marked { AreMarked relays.now.followed relays.now.follows.items }
     requires seen { AreLookedAt seen teller.now.told relays.now.follows.items (state_of teller.now.ledger).stages }
     ensures is_open { IfSome result (λ d. IsOpen (state_of teller.now.ledger) d.stage) }
-    ensures due { IfSome result (λ d. IsRelayDue relays.now.follows.items (state_of teller.now.ledger) d) }
+    ensures due { IfSome result (λ d. IsRelayDue relays.now.follows.items teller.now d) }
     ensures none { IfNone result (NoneBehind relays.now.follows.items (state_of teller.now.ledger).stages) }
 {
     if none_followed(&relays.followed, &teller.told()[seen..]) {
@@ -127,37 +119,25 @@ fn is_followed(followed: &BitSet, i: u16) -> bool
 fn first_of(teller: &Teller, relays: &Relays) -> Option<Due>
     requires there { AreThere (state_of teller.now.ledger) relays.now.follows.items }
     ensures is_open { IfSome result (λ d. IsOpen (state_of teller.now.ledger) d.stage) }
-    ensures due { IfSome result (λ d. IsRelayDue relays.now.follows.items (state_of teller.now.ledger) d) }
+    ensures due { IfSome result (λ d. IsRelayDue relays.now.follows.items teller.now d) }
     ensures none { IfNone result (NoneBehind relays.now.follows.items (state_of teller.now.ledger).stages) }
 {
-    for follow in &relays.follows {
-        if let Some(due) = due_by(teller, follow) {
+    for join in &relays.follows {
+        if let Some(due) = due_by(teller, join) {
             return Some(due);
         }
     }
     None
 }
 
-/// A relay with its stage's outcome, if that is settled and the relay isn't.
-fn due_by(teller: &Teller, follow: &Follow) -> Option<Due>
-    requires relay { follow.now.relay < stages_of teller.now.ledger }
-    requires stage { follow.now.stage < stages_of teller.now.ledger }
-    ensures relay { IfSome result (λ d. follow.now.relay ≡ d.stage) }
-    ensures there { IfSome result (λ d. d.stage < stages_of teller.now.ledger) }
-    ensures settled { IfSome result (λ d.
-        outcome_in (state_of teller.now.ledger).stages follow.now.stage ≡ Some d.outcome) }
-    ensures waits { IfSome result (λ d. is_settled_in (state_of teller.now.ledger).stages d.stage ≡ false) }
-    ensures none { IfNone result (is_settled_in (state_of teller.now.ledger).stages follow.now.stage ≡ true
-        → is_settled_in (state_of teller.now.ledger).stages follow.now.relay ≡ true) }
+/// Notes that the sources of a join are followed.
+pub(crate) fn mark_sources(followed: &mut BitSet, join: &Join)
+    requires flags { length followed.old ≡ 4096 }
+    requires there { All (λ i. i < 4096) (sources_of join.now) }
+    ensures { MarksAll (sources_of join.now) followed.old followed.new }
 {
-    let Some(outcome) = teller.outcome(follow.stage) else {
-        return None;
-    };
-    if teller.outcome(follow.relay).is_some() {
-        return None;
+    followed.insert(join.source);
+    for source in &join.others {
+        followed.insert(*source);
     }
-    Some(Due {
-        stage: follow.relay,
-        outcome,
-    })
 }

@@ -10,7 +10,7 @@ ghost use Rattle.cf_event.specs.Words.{IsEvent, word_of};
 ghost use Rattle.cf_ledger.specs.Ledgers.{AreTaken, IsShort, LedgerRefuses, roomier, stages_of, state_of, with_more};
 ghost use Rattle.cf_request.specs.Lanes.{IsLowestIn, NothingIsReady, ready_in};
 ghost use Rattle.cf_request.specs.Ready.{AreFitBut, FitState, HasLanes, IsFit, IsLane, IsLaneCount};
-ghost use Rattle.cf_request.specs.Telling.{AreFresh, AreSettled, AreSettledBelow, IsOnce, TellsEvent, TellsWord, is_settled_in, most_stages, with_memory};
+ghost use Rattle.cf_request.specs.Telling.{AreFresh, AreSettled, AreSettledBelow, IsOnce, TellsEvent, TellsWord, is_settled_in, most_stages, order_in, with_memory};
 
 use crate::ready::ReadySets;
 use cf_event::encode;
@@ -116,7 +116,7 @@ impl Teller {
         ensures why { IfErr result (λ fault. LedgerRefuses (state_of self.old.ledger) word fault) }
         ensures short { IfErr result (λ fault. IsShort self.old.ledger.free fault) }
     {
-        let reply = self.ledger.apply(word)?;
+        let reply = self.ledger.apply_other(word)?;
         let stages = self.ledger.stages();
         let place = self.ledger.len() - 1;
         let news = self.ledger.news(place);
@@ -145,7 +145,6 @@ impl Teller {
 
     /// Does a claim as the ledger does, whose word this is, where memory was found for one.
     #[inline(always)]
-    #[tactic(auto, using(crate::proofs::Words::event_told))]
     pub fn claim(&mut self, who: u8, stage: u16, word: u64) -> Claimed
         requires read { event_of word ≡ Some (Event.Claim who stage) }
         requires named { word_of (Event.Claim who stage) ≡ word }
@@ -153,33 +152,29 @@ impl Teller {
         requires memory { 0 < self.old.ledger.free }
         ensures { TellsEvent (Event.Claim who stage) self.old (Reply.Claim result) self.new }
     {
-        match self.claim_word(who, stage, word) {
-            Ok(told) => told,
-            Err(_) => unreachable!(),
-        }
+        let told = self.ledger.claim_found(who, stage, word);
+        self.lanes.write(stage, is_ready(self.ledger.stage(stage)));
+        told
     }
 
-    /// The same, which the ledger may refuse.
+    /// Does a claim as the ledger does, whose word this is. It may refuse it.
     #[inline(always)]
-    fn claim_word(&mut self, who: u8, stage: u16, word: u64) -> Result<Claimed, LedgerFault>
+    pub fn claim_word(&mut self, who: u8, stage: u16, word: u64) -> Result<Claimed, LedgerFault>
         requires read { event_of word ≡ Some (Event.Claim who stage) }
         requires named { word_of (Event.Claim who stage) ≡ word }
-        requires there { stage < stages_of self.old.ledger }
-        ensures done { IfOk result (λ told. TellsWord 0 word self.old (Reply.Claim told) self.new) }
+        ensures done { IfOk result (λ told. (lane : ℕ) → TellsWord lane word self.old (Reply.Claim told) self.new) }
         ensures all { OnOk result (HasLanes (state_of self.old.ledger) self.old.lanes.of) }
+        ensures refused { OnErr result (self.new ≡ self.old) }
         ensures why { IfErr result (λ fault. LedgerRefuses (state_of self.old.ledger) word fault) }
         ensures short { IfErr result (λ fault. IsShort self.old.ledger.free fault) }
     {
         let told = self.ledger.claim(who, stage, word)?;
-        let stages = self.ledger.stages();
-        self.lanes.reach(stages, 0);
         self.lanes.write(stage, is_ready(self.ledger.stage(stage)));
         Ok(told)
     }
 
     /// Does a finish as the ledger does, whose word this is, where memory was found for one.
     #[inline(always)]
-    #[tactic(auto, using(crate::proofs::Words::event_told))]
     pub fn finish(&mut self, who: u8, stage: u16, answer: Answer, word: u64) -> Finished
         requires read { event_of word ≡ Some (Event.Finish who stage answer) }
         requires named { word_of (Event.Finish who stage answer) ≡ word }
@@ -187,15 +182,16 @@ impl Teller {
         requires memory { 0 < self.old.ledger.free }
         ensures { TellsEvent (Event.Finish who stage answer) self.old (Reply.Finish result) self.new }
     {
-        match self.finish_word(who, stage, answer, word) {
-            Ok(told) => told,
-            Err(_) => unreachable!(),
-        }
+        let told = self.ledger.finish_found(who, stage, answer, word);
+        let place = self.ledger.len() - 1;
+        let changed = self.ledger.news(place);
+        note(&self.ledger, changed, &mut self.order, &mut self.lanes);
+        told
     }
 
-    /// The same, which the ledger may refuse.
+    /// Does a finish as the ledger does, whose word this is. It may refuse it.
     #[inline(always)]
-    fn finish_word(
+    pub fn finish_word(
         &mut self,
         who: u8,
         stage: u16,
@@ -204,16 +200,15 @@ impl Teller {
     ) -> Result<Finished, LedgerFault>
         requires read { event_of word ≡ Some (Event.Finish who stage answer) }
         requires named { word_of (Event.Finish who stage answer) ≡ word }
-        ensures done { IfOk result (λ told. TellsWord 0 word self.old (Reply.Finish told) self.new) }
+        ensures done { IfOk result (λ told. (lane : ℕ) → TellsWord lane word self.old (Reply.Finish told) self.new) }
         ensures all { OnOk result (HasLanes (state_of self.old.ledger) self.old.lanes.of) }
+        ensures refused { OnErr result (self.new ≡ self.old) }
         ensures why { IfErr result (λ fault. LedgerRefuses (state_of self.old.ledger) word fault) }
         ensures short { IfErr result (λ fault. IsShort self.old.ledger.free fault) }
     {
         let told = self.ledger.finish(who, stage, answer, word)?;
-        let stages = self.ledger.stages();
         let place = self.ledger.len() - 1;
         let changed = self.ledger.news(place);
-        self.lanes.reach(stages, 0);
         note(&self.ledger, changed, &mut self.order, &mut self.lanes);
         Ok(told)
     }
@@ -283,6 +278,15 @@ impl Teller {
         ensures order { AreSettled self.now.ledger (self.now.taken ++ self.now.told) }
     {
         &self.order[self.count..]
+    }
+
+    /// All settled stages, in the order of the events that settled them.
+    #[inline(always)]
+    pub fn settled(&self) -> &[u16]
+        ensures order { result.now ≡ order_in self.now }
+        ensures once { IsOnce (state_of self.now.ledger) (order_in self.now) }
+    {
+        &self.order
     }
 
     /// The first so many of what is told were taken, or all where fewer are told.

@@ -146,7 +146,7 @@ fn opens_for_the_most_records(rt: HostRuntime) {
 }
 
 /// Callers, words and records, and why a desk of so many can't be opened.
-const REFUSED: [(u8, u16, u16, OpenFault); 4] = [
+static REFUSED: [(u8, u16, u16, OpenFault); 4] = [
     (0, 0, 0, OpenFault::Callers),
     (65, 1, 1, OpenFault::Callers),
     (1, 0, 0, OpenFault::Log),

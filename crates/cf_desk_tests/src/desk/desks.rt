@@ -24,27 +24,23 @@ pub(crate) struct Opening {
     pub(crate) second_first: bool,
 }
 
-/// A desk over a source and a supply, with no room for more stages.
-pub(crate) fn small(log: u16, calls: u16) -> Opening {
-    Opening {
-        rows: &SOURCE_AND_SUPPLY,
-        log,
-        calls,
-        room: None,
-        second_first: false,
-    }
-}
+/// A desk over a source and a supply, with four words, four records and no room for more stages.
+pub(crate) const SMALL: Opening = Opening {
+    rows: &SOURCE_AND_SUPPLY,
+    log: 4,
+    calls: 4,
+    room: None,
+    second_first: false,
+};
 
-/// A desk over a source with so much room and so many functions, and a log of eight words.
-pub(crate) fn with_room(calls: u16, room: u16, functions: u32) -> Opening {
-    Opening {
-        rows: &SOURCE,
-        log: 8,
-        calls,
-        room: Some((room, functions)),
-        second_first: false,
-    }
-}
+/// A desk over a source with eight words, eight records, room for one stage, and no functions.
+pub(crate) const GROWING: Opening = Opening {
+    rows: &SOURCE,
+    log: 8,
+    calls: 8,
+    room: Some((1, 0)),
+    second_first: false,
+};
 
 /// The last of these passes, which are all of one desk, if there is one.
 fn popped(desk: &Desk, passes: &mut Vec<Pass>) -> Result<Pass, &'static str>

@@ -45,9 +45,9 @@ fn is_so(closed: &mut Closed, end: End) -> bool {
 }
 
 /// A closed desk has all of this.
-pub(crate) fn check_ends(rt: &impl Abort, closed: &mut Closed, ends: &[End]) {
+pub(crate) fn check_ends(rt: &impl Abort, closed: &mut Closed, name: &'static str, ends: &[End]) {
     for (at, end) in ends.iter().enumerate() {
-        holds(rt, is_so(closed, *end), ("end", at));
+        holds(rt, is_so(closed, *end), (name, "end", at));
     }
 }
 

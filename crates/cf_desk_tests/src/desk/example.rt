@@ -63,7 +63,7 @@ fn taken(rt: &impl Abort, alloc: Global) -> Closed {
     must(rt, take_turns(alloc, plan, THREE))
 }
 
-const ENDS: [End; 4] = [
+static ENDS: [End; 4] = [
     End::Stages(3),
     End::History(&HISTORY),
     End::Records(0, &FIRST),
@@ -83,6 +83,6 @@ fn settled(closed: &mut Closed) -> Option<Outcome> {
 fn the_first_of_two_settles(rt: HostRuntime) {
     let mut closed = taken(&rt, rt.alloc());
     same(&rt, settled(&mut closed), Some(Outcome::Value(THREE)));
-    check_ends(&rt, &mut closed, &ENDS);
+    check_ends(&rt, &mut closed, "example", &ENDS);
     drop(closed);
 }

@@ -1,15 +1,12 @@
 //! Stages that callers attach: who sees them, and which are refused.
 use crate::desk::beside::Work;
-use crate::desk::desks::{small, with_room};
+use crate::desk::desks::{GROWING, Opening, SMALL};
 use crate::desk::ends::End;
-use crate::desk::steps::{Step, Turn, play};
+use crate::desk::steps::{Case, Step, Turn, play};
 use cf_desk::{Ask, Call, DeskFault, Joined, Rec, Told};
 use cf_forms::{Answer, Args, Form, Of};
 use cf_model::{Attached, Claimed, Event, Finished, Reply, Ticked};
 use cf_outcome::{Now, Outcome, Value};
-use std::alloc::Global;
-use std::process::Abort;
-use std::thread::Threads;
 
 /// The call that attaches a source.
 pub(crate) const ATTACHES: Call = Call::Attach(Form::Source, Of::None, None);
@@ -45,11 +42,6 @@ const SEEN: [End; 1] = [End::Records(
     ],
 )];
 
-#[test]
-fn attach_seen(rt: HostRuntime) {
-    play(&rt, rt.alloc(), with_room(8, 1, 0), &SEEING, &SEEN);
-}
-
 /// Stages that don't fit, with a log and a pass of one place, and one that does.
 const FITTING: [Turn; 12] = [
     Turn::First(Step::Acts(Call::Attach(Form::Apply, Of::None, Some(0)), BAD)),
@@ -75,46 +67,23 @@ const FITTING: [Turn; 12] = [
     )),
 ];
 
-#[test]
-fn what_does_not_fit_is_refused(rt: HostRuntime) {
-    play(
-        &rt,
-        rt.alloc(),
-        with_room(1, 1, 1),
-        &FITTING,
-        &[End::Events(1)],
-    );
-}
-
-/// How many functions a desk without room is opened with, the function of a stage that is attached, and what is replied.
-const FUNCTIONS: [(u32, u16, Result<Reply, DeskFault>); 7] = [
-    (0, 0, BAD),
-    (4_095, 4_095, BAD),
-    (4_096, 4_095, Ok(FULL)),
-    (65_536, 4_095, Ok(FULL)),
-    (65_536, 4_096, BAD),
-    (65_536, 65_535, BAD),
-    (u32::MAX, 0, Ok(FULL)),
-];
-
-/// What is replied where a stage with this function is attached to a desk without room.
-fn attach_one<R: Threads + Sync + Abort>(
-    rt: &R,
-    alloc: Global,
-    functions: u32,
-    function: u16,
-    reply: Result<Reply, DeskFault>,
-) {
-    let applies = Call::Attach(Form::Apply, Of::One(0), Some(function));
-    let turns = [Turn::First(Step::Acts(applies, reply))];
-    play(rt, alloc, with_room(1, 0, functions), &turns, &[]);
-}
-
-#[test]
-fn functions_are_below_their_number_and_have_a_word(rt: HostRuntime) {
-    for (functions, function, reply) in &FUNCTIONS {
-        attach_one(&rt, rt.alloc(), *functions, *function, *reply);
-    }
+/// A stage with this function is attached to a desk without room that has so many functions, and this is replied.
+macro_rules! has_a_word {
+    ($name:expr, $functions:expr, $function:expr, $reply:expr) => {
+        Case {
+            name: $name,
+            opening: Opening {
+                calls: 1,
+                room: Some((0, $functions)),
+                ..GROWING
+            },
+            turns: &[Turn::First(Step::Acts(
+                Call::Attach(Form::Apply, Of::One(0), Some($function)),
+                $reply,
+            ))],
+            ends: &[],
+        }
+    };
 }
 
 /// What a desk keeps of stages that it has no room for.
@@ -145,48 +114,30 @@ const WITHOUT_ROOM: [Turn; 7] = [
 
 const WITHOUT_ROOM_ENDS: [End; 2] = [End::Stages(2), End::History(&ATTACHED)];
 
-#[test]
-fn a_desk_without_room_attaches_nothing(rt: HostRuntime) {
-    play(
-        &rt,
-        rt.alloc(),
-        small(4, 4),
-        &WITHOUT_ROOM,
-        &WITHOUT_ROOM_ENDS,
-    );
-}
-
 const THRICE: [Call; 3] = [ATTACHES; 3];
 
 const BOTH_ATTACH: Turn = Turn::Together(&[ATTACHES], &[ATTACHES]);
 
-/// All but the last of so many places are taken, and then each caller attaches a stage on a thread of its own.
-fn attach_last<R: Threads + Sync + Abort>(
-    rt: &R,
-    alloc: Global,
-    room: u16,
-    before: &'static [Call],
-) {
-    let turns = [Turn::First(Step::ActsAll(before)), BOTH_ATTACH];
-    let all = before.len().saturating_add(2);
-    let ends = [
-        End::InOrder(&THRICE, &THRICE, all),
-        End::Events(all),
-        End::Replied(Reply::Attach(Attached::At(room)), 1),
-        End::Replied(FULL, 1),
-        End::Stages(room.saturating_add(1)),
-    ];
-    play(rt, alloc, with_room(3, room, 0), &turns, &ends);
-}
-
-/// Rooms, and what takes all but the last place.
-const LAST: [(u16, &[Call]); 3] = [(1, &[]), (2, &[ATTACHES]), (3, &[ATTACHES, ATTACHES])];
-
-#[test]
-fn one_of_two_gets_the_last_room(rt: HostRuntime) {
-    for (room, before) in &LAST {
-        attach_last(&rt, rt.alloc(), *room, *before);
-    }
+/// All but the last of so many places are taken by these calls, and then each caller attaches a stage on a thread of its own.
+macro_rules! gets_the_last_room {
+    ($name:expr, $room:expr, $before:expr, $all:expr) => {
+        Case {
+            name: $name,
+            opening: Opening {
+                calls: 3,
+                room: Some(($room, 0)),
+                ..GROWING
+            },
+            turns: &[Turn::First(Step::ActsAll($before)), BOTH_ATTACH],
+            ends: &[
+                End::InOrder(&THRICE, &THRICE, $all),
+                End::Events($all),
+                End::Replied(Reply::Attach(Attached::At($room)), 1),
+                End::Replied(FULL, 1),
+                End::Stages($room + 1),
+            ],
+        }
+    };
 }
 
 const FULL_PASS: Result<Reply, DeskFault> = Err(DeskFault::PassFull);
@@ -208,41 +159,21 @@ const LOOKING: [Turn; 13] = [
     Turn::Second(Step::Joins(1, 2, Err(DeskFault::PassFull))),
 ];
 
-#[test]
-fn a_full_pass_looks_for_a_stage_that_it_does_not_know(rt: HostRuntime) {
-    play(
-        &rt,
-        rt.alloc(),
-        with_room(1, 1, 0),
-        &LOOKING,
-        &[End::Events(2)],
-    );
-}
-
-/// What looks for events of others.
-const LOOKS: [Step; 4] = [
-    Step::Acts(Call::Cancel(1), Ok(Reply::Flag(true))),
-    Step::Reads(Ask::Outcome(1), Ok(Told::Outcome(None))),
-    Step::Joins(1, 0, Ok(Joined::NotYet)),
-    Step::FindsReady(None),
-];
-
-/// The second caller knows the stage that the first one attached once it has done this.
-fn find_by<R: Threads + Sync + Abort>(rt: &R, alloc: Global, looks: Step) {
-    let turns = [
-        Turn::First(Step::Acts(ATTACHES, Ok(AT_ONE))),
-        Turn::Second(Step::Knows(1, false)),
-        Turn::Second(looks),
-        Turn::Second(Step::Knows(1, true)),
-    ];
-    play(rt, alloc, with_room(8, 1, 0), &turns, &[]);
-}
-
-#[test]
-fn a_look_finds_an_attached_stage(rt: HostRuntime) {
-    for looks in &LOOKS {
-        find_by(&rt, rt.alloc(), *looks);
-    }
+/// The second caller knows the stage that the first one attached once it has looked for events of others so.
+macro_rules! finds {
+    ($name:expr, $looks:expr) => {
+        Case {
+            name: $name,
+            opening: GROWING,
+            turns: &[
+                Turn::First(Step::Acts(ATTACHES, Ok(AT_ONE))),
+                Turn::Second(Step::Knows(1, false)),
+                Turn::Second($looks),
+                Turn::Second(Step::Knows(1, true)),
+            ],
+            ends: &[],
+        }
+    };
 }
 
 /// A supply is attached and done, while the other caller joins it.
@@ -272,7 +203,71 @@ const JOINED: [End; 3] = [
     End::Records(1, &SAW),
 ];
 
+static CASES: [Case; 19] = [
+    Case {
+        name: "attach seen",
+        opening: GROWING,
+        turns: &SEEING,
+        ends: &SEEN,
+    },
+    Case {
+        name: "what does not fit is refused",
+        opening: Opening {
+            calls: 1,
+            room: Some((1, 1)),
+            ..GROWING
+        },
+        turns: &FITTING,
+        ends: &[End::Events(1)],
+    },
+    Case {
+        name: "a desk without room attaches nothing",
+        opening: SMALL,
+        turns: &WITHOUT_ROOM,
+        ends: &WITHOUT_ROOM_ENDS,
+    },
+    Case {
+        name: "a full pass looks for a stage that it does not know",
+        opening: Opening {
+            calls: 1,
+            ..GROWING
+        },
+        turns: &LOOKING,
+        ends: &[End::Events(2)],
+    },
+    Case {
+        name: "join sees an attached stage",
+        opening: Opening {
+            calls: 3,
+            room: Some((1, 6)),
+            ..GROWING
+        },
+        turns: &JOINING,
+        ends: &JOINED,
+    },
+    has_a_word!("no functions", 0, 0, BAD),
+    has_a_word!("function 4,095 of 4,095", 4_095, 4_095, BAD),
+    has_a_word!("function 4,095 of 4,096", 4_096, 4_095, Ok(FULL)),
+    has_a_word!("function 4,095 of 65,536", 65_536, 4_095, Ok(FULL)),
+    has_a_word!("function 4,096", 65_536, 4_096, BAD),
+    has_a_word!("function 65,535", 65_536, 65_535, BAD),
+    has_a_word!("the most functions", u32::MAX, 0, Ok(FULL)),
+    gets_the_last_room!("the only room", 1, &[], 2),
+    gets_the_last_room!("the second room", 2, &[ATTACHES], 3),
+    gets_the_last_room!("the third room", 3, &[ATTACHES, ATTACHES], 4),
+    finds!(
+        "a call looks",
+        Step::Acts(Call::Cancel(1), Ok(Reply::Flag(true)))
+    ),
+    finds!(
+        "a question looks",
+        Step::Reads(Ask::Outcome(1), Ok(Told::Outcome(None)))
+    ),
+    finds!("a join looks", Step::Joins(1, 0, Ok(Joined::NotYet))),
+    finds!("who asks for work looks", Step::FindsReady(None)),
+];
+
 #[test]
-fn join_sees_an_attached_stage(rt: HostRuntime) {
-    play(&rt, rt.alloc(), with_room(3, 1, 6), &JOINING, &JOINED);
+fn callers_attach_stages(rt: HostRuntime) {
+    play(&rt, rt.alloc(), &CASES);
 }

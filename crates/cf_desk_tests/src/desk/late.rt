@@ -2,7 +2,7 @@
 use crate::checks::{holds, is_shown};
 use crate::desk::desks::Opening;
 use crate::desk::ends::End;
-use crate::desk::steps::{Step, Turn, play};
+use crate::desk::steps::{Case, Step, Turn, play};
 use crate::plans::Row;
 use cf_desk::{Ask, Call, CloseFault, DeskFault, OpenFault, Told};
 use cf_forms::Form;
@@ -59,18 +59,34 @@ const HEEDED: [Turn; 2] = [COMPLETES, Turn::SecondHeeds(&[])];
 /// Nothing of the chain was treated, and all of it is then.
 const LEFT: [End; 2] = [End::Turns(0), End::Nudge(9, 3)];
 
-#[test]
-fn leaves_what_nobody_asks_for(rt: HostRuntime) {
-    play(&rt, rt.alloc(), CHAINED, &READ, &LEFT);
-    play(&rt, rt.alloc(), SECOND_FIRST, &READ, &LEFT);
-    play(&rt, rt.alloc(), CHAINED, &TICKED, &LEFT);
-    for opening in [CHAINED, SECOND_FIRST] {
-        play(&rt, rt.alloc(), opening, &MET, &LEFT);
-        play(&rt, rt.alloc(), opening, &HEEDED, &LEFT);
-    }
+/// Nothing of the chain is treated in these turns.
+macro_rules! leaves {
+    ($name:expr, $opening:expr, $turns:expr) => {
+        Case {
+            name: $name,
+            opening: $opening,
+            turns: $turns,
+            ends: &LEFT,
+        }
+    };
 }
 
-const OPEN_FAULTS: [(OpenFault, &str); 6] = [
+static CASES: [Case; 7] = [
+    leaves!("read", CHAINED, &READ),
+    leaves!("read, the second pass first", SECOND_FIRST, &READ),
+    leaves!("ticked", CHAINED, &TICKED),
+    leaves!("met", CHAINED, &MET),
+    leaves!("heeded", CHAINED, &HEEDED),
+    leaves!("met, the second pass first", SECOND_FIRST, &MET),
+    leaves!("heeded, the second pass first", SECOND_FIRST, &HEEDED),
+];
+
+#[test]
+fn leaves_what_nobody_asks_for(rt: HostRuntime) {
+    play(&rt, rt.alloc(), &CASES);
+}
+
+static OPEN_FAULTS: [(OpenFault, &str); 6] = [
     (OpenFault::NoMemory, "NoMemory"),
     (OpenFault::Callers, "Callers"),
     (OpenFault::Log, "Log"),
@@ -79,7 +95,7 @@ const OPEN_FAULTS: [(OpenFault, &str); 6] = [
     (OpenFault::Functions, "Functions"),
 ];
 
-const DESK_FAULTS: [(DeskFault, &str); 4] = [
+static DESK_FAULTS: [(DeskFault, &str); 4] = [
     (DeskFault::NoStage, "NoStage"),
     (DeskFault::BadAttach, "BadAttach"),
     (DeskFault::LogFull, "LogFull"),

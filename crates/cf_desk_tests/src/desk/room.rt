@@ -113,7 +113,7 @@ fn opened(alloc: Global, plan: Plan, sizes: Sizes) -> Result<u32, OpenFault> {
 }
 
 /// Edges, room, and what the smallest desk of a plan with so many edges answers that is asked for with so much.
-const ROOMS: [(u16, u16, Result<u32, OpenFault>); 10] = [
+static ROOMS: [(u16, u16, Result<u32, OpenFault>); 10] = [
     (0, 4_094, Ok(0)),
     (0, 4_095, Err(OpenFault::Room)),
     (0, 65_535, Err(OpenFault::Room)),
@@ -155,7 +155,7 @@ fn functions_of(rt: &impl Abort, alloc: Global, plan: Plan) -> u32 {
 }
 
 /// The functions of supplies, and the least number that they are below.
-const BOUNDS: [(&[u16], u32); 4] = [
+static BOUNDS: [(&[u16], u32); 4] = [
     (&[0], 1),
     (&[7, 2], 8),
     (&[2, 7], 8),
@@ -188,7 +188,7 @@ fn refuses_too_few_functions(rt: HostRuntime) {
 }
 
 /// Sizes, and what is told of them.
-const WRONG: [(Sizes, OpenFault); 6] = [
+static WRONG: [(Sizes, OpenFault); 6] = [
     (Sizes(0, 0, 0, 4_096, 0), OpenFault::Callers),
     (Sizes(65, 0, 0, 4_096, 0), OpenFault::Callers),
     (Sizes(1, 0, 0, 4_096, 0), OpenFault::Log),

@@ -122,41 +122,41 @@ fn is_taken<R: Threads + Sync>(rt: &R, desk: &Desk, a: &mut Pass, b: &mut Pass, 
     }
 }
 
-/// The callers take these turns, and each is answered as it says.
-fn take<R: Threads + Sync + Abort>(rt: &R, desk: &Desk, a: &mut Pass, b: &mut Pass, turns: &[Turn])
+/// A desk for two callers, their turns, and what it has once it is closed.
+#[derive(Clone, Copy)]
+pub(crate) struct Case {
+    pub(crate) name: &'static str,
+    pub(crate) opening: Opening,
+    pub(crate) turns: &'static [Turn],
+    pub(crate) ends: &'static [End],
+}
+
+/// The callers take the turns of a case, and each is answered as it says.
+fn take<R: Threads + Sync + Abort>(rt: &R, desk: &Desk, a: &mut Pass, b: &mut Pass, case: &Case)
     requires { (a.old.table ≡ desk.now.table) × (b.old.table ≡ desk.now.table) }
     ensures { (a.new.table ≡ a.old.table) × (b.new.table ≡ b.old.table) }
 {
-    'turns: for (at, turn) in turns.iter().enumerate() {
-        holds(rt, is_taken(rt, desk, a, b, *turn), ("turn", at));
+    'turns: for (at, turn) in case.turns.iter().enumerate() {
+        holds(rt, is_taken(rt, desk, a, b, *turn), (case.name, "turn", at));
     }
 }
 
-/// The desk that is opened so, on which its callers took these turns, closed.
-fn closed<R: Threads + Sync + Abort>(
-    rt: &R,
-    alloc: Global,
-    opening: Opening,
-    turns: &[Turn],
-) -> Closed {
-    let (desk, mut a, mut b) = open_two(rt, alloc, opening);
-    take(rt, &desk, &mut a, &mut b, turns);
-    if opening.second_first {
+/// The desk of a case, on which its callers took their turns, closed.
+fn closed<R: Threads + Sync + Abort>(rt: &R, alloc: Global, case: &Case) -> Closed {
+    let (desk, mut a, mut b) = open_two(rt, alloc, case.opening);
+    take(rt, &desk, &mut a, &mut b, case);
+    if case.opening.second_first {
         close_two(rt, alloc, desk, b, a)
     } else {
         close_two(rt, alloc, desk, a, b)
     }
 }
 
-/// Opens a desk, lets its callers take these turns, and closes it. Then it has what `ends` says.
-pub(crate) fn play<R: Threads + Sync + Abort>(
-    rt: &R,
-    alloc: Global,
-    opening: Opening,
-    turns: &[Turn],
-    ends: &[End],
-) {
-    let mut closed = closed(rt, alloc, opening, turns);
-    check_ends(rt, &mut closed, ends);
-    drop(closed);
+/// Opens the desk of each case, lets its callers take their turns, and closes it. Then it has what `ends` says.
+pub(crate) fn play<R: Threads + Sync + Abort>(rt: &R, alloc: Global, cases: &[Case]) {
+    for case in cases {
+        let mut closed = closed(rt, alloc, case);
+        check_ends(rt, &mut closed, case.name, case.ends);
+        drop(closed);
+    }
 }

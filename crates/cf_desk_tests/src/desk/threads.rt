@@ -3,9 +3,9 @@ ghost use Rattle.std.specs.Prelude.{◌≡◌, ◌<◌, All, length, vec_len};
 
 use crate::checks::{must, same};
 use crate::desk::beside::Work;
-use crate::desk::desks::{open_desk, small};
+use crate::desk::desks::{SMALL, open_desk};
 use crate::desk::ends::{End, calls_in_order, replied_to_all};
-use crate::desk::steps::{Turn, play};
+use crate::desk::steps::{Case, Turn, play};
 use crate::plans::{SOURCE_AND_SUPPLY, plan_of};
 use cf_desk::{Ask, Call, Closed, Desk, DeskFault, DeskSizes, Pass, Rec, Told};
 use cf_model::{Reply, Ticked};
@@ -32,11 +32,6 @@ const ONE_SETTLES: [End; 4] = [
     End::EndsWithRefusedCancel(1),
 ];
 
-#[test]
-fn one_of_three_completions_settles(rt: HostRuntime) {
-    play(&rt, rt.alloc(), small(4, 4), &COMPLETIONS, &ONE_SETTLES);
-}
-
 /// A completion of the stage that the other caller joins.
 const COMPLETES: Work = Work {
     before: &[],
@@ -50,15 +45,24 @@ const SAW: [Rec; 1] = [Rec::Saw {
     told: Told::Outcome(Some(Outcome::Value(Value::Int(6)))),
 }];
 
+static CASES: [Case; 2] = [
+    Case {
+        name: "one of three completions settles",
+        opening: SMALL,
+        turns: &COMPLETIONS,
+        ends: &ONE_SETTLES,
+    },
+    Case {
+        name: "join sees other",
+        opening: SMALL,
+        turns: &[Turn::FirstJoins(COMPLETES)],
+        ends: &[End::Records(0, &SAW)],
+    },
+];
+
 #[test]
-fn join_sees_other(rt: HostRuntime) {
-    play(
-        &rt,
-        rt.alloc(),
-        small(4, 4),
-        &[Turn::FirstJoins(COMPLETES)],
-        &[End::Records(0, &SAW)],
-    );
+fn callers_work_on_threads(rt: HostRuntime) {
+    play(&rt, rt.alloc(), &CASES);
 }
 
 /// Fifty ticks of one pass. Those that a full log refuses are counted.
@@ -96,7 +100,7 @@ fn ticked<R: Threads + Sync + Abort>(rt: &R, alloc: Global, log: u16) -> (u32, C
     (full.load(Ordering::SeqCst), must(rt, desk.close(passes)))
 }
 
-const TICKS: [Call; 50] = [Call::Tick(0); 50];
+static TICKS: [Call; 50] = [Call::Tick(0); 50];
 
 /// A log of so many words refuses so many ticks of four callers, and has all others in order.
 fn check_ticks<R: Threads + Sync + Abort>(rt: &R, alloc: Global, log: u16, refused: u32) {

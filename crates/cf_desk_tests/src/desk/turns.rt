@@ -1,7 +1,7 @@
 //! Two callers that take turns.
-use crate::desk::desks::small;
+use crate::desk::desks::{Opening, SMALL};
 use crate::desk::ends::End;
-use crate::desk::steps::{Step, Turn, play};
+use crate::desk::steps::{Case, Step, Turn, play};
 use cf_desk::{Ask, Call, DeskFault, Joined, Rec, Told};
 use cf_forms::{Answer, Args};
 use cf_model::{Claimed, Event, Failure, Finished, Reply, Ticked};
@@ -48,11 +48,6 @@ const READS: [End; 1] = [End::Records(
     ],
 )];
 
-#[test]
-fn reads_what_a_joined_thread_did(rt: HostRuntime) {
-    play(&rt, rt.alloc(), small(4, 4), &JOINED, &READS);
-}
-
 /// What the log of two words has.
 const TWO_EVENTS: [Event; 2] = [
     Event::Complete {
@@ -72,11 +67,6 @@ const FULL_LOG: [Turn; 5] = [
 ];
 
 const FULL_LOG_ENDS: [End; 2] = [End::Keeps(0, 3), End::History(&TWO_EVENTS)];
-
-#[test]
-fn a_full_log_refuses_calls_and_answers_reads(rt: HostRuntime) {
-    play(&rt, rt.alloc(), small(2, 4), &FULL_LOG, &FULL_LOG_ENDS);
-}
 
 /// What the pass with room for two records keeps.
 const TWO_RECORDS: [Rec; 2] = [
@@ -99,17 +89,6 @@ const FULL_PASS: [Turn; 5] = [
     Turn::First(Step::Reads(NOW, Err(DeskFault::PassFull))),
     Turn::First(Step::Acts(Call::Tick(1), Err(DeskFault::PassFull))),
 ];
-
-#[test]
-fn a_full_pass_is_told_before_a_full_log(rt: HostRuntime) {
-    play(
-        &rt,
-        rt.alloc(),
-        small(2, 2),
-        &FULL_PASS,
-        &[End::Records(0, &TWO_RECORDS)],
-    );
-}
 
 const TIMED_OUT: Cause = Cause::TimedOut(7);
 
@@ -144,11 +123,6 @@ const CODES_ENDS: [End; 1] = [End::History(&[
     },
 ])];
 
-#[test]
-fn failures_have_codes(rt: HostRuntime) {
-    play(&rt, rt.alloc(), small(4, 4), &CODES, &CODES_ENDS);
-}
-
 const MEETING: [Turn; 12] = [
     Turn::First(Step::Acts(COMPLETES, Ok(Reply::Flag(true)))),
     Turn::First(Step::Has(1, 3)),
@@ -163,11 +137,6 @@ const MEETING: [Turn; 12] = [
     Turn::First(Step::Has(2, 3)),
     Turn::Second(Step::Has(2, 3)),
 ];
-
-#[test]
-fn meet_levels(rt: HostRuntime) {
-    play(&rt, rt.alloc(), small(4, 4), &MEETING, &[End::Events(2)]);
-}
 
 const HEEDING: [Turn; 12] = [
     Turn::First(Step::Acts(COMPLETES, Ok(Reply::Flag(true)))),
@@ -184,11 +153,6 @@ const HEEDING: [Turn; 12] = [
     Turn::First(Step::Has(3, 2)),
 ];
 
-#[test]
-fn a_notice_is_heeded_on_another_thread(rt: HostRuntime) {
-    play(&rt, rt.alloc(), small(4, 4), &HEEDING, &[End::Events(3)]);
-}
-
 const WORKING: [Turn; 5] = [
     Turn::First(Step::FindsReady(Some(1))),
     Turn::First(Step::Acts(Call::Claim(1), Ok(CLAIMED))),
@@ -196,11 +160,6 @@ const WORKING: [Turn; 5] = [
     Turn::First(Step::FindsReady(None)),
     Turn::First(Step::Joins(1, 0, Ok(Joined::Value(Value::Int(4))))),
 ];
-
-#[test]
-fn a_caller_does_the_ready_work(rt: HostRuntime) {
-    play(&rt, rt.alloc(), small(4, 4), &WORKING, &[End::Events(2)]);
-}
 
 const TOLD_OF_SIZES: [Turn; 6] = [
     Turn::DeskIsFor(4, 2, 4),
@@ -210,11 +169,6 @@ const TOLD_OF_SIZES: [Turn; 6] = [
     Turn::DeskHas(2, false),
     Turn::DeskFunction(1, Some(3)),
 ];
-
-#[test]
-fn a_desk_and_its_passes_tell_what_they_are(rt: HostRuntime) {
-    play(&rt, rt.alloc(), small(4, 7), &TOLD_OF_SIZES, &[]);
-}
 
 const HOLDING: [Turn; 12] = [
     Turn::First(Step::Holds(1, false)),
@@ -231,7 +185,68 @@ const HOLDING: [Turn; 12] = [
     Turn::First(Step::Holds(1, false)),
 ];
 
+static CASES: [Case; 9] = [
+    Case {
+        name: "reads what a joined thread did",
+        opening: SMALL,
+        turns: &JOINED,
+        ends: &READS,
+    },
+    Case {
+        name: "a full log refuses calls and answers reads",
+        opening: Opening { log: 2, ..SMALL },
+        turns: &FULL_LOG,
+        ends: &FULL_LOG_ENDS,
+    },
+    Case {
+        name: "a full pass is told before a full log",
+        opening: Opening {
+            log: 2,
+            calls: 2,
+            ..SMALL
+        },
+        turns: &FULL_PASS,
+        ends: &[End::Records(0, &TWO_RECORDS)],
+    },
+    Case {
+        name: "failures have codes",
+        opening: SMALL,
+        turns: &CODES,
+        ends: &CODES_ENDS,
+    },
+    Case {
+        name: "meet levels",
+        opening: SMALL,
+        turns: &MEETING,
+        ends: &[End::Events(2)],
+    },
+    Case {
+        name: "a notice is heeded on another thread",
+        opening: SMALL,
+        turns: &HEEDING,
+        ends: &[End::Events(3)],
+    },
+    Case {
+        name: "a caller does the ready work",
+        opening: SMALL,
+        turns: &WORKING,
+        ends: &[End::Events(2)],
+    },
+    Case {
+        name: "a desk and its passes tell what they are",
+        opening: Opening { calls: 7, ..SMALL },
+        turns: &TOLD_OF_SIZES,
+        ends: &[],
+    },
+    Case {
+        name: "a claim is held by its caller until it finishes",
+        opening: SMALL,
+        turns: &HOLDING,
+        ends: &[End::Events(3)],
+    },
+];
+
 #[test]
-fn a_claim_is_held_by_its_caller_until_it_finishes(rt: HostRuntime) {
-    play(&rt, rt.alloc(), small(4, 4), &HOLDING, &[End::Events(3)]);
+fn two_callers_take_turns(rt: HostRuntime) {
+    play(&rt, rt.alloc(), &CASES);
 }

@@ -1,15 +1,14 @@
 ghost use Rattle.std.specs.Prelude.{◌≡◌, true};
 ghost use Rattle.cf_forms.specs.Plans.{has_place};
 
-use crate::checks::{holds, must};
-use crate::ledger::steps::{Step, plan, take};
+use crate::checks::holds;
+use crate::ledger::steps::{Case, Step, plan, play};
 use cf_forms::{Answer, Args};
 use cf_ledger::{Finish, Held, Ledger, LedgerFault, Misfit, Reply, Stage, StepFault, Taken};
 use cf_model::{Attached, Claimed, Finished};
 use cf_outcome::{Outcome, Value};
 use cf_plan::Plan;
 use std::alloc::Global;
-use std::process::Abort;
 
 /// The source is given 5.
 const COMPLETE: u64 = 0x0100000100000005;
@@ -22,7 +21,7 @@ const ATTACH: u64 = 0x0700000103000000;
 /// A claim of stage 9.
 const NO_STAGE: u64 = 0x0400009000000000;
 
-/// All that is done in the first test, in order.
+/// All that is done in the first case, in order.
 const WORDS: [u64; 6] = [COMPLETE, COMPLETE, CLAIM, FINISH, ATTACH, ATTACH];
 
 /// What the graph of these words is like.
@@ -48,7 +47,7 @@ const AFTER: [Step; 19] = [
     Step::NextReady(4, None),
 ];
 
-/// What each word of the first test is answered, and those between them that are refused.
+/// What each word of the first case is answered, and those between them that are refused.
 const STEPS: [Step; 13] = [
     Step::LowestReady(None),
     Step::Apply(COMPLETE, Ok(Reply::Flag(true))),
@@ -68,36 +67,8 @@ const STEPS: [Step; 13] = [
     Step::Apply(ATTACH, Ok(Reply::Attach(Attached::At(3)))),
 ];
 
-/// A ledger with so much room.
-fn opened(rt: &impl Abort, alloc: Global, room: u16) -> Ledger {
-    let plan = plan(rt, alloc, room);
-    must(rt, Ledger::new(alloc, &plan, room))
-}
-
-#[test]
-fn words_are_done_and_written(rt: HostRuntime) {
-    let mut ledger = opened(&rt, rt.alloc(), 1);
-    take(&rt, rt.alloc(), &mut ledger, &STEPS);
-    take(&rt, rt.alloc(), &mut ledger, &AFTER);
-    drop(ledger);
-}
-
-/// A ledger of the words of the first test.
-fn made_again(rt: &impl Abort, alloc: Global) -> Ledger {
-    let plan = plan(rt, alloc, 3);
-    must(rt, Ledger::of_words(alloc, &plan, 3, &WORDS))
-}
-
-/// The words of a ledger make the same one again.
-#[test]
-fn a_ledger_is_made_of_its_words(rt: HostRuntime) {
-    let mut ledger = made_again(&rt, rt.alloc());
-    take(&rt, rt.alloc(), &mut ledger, &AFTER);
-    drop(ledger);
-}
-
 /// Words of which one can't be done with room for one stage: the place of the first, and why.
-const MISFITS: [(&[u64], usize, LedgerFault); 4] = [
+static MISFITS: [(&[u64], usize, LedgerFault); 4] = [
     (&[0], 0, LedgerFault::NoEvent),
     (&[COMPLETE, CLAIM, NO_STAGE, 0], 2, LedgerFault::NoStage),
     (&[ATTACH, ATTACH, ATTACH], 1, LedgerFault::NoRoom),
@@ -202,9 +173,28 @@ const BY_STEPS: [Step; 19] = [
     Step::Words(&[COMPLETE, CLAIM, CANCEL, FINISH]),
 ];
 
+static CASES: [Case; 3] = [
+    Case {
+        name: "words are done and written",
+        room: 1,
+        words: &[],
+        parts: &[&STEPS, &AFTER],
+    },
+    Case {
+        name: "a ledger is made of its words",
+        room: 3,
+        words: &WORDS,
+        parts: &[&AFTER],
+    },
+    Case {
+        name: "a step finishes and takes",
+        room: 0,
+        words: &[],
+        parts: &[&BY_STEPS],
+    },
+];
+
 #[test]
-fn a_step_finishes_and_takes(rt: HostRuntime) {
-    let mut ledger = opened(&rt, rt.alloc(), 0);
-    take(&rt, rt.alloc(), &mut ledger, &BY_STEPS);
-    drop(ledger);
+fn ledgers_answer_so(rt: HostRuntime) {
+    play(&rt, rt.alloc(), &CASES);
 }

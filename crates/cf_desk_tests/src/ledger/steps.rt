@@ -2,7 +2,7 @@
 ghost use Rattle.std.specs.Prelude.{◌≡◌, true};
 ghost use Rattle.cf_forms.specs.Plans.{has_place};
 
-use crate::checks::holds;
+use crate::checks::{holds, must};
 use crate::plans::{SOURCE_AND_APPLY, plan_of};
 use cf_ledger::{Held, Ledger, LedgerFault, Misfit, Reply, Stage, StepFault};
 use cf_outcome::Outcome;
@@ -77,9 +77,39 @@ fn is_answered(alloc: Global, ledger: &mut Ledger, step: Step) -> bool {
     }
 }
 
-/// The ledger takes these steps, and each is answered as it says.
-pub(crate) fn take(rt: &impl Abort, alloc: Global, ledger: &mut Ledger, steps: &[Step]) {
-    for (at, step) in steps.iter().enumerate() {
-        holds(rt, is_answered(alloc, ledger, *step), ("step", at));
+/// A ledger with so much room, of these words if there are any, and the parts of what it does.
+#[derive(Clone, Copy)]
+pub(crate) struct Case {
+    pub(crate) name: &'static str,
+    pub(crate) room: u16,
+    pub(crate) words: &'static [u64],
+    pub(crate) parts: &'static [&'static [Step]],
+}
+
+/// The ledger of a case.
+fn opened(rt: &impl Abort, alloc: Global, case: &Case) -> Ledger {
+    let plan = plan(rt, alloc, case.room);
+    if case.words.is_empty() {
+        must(rt, Ledger::new(alloc, &plan, case.room))
+    } else {
+        must(rt, Ledger::of_words(alloc, &plan, case.room, case.words))
+    }
+}
+
+/// The ledger takes the steps of a case, and each is answered as it says.
+fn take(rt: &impl Abort, alloc: Global, ledger: &mut Ledger, case: &Case) {
+    for (part, steps) in case.parts.iter().enumerate() {
+        for (at, step) in steps.iter().enumerate() {
+            holds(rt, is_answered(alloc, ledger, *step), (case.name, part, at));
+        }
+    }
+}
+
+/// The ledger of each case takes its steps.
+pub(crate) fn play(rt: &impl Abort, alloc: Global, cases: &[Case]) {
+    for case in cases {
+        let mut ledger = opened(rt, alloc, case);
+        take(rt, alloc, &mut ledger, case);
+        drop(ledger);
     }
 }

@@ -108,7 +108,7 @@ fn worked_beside<R: Threads + Sync + Abort>(rt: &R, alloc: Global) -> Ended {
 }
 
 /// What the caller and its worker do, in the only order that they can.
-const HISTORY: [Event; 8] = [
+static HISTORY: [Event; 8] = [
     Event::Claim { who: 1, stage: 0 },
     Event::Attach {
         who: 0,
@@ -176,7 +176,7 @@ fn run_attached<R: Threads + Wait + Sync + Abort>(rt: &R, alloc: Global) -> Ende
     ran(rt, desk, passes, &FUNCTIONS, &NoGate, 2)
 }
 
-const ATTACHED_DONE: [End; 5] = [
+static ATTACHED_DONE: [End; 5] = [
     End::Fault(None),
     End::Has(0, FOUR),
     End::Has(1, SEVEN),

@@ -25,8 +25,6 @@ pub(crate) enum End {
     Has(u16, Option<Outcome>),
     /// So many events.
     Events(usize),
-    /// At least so many events.
-    AtLeast(usize),
     History(&'static [Event]),
     /// So many passes were handed in.
     Passes(usize),
@@ -38,18 +36,12 @@ pub(crate) enum End {
     IsReady(bool),
 }
 
-/// What a stage is settled with that gives 3, and so on.
-pub(crate) const THREE: Option<Outcome> = Some(Outcome::Value(Value::Int(3)));
-
+/// What a stage is settled with that gives 4, and so on.
 pub(crate) const FOUR: Option<Outcome> = Some(Outcome::Value(Value::Int(4)));
-
-pub(crate) const FIVE: Option<Outcome> = Some(Outcome::Value(Value::Int(5)));
 
 pub(crate) const SIX: Option<Outcome> = Some(Outcome::Value(Value::Int(6)));
 
 pub(crate) const SEVEN: Option<Outcome> = Some(Outcome::Value(Value::Int(7)));
-
-pub(crate) const NINE: Option<Outcome> = Some(Outcome::Value(Value::Int(9)));
 
 /// Whether a stage is there and has this outcome.
 fn has_outcome(graph: &mut Graph, stage: u16, outcome: Option<Outcome>) -> bool {
@@ -74,7 +66,6 @@ fn is_so(ended: &mut Ended, end: End) -> bool {
         End::Did(done) => ended.done == Some(done),
         End::Has(stage, outcome) => has_outcome(&mut ended.closed.graph, stage, outcome),
         End::Events(count) => ended.closed.history.len() == count,
-        End::AtLeast(count) => ended.closed.history.len() >= count,
         End::History(events) => ended.closed.history.as_slice() == events,
         End::Passes(count) => ended.closed.passes.len() == count,
         End::Settled(stages, count) => settled(&mut ended.closed.graph, stages) == count,
@@ -89,23 +80,4 @@ pub(crate) fn check_ends(rt: &impl Abort, mut ended: Ended, ends: &[End]) {
         holds(rt, is_so(&mut ended, *end), ("end", at));
     }
     drop(ended);
-}
-
-/// A graph that so many workers left has these stages, which have these outcomes.
-pub(crate) fn check_outcomes(
-    rt: &impl Abort,
-    mut graph: Graph,
-    outcomes: &[Option<Outcome>],
-    workers: u8,
-) {
-    holds(
-        rt,
-        graph.stages() as usize == outcomes.len(),
-        ("workers", workers),
-    );
-    for (stage, outcome) in outcomes.iter().enumerate() {
-        let is_so = has_outcome(&mut graph, stage as u16, *outcome);
-        holds(rt, is_so, ("stage", stage, "workers", workers));
-    }
-    drop(graph);
 }

@@ -70,7 +70,7 @@ fn answer_after(notes: usize) -> Answer {
 }
 
 /// Two supplies, each with a function of it. The function of stage i has the number 3 - i.
-const ROWS: [Row<'static>; 4] = [
+static ROWS: [Row<'static>; 4] = [
     (Form::Supply, &[], Some(3)),
     (Form::Supply, &[], Some(2)),
     (Form::Apply, &[0], Some(1)),

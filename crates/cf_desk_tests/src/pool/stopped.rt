@@ -67,7 +67,7 @@ const THREE: Done = Done {
     late: 0,
 };
 
-const TURNS_DONE: [End; 6] = [
+static TURNS_DONE: [End; 6] = [
     End::Fault(Some(DeskFault::PassFull)),
     End::Did(ONE),
     End::History(&IN_TURN),
@@ -81,7 +81,7 @@ fn the_next_does_what_a_full_pass_left(rt: HostRuntime) {
     check_ends(&rt, work_in_turn(&rt, rt.alloc()), &TURNS_DONE);
 }
 
-const FULL_LOG: [End; 3] = [
+static FULL_LOG: [End; 3] = [
     End::Fault(Some(DeskFault::LogFull)),
     End::Events(3),
     End::IsReady(true),
@@ -191,7 +191,7 @@ fn stopped_beside<R: Threads + Sync + Abort>(rt: &R, alloc: Global) -> Ended {
     ended_two(rt, alloc, desk, first, second, fault, done)
 }
 
-const BESIDE_DONE: [End; 4] = [
+static BESIDE_DONE: [End; 4] = [
     End::Fault(Some(DeskFault::PassFull)),
     End::Did(THREE),
     End::SettledAtLeast(4, 3),

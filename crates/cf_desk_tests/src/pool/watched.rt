@@ -288,7 +288,7 @@ fn race_watched<R: Threads + Wait + Sync + Abort>(
 {
     let fns = functions(rt, alloc, watch, stages);
     let plan = supplies(rt, alloc, stages);
-    drop(raced(rt, alloc, plan, 0, &[], &fns, watch, workers));
+    raced(rt, alloc, plan, &fns, watch, workers);
     drop(fns);
 }
 

@@ -13,7 +13,7 @@ use std::process::Abort;
 use std::sync::Wait;
 use std::thread::Threads;
 
-const CLAIM: [Event; 1] = [Event::Claim { who: 1, stage: 0 }];
+static CLAIM: [Event; 1] = [Event::Claim { who: 1, stage: 0 }];
 
 /// What stops a worker over one supply, whose claim it leaves open, with a log of so many words and room for so many records.
 fn check_stopped<R: Threads + Wait + Sync + Abort>(
@@ -40,7 +40,7 @@ fn a_stopped_worker_leaves_its_claim_open(rt: HostRuntime) {
 }
 
 /// A supply, and a function of it.
-const CHAIN: [Row<'static>; 2] = [(Form::Supply, &[], Some(0)), (Form::Apply, &[0], Some(3))];
+static CHAIN: [Row<'static>; 2] = [(Form::Supply, &[], Some(0)), (Form::Apply, &[0], Some(3))];
 
 /// A desk over both, for so many workers.
 fn over_chain(workers: u8, log: u16) -> Opening
@@ -55,7 +55,7 @@ fn over_chain(workers: u8, log: u16) -> Opening
     }
 }
 
-const CHAIN_DONE: [End; 4] = [
+static CHAIN_DONE: [End; 4] = [
     End::Fault(None),
     End::Has(0, FOUR),
     End::Has(1, SEVEN),

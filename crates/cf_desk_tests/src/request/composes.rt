@@ -1,5 +1,5 @@
 //! Composes whose functions answer stages that aren't lower.
-use crate::request::steps::{Step, opened_with, take};
+use crate::request::steps::{Case, Step, play};
 use cf_forms::{Args, LimitKind};
 use cf_ledger::{Finish, LedgerFault, Reply, StepFault, Taken};
 use cf_model::Attached;
@@ -181,22 +181,45 @@ const CANCELLED: Outcome = Outcome::Fault {
     wrapped: false,
 };
 
-/// How much room there is, and what is done.
-const COMPOSES: [(u16, &[Step]); 7] = [
-    (3, &LATER),
-    (2, &SETTLED_BY_THEN),
-    (2, &AMONG_MANY),
-    (2, &TOO_LATE),
-    (4, &IN_A_CIRCLE),
-    (2, &BY_ITSELF),
-    (2, &NO_FAULT),
+static CASES: [Case; 7] = [
+    Case {
+        name: "a compose answers what came later",
+        room: 3,
+        parts: &[&LATER],
+    },
+    Case {
+        name: "what is settled by then",
+        room: 2,
+        parts: &[&SETTLED_BY_THEN],
+    },
+    Case {
+        name: "among many relays",
+        room: 2,
+        parts: &[&AMONG_MANY],
+    },
+    Case {
+        name: "a compose that is cancelled",
+        room: 2,
+        parts: &[&TOO_LATE],
+    },
+    Case {
+        name: "two in a circle",
+        room: 4,
+        parts: &[&IN_A_CIRCLE],
+    },
+    Case {
+        name: "a compose answers itself",
+        room: 2,
+        parts: &[&BY_ITSELF],
+    },
+    Case {
+        name: "no fault",
+        room: 2,
+        parts: &[&NO_FAULT],
+    },
 ];
 
 #[test]
 fn composes_answer_any_stage(rt: HostRuntime) {
-    for (room, steps) in &COMPOSES {
-        let mut machine = opened_with(&rt, rt.alloc(), *room);
-        take(&rt, &mut machine, steps);
-        drop(machine);
-    }
+    play(&rt, rt.alloc(), &CASES);
 }

@@ -1,5 +1,4 @@
-use crate::checks::{holds, must};
-use crate::request::steps::{Step, opened, opened_with, take};
+use crate::request::steps::{Case, Step, play};
 use cf_forms::{Answer, Args, LimitKind};
 use cf_ledger::{Finish, Held, LedgerFault, Reply, StepFault, Taken};
 use cf_model::Attached;
@@ -88,13 +87,6 @@ const BY_LANES: [Step; 21] = [
     Step::Told(&[]),
 ];
 
-#[test]
-fn runs_by_lanes(rt: HostRuntime) {
-    let mut machine = opened(&rt, rt.alloc());
-    take(&rt, &mut machine, &BY_LANES);
-    drop(machine);
-}
-
 const ATTACHES: [Step; 5] = [
     Step::Apply(ATTACH, 3, Ok(Reply::Attach(Attached::At(7)))),
     Step::Apply(ATTACH, 3, Err(LedgerFault::NoRoom)),
@@ -104,7 +96,8 @@ const ATTACHES: [Step; 5] = [
 ];
 
 /// Once there is room, all is as it was, and one more is attached.
-const GROWN: [Step; 6] = [
+const GROWN: [Step; 7] = [
+    Step::Grow(16),
     Step::Told(&[1]),
     Step::Len(2),
     Step::Ready(2, 1),
@@ -113,21 +106,11 @@ const GROWN: [Step; 6] = [
     Step::Ready(3, 2),
 ];
 
-#[test]
-fn attached_stages_have_lanes(rt: HostRuntime) {
-    let mut machine = opened(&rt, rt.alloc());
-    take(&rt, &mut machine, &ATTACHES);
-    must(&rt, machine.grow(rt.alloc()));
-    holds(&rt, machine.ledger().room() == 16, "room");
-    take(&rt, &mut machine, &GROWN);
-    drop(machine);
-}
-
 /// It cancels source 2.
 const CANCEL_2: u64 = 0x0300002000000000;
 
 /// Stages 7, 8 and 9 gather four, one of them twice.
-const GATHERS: [Step; 11] = [
+const GATHERS: [Step; 12] = [
     Step::Gather(64, Gathering::AllOf, &[7], Err(LedgerFault::NoEvent)),
     Step::Gather(7, Gathering::AllOf, &[0, 1, 7], Err(LedgerFault::NoStage)),
     Step::Gather(
@@ -144,15 +127,8 @@ const GATHERS: [Step; 11] = [
     Step::Apply(CANCEL_2, 0, SETTLED),
     Step::Apply(COMPLETE_1, 0, SETTLED),
     Step::Told(&[0, 2, 1, 7, 8, 9]),
+    Step::Ends(9, PASSED_ON),
 ];
-
-#[test]
-fn gathers_any_number(rt: HostRuntime) {
-    let mut machine = opened_with(&rt, rt.alloc(), 3);
-    take(&rt, &mut machine, &GATHERS);
-    take(&rt, &mut machine, &[Step::Ends(9, PASSED_ON)]);
-    drop(machine);
-}
 
 /// A cancellation, as it is passed on.
 const PASSED_ON: Outcome = Outcome::Fault {
@@ -193,36 +169,25 @@ const FOLLOWS: [Step; 4] = [
     Step::Follow(7, 2, Err(MachineFault::NoStage)),
 ];
 
-/// What source 0 ends as by these words.
-const ENDS: [(u64, Outcome); 6] = [
-    (COMPLETE_0, Outcome::Value(Value::Int(5))),
-    (CANCEL_0, CANCELLED),
-    (TIMED_OUT_0, TIMED_OUT),
-    (BAD_ANSWER_0, BAD_ANSWER),
-    (TIMED_OUT_0_BY_7, TIMED_OUT_BY_7),
-    (BAD_ANSWER_0_BY_THE_LAST, BAD_ANSWER_BY_THE_LAST),
-];
-
 /// Both relays end as source 0 does by this word, by two words more, and so does one that follows later.
-fn alike(word: u64, outcome: Outcome) -> [Step; 6] {
-    [
-        Step::Apply(word, 0, SETTLED),
-        Step::Ends(2, outcome),
-        Step::Ends(1, outcome),
-        Step::Len(3),
-        Step::Follow(3, 1, Ok(())),
-        Step::Ends(3, outcome),
-    ]
-}
-
-#[test]
-fn relays_end_as_their_stages(rt: HostRuntime) {
-    for (word, outcome) in &ENDS {
-        let mut machine = opened(&rt, rt.alloc());
-        take(&rt, &mut machine, &FOLLOWS);
-        take(&rt, &mut machine, &alike(*word, *outcome));
-        drop(machine);
-    }
+macro_rules! relays_end {
+    ($name:expr, $word:expr, $outcome:expr) => {
+        Case {
+            name: $name,
+            room: 1,
+            parts: &[
+                &FOLLOWS,
+                &[
+                    Step::Apply($word, 0, SETTLED),
+                    Step::Ends(2, $outcome),
+                    Step::Ends(1, $outcome),
+                    Step::Len(3),
+                    Step::Follow(3, 1, Ok(())),
+                    Step::Ends(3, $outcome),
+                ],
+            ],
+        }
+    };
 }
 
 /// Stage 1 times out at moment 30, and stage 2 at 20.
@@ -297,14 +262,6 @@ const AT_ONCE: [Step; 5] = [
     Step::NextDeadline(Some(LAST)),
 ];
 
-#[test]
-fn moments_come_in_order(rt: HostRuntime) {
-    let mut machine = opened(&rt, rt.alloc());
-    take(&rt, &mut machine, &BY_MOMENTS);
-    take(&rt, &mut machine, &AT_ONCE);
-    drop(machine);
-}
-
 /// Stage 2 times out at moment 20 with code 7.
 const CODED: Deadline = Deadline {
     stage: 2,
@@ -325,13 +282,6 @@ const BY_A_CODE: [Step; 9] = [
     Step::Ends(3, TIMED_OUT_BY_7),
 ];
 
-#[test]
-fn a_deadline_has_a_code(rt: HostRuntime) {
-    let mut machine = opened(&rt, rt.alloc());
-    take(&rt, &mut machine, &BY_A_CODE);
-    drop(machine);
-}
-
 /// There is no place for the ninth. So the first, whose stage is settled, is forgotten.
 const MANY: [Step; 15] = [
     Step::Apply(COMPLETE_0, 0, SETTLED),
@@ -351,13 +301,6 @@ const MANY: [Step; 15] = [
     Step::NextDeadline(None),
 ];
 
-#[test]
-fn settled_deadlines_make_place(rt: HostRuntime) {
-    let mut machine = opened(&rt, rt.alloc());
-    take(&rt, &mut machine, &MANY);
-    drop(machine);
-}
-
 const THROWN: Outcome = Outcome::Fault {
     cause: Cause::Thrown(40),
     wrapped: false,
@@ -373,13 +316,6 @@ const REFUSES: [Step; 6] = [
     Step::Ready(2, 1),
 ];
 
-#[test]
-fn a_refused_lane_fails(rt: HostRuntime) {
-    let mut machine = opened(&rt, rt.alloc());
-    take(&rt, &mut machine, &REFUSES);
-    drop(machine);
-}
-
 /// Source 1 follows source 3. All that is open then is cancelled, and the applies with their sources.
 const CANCELS: [Step; 9] = [
     Step::Follow(1, 3, Ok(())),
@@ -392,13 +328,6 @@ const CANCELS: [Step; 9] = [
     Step::Ends(4, CANCELLED),
     Step::CancelAll(7, Ok(())),
 ];
-
-#[test]
-fn all_is_cancelled(rt: HostRuntime) {
-    let mut machine = opened(&rt, rt.alloc());
-    take(&rt, &mut machine, &CANCELS);
-    drop(machine);
-}
 
 /// Source 1 follows source 0, which gets 5 at moment 20. Stage 7 is attached, and so there is no room left. Then all of
 /// that is gone.
@@ -421,10 +350,73 @@ const AGAIN: [Step; 16] = [
     Step::Next(7, 1, None, TAKES),
 ];
 
+static CASES: [Case; 15] = [
+    Case {
+        name: "runs by lanes",
+        room: 1,
+        parts: &[&BY_LANES],
+    },
+    Case {
+        name: "attached stages have lanes",
+        room: 1,
+        parts: &[&ATTACHES, &GROWN],
+    },
+    Case {
+        name: "gathers any number",
+        room: 3,
+        parts: &[&GATHERS],
+    },
+    relays_end!(
+        "relays end as a number",
+        COMPLETE_0,
+        Outcome::Value(Value::Int(5))
+    ),
+    relays_end!("relays end as a cancellation", CANCEL_0, CANCELLED),
+    relays_end!("relays end as a time-out", TIMED_OUT_0, TIMED_OUT),
+    relays_end!("relays end as a bad answer", BAD_ANSWER_0, BAD_ANSWER),
+    relays_end!(
+        "relays end as a time-out's code",
+        TIMED_OUT_0_BY_7,
+        TIMED_OUT_BY_7
+    ),
+    relays_end!(
+        "relays end as a bad answer's code",
+        BAD_ANSWER_0_BY_THE_LAST,
+        BAD_ANSWER_BY_THE_LAST
+    ),
+    Case {
+        name: "moments come in order",
+        room: 1,
+        parts: &[&BY_MOMENTS, &AT_ONCE],
+    },
+    Case {
+        name: "a deadline has a code",
+        room: 1,
+        parts: &[&BY_A_CODE],
+    },
+    Case {
+        name: "settled deadlines make place",
+        room: 1,
+        parts: &[&MANY],
+    },
+    Case {
+        name: "a refused lane fails",
+        room: 1,
+        parts: &[&REFUSES],
+    },
+    Case {
+        name: "all is cancelled",
+        room: 1,
+        parts: &[&CANCELS],
+    },
+    Case {
+        name: "all starts again",
+        room: 1,
+        parts: &[&AGAIN, &ATTACHES],
+    },
+];
+
 #[test]
-fn all_starts_again(rt: HostRuntime) {
-    let mut machine = opened(&rt, rt.alloc());
-    take(&rt, &mut machine, &AGAIN);
-    take(&rt, &mut machine, &ATTACHES);
-    drop(machine);
+fn machines_answer_so(rt: HostRuntime) {
+    play(&rt, rt.alloc(), &CASES);
 }

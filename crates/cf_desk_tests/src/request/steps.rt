@@ -4,7 +4,9 @@ use crate::plans::{Row, plan_of};
 use cf_forms::Form;
 use cf_ledger::{Finish, Held, LedgerFault, Reply, Stage, StepFault};
 use cf_outcome::Outcome;
-use cf_request::{Composed, Composing, Deadline, Gathering, Machine, MachineFault, Next};
+use cf_request::{
+    Composed, Composing, Deadline, Gathering, Join, JoinFault, Machine, MachineFault, Next,
+};
 use std::alloc::Global;
 use std::process::Abort;
 
@@ -26,7 +28,9 @@ pub(crate) enum Step {
     Ready(u8, u16),
     /// A relay, and the stage that it follows.
     Follow(u16, u16, Result<(), MachineFault>),
-    /// The same so many times.
+    /// A join, how many of its sources it wants, and these.
+    Join(u16, u16, &'static [u16], Result<(), JoinFault>),
+    /// A relay, and the stage that it follows, so many times.
     FollowOften(u16, u16, usize),
     Deadline(Deadline, Result<(), MachineFault>),
     /// The same so many times.
@@ -37,6 +41,8 @@ pub(crate) enum Step {
     Refuse(u8, u32),
     CancelAll(u8, Result<(), StepFault>),
     Restart,
+    /// Room for stages, and so much of it then.
+    Grow(u16),
     Told(&'static [u16]),
     Took(usize),
     /// A stage that is settled, with its outcome.
@@ -47,7 +53,7 @@ pub(crate) enum Step {
 }
 
 /// Whether a call is answered so.
-fn is_answered(machine: &mut Machine, step: Step) -> bool {
+fn is_answered(alloc: Global, machine: &mut Machine, step: Step) -> bool {
     match step {
         Step::Reserve(words) => machine.reserve(words).is_ok(),
         Step::Apply(word, lane, answer) => {
@@ -63,6 +69,9 @@ fn is_answered(machine: &mut Machine, step: Step) -> bool {
         }
         Step::Ready(lane, answer) => lane < machine.lanes() && machine.ready(lane) == answer,
         Step::Follow(relay, stage, answer) => machine.follow(relay, stage) == answer,
+        Step::Join(stage, wanted, sources, answer) => {
+            joins(alloc, machine, stage, wanted, sources, answer)
+        }
         Step::FollowOften(relay, stage, times) => follows_often(machine, relay, stage, times),
         Step::Deadline(deadline, answer) => machine.deadline(deadline) == answer,
         Step::DeadlineOften(deadline, times) => is_set_often(machine, deadline, times),
@@ -74,6 +83,7 @@ fn is_answered(machine: &mut Machine, step: Step) -> bool {
             machine.restart();
             true
         }
+        Step::Grow(room) => machine.grow(alloc).is_ok() && machine.ledger().room() == room,
         Step::Told(answer) => machine.told() == answer,
         Step::Took(count) => {
             machine.took(count);
@@ -85,6 +95,33 @@ fn is_answered(machine: &mut Machine, step: Step) -> bool {
         Step::Len(answer) => machine.ledger().len() == answer,
         Step::Words(answer) => machine.ledger().words() == answer,
     }
+}
+
+/// Whether a join is set so.
+fn joins(
+    alloc: Global,
+    machine: &mut Machine,
+    stage: u16,
+    wanted: u16,
+    sources: &[u16],
+    answer: Result<(), JoinFault>,
+) -> bool {
+    let mut others = Vec::new(alloc);
+    for source in sources.iter().skip(1) {
+        if others.push(*source).is_err() {
+            return false;
+        }
+    }
+    let Some(source) = sources.first() else {
+        return false;
+    };
+    let join = Join {
+        stage,
+        wanted,
+        source: *source,
+        others,
+    };
+    machine.join(join) == answer
 }
 
 /// Whether a relay is set so many times.
@@ -107,15 +144,8 @@ fn is_set_often(machine: &mut Machine, deadline: Deadline, times: usize) -> bool
     true
 }
 
-/// The machine takes these steps, and each is answered as it says.
-pub(crate) fn take(rt: &impl Abort, machine: &mut Machine, steps: &[Step]) {
-    for (at, step) in steps.iter().enumerate() {
-        holds(rt, is_answered(machine, *step), ("step", at));
-    }
-}
-
 /// Four sources, an apply of each of the first two, and a handle of the first apply.
-const STAGES: [Row<'static>; 7] = [
+static STAGES: [Row<'static>; 7] = [
     (Form::Source, &[], None),
     (Form::Source, &[], None),
     (Form::Source, &[], None),
@@ -126,20 +156,45 @@ const STAGES: [Row<'static>; 7] = [
 ];
 
 /// The applies are lane 1's and lane 2's, and the handle is lane 1's. There are four lanes.
-const LANES: [u8; 7] = [0, 0, 0, 0, 1, 2, 1];
+static LANES: [u8; 7] = [0, 0, 0, 0, 1, 2, 1];
 
 /// The machine's own caller.
 const OWN: u8 = 63;
 
-/// A machine of these stages, with room for one more.
-pub(crate) fn opened(rt: &impl Abort, alloc: Global) -> Machine {
-    opened_with(rt, alloc, 1)
+/// A machine of these stages with so much room, and the parts of what it does.
+#[derive(Clone, Copy)]
+pub(crate) struct Case {
+    pub(crate) name: &'static str,
+    pub(crate) room: u16,
+    pub(crate) parts: &'static [&'static [Step]],
 }
 
 /// A machine of these stages, with room for so many more.
-pub(crate) fn opened_with(rt: &impl Abort, alloc: Global, room: u16) -> Machine {
+fn opened(rt: &impl Abort, alloc: Global, room: u16) -> Machine {
     let plan = plan_of(rt, alloc, &STAGES);
     holds(rt, plan.has_place(room), "place");
     holds(rt, plan.stages() == 7, "stages");
     must(rt, Machine::new(alloc, &plan, room, &LANES, 4, OWN))
+}
+
+/// The machine takes the steps of a case, and each is answered as it says.
+fn take(rt: &impl Abort, alloc: Global, machine: &mut Machine, case: &Case) {
+    for (part, steps) in case.parts.iter().enumerate() {
+        for (at, step) in steps.iter().enumerate() {
+            holds(
+                rt,
+                is_answered(alloc, machine, *step),
+                (case.name, part, at),
+            );
+        }
+    }
+}
+
+/// The machine of each case takes its steps.
+pub(crate) fn play(rt: &impl Abort, alloc: Global, cases: &[Case]) {
+    for case in cases {
+        let mut machine = opened(rt, alloc, case.room);
+        take(rt, alloc, &mut machine, case);
+        drop(machine);
+    }
 }

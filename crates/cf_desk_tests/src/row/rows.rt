@@ -371,7 +371,7 @@ const LOST: [(u8, Step); 6] = [
 ];
 
 /// The second session's first token in each of them.
-const TESTS: [(u32, &[(u8, Step)]); 15] = [
+static TESTS: [(u32, &[(u8, Step)]); 15] = [
     (0, &DOUBTS),
     (0, &FINDS),
     (0, &GONE),
@@ -391,7 +391,7 @@ const TESTS: [(u32, &[(u8, Step)]); 15] = [
 
 #[test]
 fn two_sessions_know_what_stands(rt: HostRuntime) {
-    for (token, steps) in TESTS {
-        take(&rt, rt.alloc(), token, steps);
+    for (token, steps) in &TESTS {
+        take(&rt, rt.alloc(), *token, steps);
     }
 }

@@ -4,5 +4,5 @@ use Rattle.cf_request.specs.Relays.{NoneBehind}
 use Rattle.cf_request.proofs.relays.first_of.Given as goal
 
 -- none so far is behind
-abbrev pub invariant-loop-follow : goal.invariant-loop-follow
-invariant-loop-follow l = NoneBehind (take l.follow-index l.relays.follows.items) (state_of l.teller.ledger).stages
+abbrev pub invariant-loop-join : goal.invariant-loop-join
+invariant-loop-join l = NoneBehind (take l.join-index l.relays.follows.items) (state_of l.teller.ledger).stages

@@ -1,5 +1,4 @@
 use Rattle.std.proofs.Common.{arith}
-use Rattle.cf_ledger.specs.Ledgers.{state_of}
 use Rattle.cf_request.specs.Relays.{IsRelayDue}
 use Rattle.cf_request.proofs.Memory.{relay_waits, relays_fewer, spends_settle}
 use Rattle.cf_request.proofs.Turns.{dues_more, follows_kept, keeps_settle}
@@ -7,7 +6,7 @@ use Rattle.cf_request.proofs.relays.settle_behind.Goals as goal
 
 pub settle-requires-clause-memory : goal.settle-requires-clause-memory
 settle-requires-clause-memory c =
-    let some = relay_waits c.args.relays.now.follows.items (state_of c.loop-due.teller.ledger) c.in-Some.due c.in-Some.ensures.is_open c.in-Some.ensures.due in
+    let some = relay_waits c.args.relays.now.follows.items c.loop-due.teller c.in-Some.due c.in-Some.ensures.is_open c.in-Some.ensures.due in
     let kept = c.loop-due.invariant.memory in
     let enough = c.requires.may.memory in
     omega (arith, some, kept, enough)
@@ -21,7 +20,7 @@ loop-due-preserved c =
     let e = c.settle.new.teller in
     let d = c.in-Some.due in
     let follows = c.args.relays.now.follows.items in
-    let some = relay_waits follows (state_of b.ledger) d c.in-Some.ensures.is_open c.in-Some.ensures.due in
+    let some = relay_waits follows b d c.in-Some.ensures.is_open c.in-Some.ensures.due in
     let fewer = relays_fewer follows c.args.who d b e c.in-Some.ensures.is_open c.in-Some.ensures.due c.settle.ensures in
     let one = spends_settle c.args.who d b e c.settle.ensures in
     let kept = c.loop-due.invariant.memory in

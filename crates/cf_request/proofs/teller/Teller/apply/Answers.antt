@@ -9,13 +9,13 @@ use Rattle.cf_request.proofs.teller.Teller.apply.Goals as goal
 
 pub note-requires-clause-there : goal.note-requires-clause-there
 note-requires-clause-there c =
-    news_fit c.self.inside.ledger c.apply.new.self c.args.word (c.len-place.result - 1) c.in_ok-reply.reply c.news-news.result.now c.in_ok-reply.ensures.done (ap (λ (n : ℕ). n - 1) c.len-place.ensures) c.news-news.ensures
+    news_fit c.self.inside.ledger c.apply_other.new.self c.args.word (c.len-place.result - 1) c.in_ok-reply.reply c.news-news.result.now c.in_ok-reply.ensures.done (ap (λ (n : ℕ). n - 1) c.len-place.ensures) c.news-news.ensures
     (all_states c.self.inside.ledger.plan c.self.inside.ledger.events) c.stages-stages.ensures.all_stages
 
 pub note-requires-clause-room : goal.note-requires-clause-room
 note-requires-clause-room c =
     let t = c.self.inside in
-    news_room t.ledger c.apply.new.self c.args.word (c.len-place.result - 1) c.in_ok-reply.reply t.order.items c.news-news.result.now (vec_capacity t.order) t.count
+    news_room t.ledger c.apply_other.new.self c.args.word (c.len-place.result - 1) c.in_ok-reply.reply t.order.items c.news-news.result.now (vec_capacity t.order) t.count
     c.self.invariant.0 c.in_ok-reply.ensures.done (ap (λ (n : ℕ). n - 1) c.len-place.ensures) c.news-news.ensures c.stages-stages.ensures.all_stages
 
 pub reach-requires-clause-lane : goal.reach-requires-clause-lane
@@ -24,7 +24,7 @@ reach-requires-clause-lane c = subst (λ (x : Teller). IsLane c.args.lane x.lane
 pub reach-requires-clause-room : goal.reach-requires-clause-room
 reach-requires-clause-room c =
     let t = c.self.inside in
-    let most = same_most t.ledger c.apply.new.self c.args.word c.in_ok-reply.reply c.in_ok-reply.ensures.done in
+    let most = same_most t.ledger c.apply_other.new.self c.args.word c.in_ok-reply.reply c.in_ok-reply.ensures.done in
     let room = c.self.invariant.1.room in
     let count = c.stages-stages.ensures.count in
     omega (arith, most, room, count)
@@ -32,40 +32,40 @@ reach-requires-clause-room c =
 pub note-requires-clause-lanes : goal.note-requires-clause-lanes
 note-requires-clause-lanes c =
     let t = c.self.inside in
-    subst (λ (r : ReadySets). HasLanes (state_of c.apply.new.self) r.of) (sym c.reach.ensures)
-    (lanes_reached t.ledger c.apply.new.self c.args.word c.stages-stages.result c.args.lane c.in_ok-reply.reply t.lanes c.in_ok-reply.ensures.done c.stages-stages.ensures.count c.self.invariant.1)
+    subst (λ (r : ReadySets). HasLanes (state_of c.apply_other.new.self) r.of) (sym c.reach.ensures)
+    (lanes_reached t.ledger c.apply_other.new.self c.args.word c.stages-stages.result c.args.lane c.in_ok-reply.reply t.lanes c.in_ok-reply.ensures.done c.stages-stages.ensures.count c.self.invariant.1)
 
 pub note-requires-clause-rest : goal.note-requires-clause-rest
 note-requires-clause-rest c =
     let t = c.self.inside in
-    subst (λ (r : ReadySets). AreFitBut (Contains c.news-news.result.now) (state_of c.apply.new.self).stages r) (sym c.reach.ensures)
-    (left_by t.ledger c.apply.new.self c.args.word (c.len-place.result - 1) c.stages-stages.result c.args.lane c.in_ok-reply.reply c.news-news.result.now t.lanes
+    subst (λ (r : ReadySets). AreFitBut (Contains c.news-news.result.now) (state_of c.apply_other.new.self).stages r) (sym c.reach.ensures)
+    (left_by t.ledger c.apply_other.new.self c.args.word (c.len-place.result - 1) c.stages-stages.result c.args.lane c.in_ok-reply.reply c.news-news.result.now t.lanes
     c.in_ok-reply.ensures.done (ap (λ (n : ℕ). n - 1) c.len-place.ensures) c.news-news.ensures (all_states c.self.inside.ledger.plan c.self.inside.ledger.events) c.self.invariant.1)
 
 -- the lanes once all is written
 written : (c : goal.After-note) → c.note.new.sets ≡ record c.self.inside.lanes { of = lanes_of c.stages-stages.result c.args.lane c.self.inside.lanes.of; sets = c.note.new.sets.sets }
 written c = c.note.ensures.same ∙ ap (λ (r : ReadySets). let x : ReadySets = record r { sets = c.note.new.sets.sets } in x) c.reach.ensures
 
-seen : (c : goal.After-note) → lanes_in c.note.new.sets ≡ with_lane (stages_of c.apply.new.self) c.args.lane (lanes_in c.self.inside.lanes)
+seen : (c : goal.After-note) → lanes_in c.note.new.sets ≡ with_lane (stages_of c.apply_other.new.self) c.args.lane (lanes_in c.self.inside.lanes)
 seen c =
     let t = c.self.inside in
-    lanes_seen t.lanes c.note.new.sets c.stages-stages.result (stages_of c.apply.new.self) c.args.lane (written c) (c.note.ensures.count ∙ ap (λ (r : ReadySets). length r.sets) c.reach.ensures) c.stages-stages.ensures.count
+    lanes_seen t.lanes c.note.new.sets c.stages-stages.result (stages_of c.apply_other.new.self) c.args.lane (written c) (c.note.ensures.count ∙ ap (λ (r : ReadySets). length r.sets) c.reach.ensures) c.stages-stages.ensures.count
 
 pub invariant_of-self-2 : goal.invariant_of-self-2
 invariant_of-self-2 c =
     let t = c.self.inside in (
-      subst (λ (places : ℕ). IsKept c.apply.new.self c.note.new.order.items places t.count) (sym c.note.ensures.room)
-          (kept_note t.ledger c.apply.new.self c.args.word (c.len-place.result - 1) c.in_ok-reply.reply t.order.items c.note.new.order.items c.news-news.result.now (vec_capacity t.order) t.count
+      subst (λ (places : ℕ). IsKept c.apply_other.new.self c.note.new.order.items places t.count) (sym c.note.ensures.room)
+          (kept_note t.ledger c.apply_other.new.self c.args.word (c.len-place.result - 1) c.in_ok-reply.reply t.order.items c.note.new.order.items c.news-news.result.now (vec_capacity t.order) t.count
           c.self.invariant.0 c.in_ok-reply.ensures.done (ap (λ (n : ℕ). n - 1) c.len-place.ensures) c.news-news.ensures c.note.ensures.noted),
-      fit_state t.ledger c.apply.new.self c.args.word c.stages-stages.result c.args.lane c.in_ok-reply.reply t.lanes c.note.new.sets c.in_ok-reply.ensures.done c.stages-stages.ensures.count c.self.invariant.1 (written c) c.note.ensures.fit,
+      fit_state t.ledger c.apply_other.new.self c.args.word c.stages-stages.result c.args.lane c.in_ok-reply.reply t.lanes c.note.new.sets c.in_ok-reply.ensures.done c.stages-stages.ensures.count c.self.invariant.1 (written c) c.note.ensures.fit,
     )
 
 pub returns-clause-done : goal.returns-clause-done
 returns-clause-done c =
     let t = c.self.inside in
-    subst (λ (x : Teller). TellsWord c.args.lane c.args.word x c.in_ok-reply.reply (view_of c.apply.new.self c.note.new.order.items t.count (lanes_in c.note.new.sets))) c.self.view_is
+    subst (λ (x : Teller). TellsWord c.args.lane c.args.word x c.in_ok-reply.reply (view_of c.apply_other.new.self c.note.new.order.items t.count (lanes_in c.note.new.sets))) c.self.view_is
     (record {
-      tells = tells_note t.ledger c.apply.new.self c.args.word (c.len-place.result - 1) c.in_ok-reply.reply t.order.items c.note.new.order.items c.news-news.result.now (vec_capacity t.order) t.count (lanes_in t.lanes) (lanes_in c.note.new.sets)
+      tells = tells_note t.ledger c.apply_other.new.self c.args.word (c.len-place.result - 1) c.in_ok-reply.reply t.order.items c.note.new.order.items c.news-news.result.now (vec_capacity t.order) t.count (lanes_in t.lanes) (lanes_in c.note.new.sets)
           c.self.invariant.0 c.in_ok-reply.ensures.done (ap (λ (n : ℕ). n - 1) c.len-place.ensures) c.news-news.ensures c.note.ensures.noted;
       lanes = seen c;
     })

@@ -1,10 +1,10 @@
-use Rattle.std.proofs.Common.{◌-◌, ◌≤◌, ℕ, List, ap, arith, length, refl, subst}
+use Rattle.std.proofs.Common.{◌-◌, ◌≤◌, ◌∙◌, ℕ, List, ap, arith, length, refl, subst}
 use Rattle.std.specs.Prelude.{vec_capacity}
 use Rattle.std.specs.VecDeque.{deque_capacity}
 use Rattle.cf_ledger.specs.Ledgers.{state_of}
 use Rattle.cf_request.specs.Machines.{AppliesWord, Machine}
-use Rattle.cf_request.proofs.Machines.{kept_all, kept_word, may_word}
-use Rattle.cf_request.proofs.machine.Machine.apply.Goals as goal
+use Rattle.cf_request.proofs.Machines.{kept_all, kept_found, kept_word, may_word}
+use Rattle.cf_request.proofs.machine.Machine.apply_other.Goals as goal
 
 pub catch_up-self-inside-requires-clause-may : goal.catch_up-self-inside-requires-clause-may
 catch_up-self-inside-requires-clause-may c =
@@ -12,6 +12,11 @@ catch_up-self-inside-requires-clause-may c =
     let enough : m.relays.waiting ≤ c.reserve.new.self.ledger.free - 1 = omega (arith, c.in_ok-reserve.ensures.enough, c.words_beside.ensures.enough) in
     may_word _ m.teller c.reserve.new.self c.apply.new.self c.args.word c.in_ok-reply.reply m.relays m.deadlines.items m.own (length c.told-seen.result.now)
     c.self.invariant.0 c.self.invariant.1 c.self.invariant.2 c.in_ok-reserve.ensures.found (ap (λ (l : List ℕ). length l) c.told-seen.ensures.told) enough c.in_ok-reply.ensures.done.tells
+
+pub invariant_of-self-in_err-reply : goal.invariant_of-self-in_err-reply
+invariant_of-self-in_err-reply c =
+    let m = c.self.inside in
+    kept_found _ m.teller c.apply.new.self m.relays m.deadlines.items m.own (c.in_err-reply.ensures.refused ∙ c.in_ok-reserve.ensures.found) c.self.invariant
 
 pub invariant_of-self-2 : goal.invariant_of-self-2
 invariant_of-self-2 c =

@@ -1,0 +1,5 @@
+use Rattle.cf_request.proofs.Found.{kept_reserved}
+use Rattle.cf_request.proofs.machine.Machine.reserve.Goals as goal
+
+pub invariant_of-self : goal.invariant_of-self
+invariant_of-self c = let m = c.self.inside in kept_reserved c.reserve.result _ m.teller c.reserve.new.self m.relays m.deadlines.items m.own c.reserve.ensures.found c.reserve.ensures.refused c.self.invariant
