@@ -1,5 +1,5 @@
 -- What every pass, every notice and every desk keeps.
-use Rattle.std.specs.Prelude.{◌≡◌, ℕ, ◌<◌, ◌≤◌, List, [], ◌∷◌, length, vec_capacity}
+use Rattle.std.specs.Prelude.{◌≡◌, ℕ, ◌<◌, ◌≤◌, List, [], length, vec_capacity}
 use Rattle.cf_desk.specs.declared.pass.Pass.TheInside.{Inside as InPass}
 use Rattle.cf_desk.specs.declared.notice.Notice.TheInside.{Inside as InNotice}
 use Rattle.cf_desk.specs.declared.desk.Desk.TheInside.{Inside as InDesk}
@@ -8,7 +8,7 @@ use Rattle.cf_desk.specs.declared.row.CallerView.{CallerView}
 use Rattle.cf_model.specs.States.{State}
 use Rattle.cf_desk.specs.Log.{AreLogged}
 use Rattle.cf_desk.specs.Records.{Fits}
-use Rattle.cf_desk.specs.Views.{known_of, state_of}
+use Rattle.cf_desk.specs.Views.{IsOne, known_at, state_of}
 
 -- the fields of a pass agree with what it knows
 pub record Agrees (k : CallerView) (by most n : ℕ) (s : State) (records : List Rec) : Type 0 where
@@ -22,15 +22,15 @@ pub record Agrees (k : CallerView) (by most n : ℕ) (s : State) (records : List
   pub fits : Fits k.setting.plan k.caller k.seen records
 
 pub record PassKept (p : InPass) : Type 0 where
-  pub one : p.seat.me ≡ (known_of p.seat.me.0 ∷ [], [])
-  pub agrees : Agrees (known_of p.seat.me.0) p.caller p.functions p.count p.replica.state p.records.items
+  pub one : IsOne p.seat.me
+  pub agrees : Agrees (known_at p.seat.me) p.caller p.functions p.count p.replica.state p.records.items
   pub room : p.calls ≤ vec_capacity p.records
   pub within : length p.records.items ≤ p.calls
   pub short : p.count ≤ p.seat.table_id.words
 
 pub record NoticeKept (n : InNotice) : Type 0 where
-  pub one : n.seat.me ≡ (known_of n.seat.me.0 ∷ [], [])
-  pub count : n.count ≡ length (known_of n.seat.me.0).seen
+  pub one : IsOne n.seat.me
+  pub count : n.count ≡ length (known_at n.seat.me).seen
   pub short : n.count ≤ n.seat.table_id.words
 
 pub record DeskKept (d : InDesk) : Type 0 where

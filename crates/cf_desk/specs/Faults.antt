@@ -2,6 +2,7 @@
 use Rattle.std.specs.Prelude.{◌≡◌, ℕ, ◌<◌, ◌≤◌, ◌⊎◌, true, false, is_some, unwrap_or, length, List, All}
 use Rattle.cf_forms.specs.Plans.{PlannedStage, fits_form, has_place, sources_of}
 use Rattle.cf_model.specs.declared.asks.Ask.{Ask}
+use Rattle.cf_model.specs.declared.calls.Call.{Call}
 use Rattle.cf_model.specs.declared.events.Event.{Event}
 use Rattle.cf_model.specs.declared.events.Event.TheVariants.{Attach as Attaches}
 use Rattle.cf_model.specs.Ranges.{AskFits, EventFits}
@@ -13,7 +14,7 @@ use Rattle.cf_desk.specs.declared.sizes.DeskGrowth.{DeskGrowth}
 use Rattle.cf_desk.specs.declared.sizes.DeskSizes.{DeskSizes}
 use Rattle.cf_desk.specs.Functions.{function_bound}
 use Rattle.cf_event.specs.Events.{IsFunctionBelow}
-use Rattle.cf_desk.specs.Views.{Pass, Desk, SeesFull, state_of}
+use Rattle.cf_desk.specs.Views.{Desk, Pass, SeesFull, own_event, stages_in}
 
 -- the stages that an event names are among n
 abbrev pub EventNames : ℕ → Event → Type 0
@@ -22,10 +23,14 @@ EventNames n event = EventFits n event
 
 -- the stages of an event, or of a question, are in the plan as the pass has seen it
 abbrev pub IsOnStage : Pass → Event → Type 0
-IsOnStage p e = EventNames (length (state_of p.known).plan.stages) e
+IsOnStage p e = EventNames (stages_in p) e
+
+-- so are those that a call of its caller names
+abbrev pub KnowsStages : Pass → Call → Type 0
+KnowsStages p call = IsOnStage p (own_event p call)
 
 abbrev pub AsksStage : Pass → Ask → Type 0
-AsksStage p ask = AskFits (length (state_of p.known).plan.stages) ask
+AsksStage p ask = AskFits (stages_in p) ask
 
 -- a stage that an event attaches fits its form, and its function is one of so many that a word has room for
 abbrev pub AttachFits : ℕ → Event → Type 0

@@ -8,7 +8,7 @@ use Rattle.cf_model.specs.declared.events.Event.{Event}
 use Rattle.cf_event.specs.declared.record.Record.{Record}
 use Rattle.cf_model.specs.Calls.{who_of}
 use Rattle.cf_desk.specs.Records.{Fits, records_by}
-use Rattle.cf_desk.specs.Views.{Pass}
+use Rattle.cf_desk.specs.Views.{FitsAmong, Pass, caller_of, seen_by}
 
 abbrev pub pass_kept : KeptPass → ℕ × List Rec
 pass_kept k = (k.caller, k.records.items)
@@ -18,7 +18,7 @@ abbrev pub caller_kept : KeptPass → ℕ × List Record
 caller_kept k = (k.caller, records_by k.caller k.records.items)
 
 abbrev pub pass_did : Pass → ℕ × List Rec
-pass_did p = (p.known.caller, p.records)
+pass_did p = (caller_of p, p.records)
 
 -- each pass is kept with its caller and its records, in this order
 abbrev pub AreKept : List KeptPass → List Pass → Type 0
@@ -26,11 +26,11 @@ AreKept kept passes = map pass_kept kept ≡ map pass_did passes
 
 -- the records of a pass fit what it has seen
 abbrev pub IsFit : Pass → Type 0
-IsFit p = Fits p.known.setting.plan p.known.caller p.known.seen p.records
+IsFit p = FitsAmong p (seen_by p)
 
 -- a pass is of one of its desk's callers
 abbrev pub IsCallers : Pass → Type 0
-IsCallers p = p.known.caller < p.known.setting.callers
+IsCallers p = caller_of p < p.known.setting.callers
 
 abbrev pub IsKeptFit : Planned → List Event → ℕ × List Rec → Type 0
 IsKeptFit plan history k = Fits plan k.0 history k.1

@@ -1,5 +1,5 @@
 -- What a call does: the pass first catches up, where it doesn't know a stage that the call names, and is then answered or refused.
-use Rattle.std.specs.Prelude.{◌≡◌, ◌⊎◌, ℕ, ◌<◌, ◌≤◌, [], ◌∷◌, ◌++◌, length}
+use Rattle.std.specs.Prelude.{◌≡◌, ◌⊎◌, ℕ, ◌<◌, ◌≤◌, [], ◌∷◌, ◌++◌}
 use Rattle.cf_model.specs.declared.asks.Ask.{Ask}
 use Rattle.cf_model.specs.declared.asks.Ask.TheVariants.{Outcome as AsksOutcome}
 use Rattle.cf_model.specs.declared.asks.Told.{Told}
@@ -9,9 +9,8 @@ use Rattle.cf_desk.specs.declared.calls.Joined.{Joined}
 use Rattle.cf_desk.specs.declared.calls.Rec.TheVariants.{Did}
 use Rattle.cf_desk.specs.declared.faults.DeskFault.{DeskFault}
 use Rattle.cf_desk.specs.declared.faults.DeskFault.TheVariants.{LogFull}
-use Rattle.cf_model.specs.Calls.{event_by}
-use Rattle.cf_desk.specs.Faults.{AsksStage, HasRoom, IsDue, IsDueToRead, IsFitting, IsOnStage}
-use Rattle.cf_desk.specs.Views.{Acts, Desk, Follows, Joins, LooksFor, LooksOnce, Pass, Reads}
+use Rattle.cf_desk.specs.Faults.{AsksStage, HasRoom, IsDue, IsDueToRead, IsFitting, IsOnStage, KnowsStages}
+use Rattle.cf_desk.specs.Views.{Acts, Desk, Follows, Joins, LooksFor, LooksOnce, Pass, Reads, looks_by, own_event, place_in}
 
 -- the pass as it was, where it knows the stages, and else as it is once it has looked
 abbrev pub CaughtUp : Desk → Type 0 → Pass → Pass → Type 0
@@ -20,27 +19,27 @@ CaughtUp d knows p q = (knows × (q ≡ p)) ⊎ ((¬ knows) × Follows p q × Lo
 -- a changing call is answered
 pub record DeskAnswers (d : Desk) (p : Pass) (call : Call) (reply : Reply) (q : Pass) : Type 0 where
   pub found : Pass
-  pub caught : CaughtUp d (IsOnStage p (event_by p.known.caller call)) p found
-  pub there : IsOnStage found (event_by p.known.caller call)
-  pub fits : IsFitting found (event_by p.known.caller call)
+  pub caught : CaughtUp d (KnowsStages p call) p found
+  pub there : IsOnStage found (own_event p call)
+  pub fits : IsFitting found (own_event p call)
   pub room : HasRoom found
   pub acts : Acts found call reply q
 
 -- the call and its reply stand behind what the pass recorded before, at a place behind all that it had seen
 pub record IsRecorded (p : Pass) (call : Call) (reply : Reply) (q : Pass) : Type 0 where
   pub place : ℕ
-  pub after : length p.known.seen < place
-  pub within : place ≤ length q.known.seen
+  pub after : place_in p < place
+  pub within : place ≤ place_in q
   pub records : q.records ≡ p.records ++ Did place call reply ∷ []
 
 -- a changing call is refused: it adds nothing, and only where the log is full it has seen more
 pub record Refuses (d : Desk) (p : Pass) (call : Call) (q : Pass) (fault : DeskFault) : Type 0 where
   pub found : Pass
-  pub caught : CaughtUp d (IsOnStage p (event_by p.known.caller call)) p found
+  pub caught : CaughtUp d (KnowsStages p call) p found
   pub left : Follows found q
-  pub looks : q.known.looks ≡ found.known.looks
+  pub looks : looks_by q ≡ looks_by found
   pub unseen : (fault ≡ LogFull) ⊎ (q ≡ found)
-  pub due : IsDue q d (event_by p.known.caller call) fault
+  pub due : IsDue q d (own_event p call) fault
 
 -- a question is answered, after one look
 pub record DeskTells (d : Desk) (p : Pass) (ask : Ask) (answer : Told) (q : Pass) : Type 0 where

@@ -5,19 +5,21 @@ use Rattle.cf_model.specs.declared.asks.Told.{Told}
 use Rattle.cf_model.specs.declared.calls.Call.{Call}
 use Rattle.cf_model.specs.declared.events.Event.{Event}
 use Rattle.cf_model.specs.declared.events.Reply.{Reply}
-use Rattle.cf_model.specs.Calls.{event_by}
 use Rattle.cf_event.specs.Decoding.{event_of}
 use Rattle.cf_desk.specs.declared.calls.Joined.{Joined}
 use Rattle.cf_desk.specs.declared.faults.DeskFault.{DeskFault}
 use Rattle.cf_desk.specs.declared.row.CallerView.{CallerView}
-use Rattle.cf_desk.specs.Faults.{AsksStage, IsOnStage}
+use Rattle.cf_desk.specs.Faults.{AsksStage, KnowsStages}
 use Rattle.cf_desk.specs.Results.{DeskAnswers, DeskTells, Refuses, RefusesToTell, TellsJoined}
 use Rattle.cf_desk.specs.Rule.{AddsNext, LooksNext}
-use Rattle.cf_desk.specs.Views.{Desk, Follows, Heeds, LooksOnce, Meets, Notice, Pass}
+use Rattle.cf_desk.specs.Views.{Desk, Follows, Heeds, LooksOnce, Meets, Notice, Pass, place_in}
 
 -- how many loads and exchanges of its next word a pass has made: each showed it one event more, or was a look that met an empty word
 abbrev pub steps : CallerView → ℕ
 steps k = length k.seen + length k.looks
+
+abbrev pub steps_by : Pass → ℕ
+steps_by p = steps p.known
 
 abbrev pub IsOneStep : CallerView → List CallerView → Type 0
 IsOneStep k w = (now : CallerView) × (w ≡ now ∷ []) × (steps now ≡ steps k + 1)
@@ -28,13 +30,13 @@ EachIsOneStep = (k : CallerView) (found : ℕ) (w : List CallerView) → (LooksN
 
 -- the pass took a step for each event that it sees more, and at most so many that were looks
 abbrev pub TakesSteps : ℕ → Pass → Pass → Type 0
-TakesSteps most p q = (length p.known.seen ≤ length q.known.seen) × (steps q.known ≤ steps p.known + (length q.known.seen - length p.known.seen) + most)
+TakesSteps most p q = (place_in p ≤ place_in q) × (steps_by q ≤ steps_by p + (place_in q - place_in p) + most)
 
 -- A call looks once where it doesn't know its stage. Beyond that a changing call doesn't look, a question and `ready` look once, and a
 -- join as often as it may. What two passes tell each other are events alone.
 pub record FewSteps (d : Desk) (p q : Pass) : Type 0 where
-  pub answered : (call : Call) (reply : Reply) → DeskAnswers d p call reply q → TakesSteps 1 p q × (IsOnStage p (event_by p.known.caller call) → TakesSteps 0 p q)
-  pub refused : (call : Call) (fault : DeskFault) → Refuses d p call q fault → TakesSteps 1 p q × (IsOnStage p (event_by p.known.caller call) → TakesSteps 0 p q)
+  pub answered : (call : Call) (reply : Reply) → DeskAnswers d p call reply q → TakesSteps 1 p q × (KnowsStages p call → TakesSteps 0 p q)
+  pub refused : (call : Call) (fault : DeskFault) → Refuses d p call q fault → TakesSteps 1 p q × (KnowsStages p call → TakesSteps 0 p q)
   pub told : (ask : Ask) (answer : Told) → DeskTells d p ask answer q → TakesSteps 2 p q × (AsksStage p ask → TakesSteps 1 p q)
   pub joined : (stage most : ℕ) (answer : Joined) → TellsJoined d stage most p answer q → TakesSteps (most + 1) p q
   pub untold : (ask : Ask) (fault : DeskFault) → RefusesToTell d p ask q fault → TakesSteps 1 p q
@@ -62,4 +64,4 @@ most_looks (c ∷ cs) = c.0 + most_looks cs
 -- seen no word and taken no step.
 abbrev pub PassesAreWaitFree : Type 0
 PassesAreWaitFree =
-    (p : Pass) (calls : List (ℕ × Pass)) (words : ℕ) → AreCalls p calls → length (after_calls p calls).known.seen ≤ words → steps (after_calls p calls).known ≤ steps p.known + (words - length p.known.seen) + most_looks calls
+    (p : Pass) (calls : List (ℕ × Pass)) (words : ℕ) → AreCalls p calls → place_in (after_calls p calls) ≤ words → steps_by (after_calls p calls) ≤ steps_by p + (words - place_in p) + most_looks calls

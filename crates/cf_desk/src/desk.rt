@@ -12,7 +12,7 @@ ghost use Rattle.cf_desk.specs.declared.faults.OpenFault.TheVariants.{NoMemory};
 ghost use Rattle.cf_desk.specs.Faults.{AreCounts, IsDueToGrow, IsDueToOpen, MayGrow};
 ghost use Rattle.cf_desk.specs.Openings.{IsOpened, IsRowOf, StandsForAll, StandsFrom, fixed_setting, growing_setting, pass_at, passes_at, setting_of};
 ghost use Rattle.cf_desk.specs.Rule.{first};
-ghost use Rattle.cf_desk.specs.Views.{IsOf};
+ghost use Rattle.cf_desk.specs.Views.{IsAt, IsOf};
 
 use crate::calls::{Kept, Rec};
 use crate::faults::OpenFault;
@@ -57,7 +57,7 @@ impl Desk {
     pub fn open(alloc: Global, plan: Plan, sizes: DeskSizes) -> Result<(Desk, Vec<Pass>), OpenFault>
         ensures opened { IfOk result (λ r. IsOpened (fixed_setting plan sizes) sizes r.0 r.1.items) }
         ensures passes { IfOk result (λ r. All (IsOf r.0) r.1.items × (vec_len r.1 ≡ sizes.callers)) }
-        ensures table { IfOk result (λ r. All (λ p. p.table ≡ r.0.table) r.1.items × (r.0.table.words ≡ sizes.log)) }
+        ensures table { IfOk result (λ r. All (IsAt r.0) r.1.items × (r.0.table.words ≡ sizes.log)) }
         ensures counts { IfOk result (λ r. AreCounts sizes) }
         ensures fault { IfErr result (IsDueToOpen sizes) }
     {
@@ -72,7 +72,7 @@ impl Desk {
     ) -> Result<(Desk, Vec<Pass>), OpenFault>
         ensures opened { IfOk result (λ r. IsOpened (fixed_setting plan.now sizes) sizes r.0 r.1.items) }
         ensures passes { IfOk result (λ r. All (IsOf r.0) r.1.items × (vec_len r.1 ≡ sizes.callers)) }
-        ensures table { IfOk result (λ r. All (λ p. p.table ≡ r.0.table) r.1.items × (r.0.table.words ≡ sizes.log)) }
+        ensures table { IfOk result (λ r. All (IsAt r.0) r.1.items × (r.0.table.words ≡ sizes.log)) }
         ensures counts { IfOk result (λ r. AreCounts sizes) }
         ensures fault { IfErr result (IsDueToOpen sizes) }
     {
@@ -96,7 +96,7 @@ impl Desk {
     ) -> Result<(Desk, Vec<Pass>), OpenFault>
         ensures opened { IfOk result (λ r. IsOpened (growing_setting plan sizes growth) sizes r.0 r.1.items) }
         ensures passes { IfOk result (λ r. All (IsOf r.0) r.1.items × (vec_len r.1 ≡ sizes.callers)) }
-        ensures table { IfOk result (λ r. All (λ p. p.table ≡ r.0.table) r.1.items × (r.0.table.words ≡ sizes.log)) }
+        ensures table { IfOk result (λ r. All (IsAt r.0) r.1.items × (r.0.table.words ≡ sizes.log)) }
         ensures counts { IfOk result (λ r. AreCounts sizes × MayGrow plan.stages growth) }
         ensures fault { IfErr result (IsDueToGrow plan.stages sizes growth) }
     {
@@ -112,7 +112,7 @@ impl Desk {
     ) -> Result<(Desk, Vec<Pass>), OpenFault>
         ensures opened { IfOk result (λ r. IsOpened (growing_setting plan.now sizes growth) sizes r.0 r.1.items) }
         ensures passes { IfOk result (λ r. All (IsOf r.0) r.1.items × (vec_len r.1 ≡ sizes.callers)) }
-        ensures table { IfOk result (λ r. All (λ p. p.table ≡ r.0.table) r.1.items × (r.0.table.words ≡ sizes.log)) }
+        ensures table { IfOk result (λ r. All (IsAt r.0) r.1.items × (r.0.table.words ≡ sizes.log)) }
         ensures counts { IfOk result (λ r. AreCounts sizes × MayGrow plan.now.stages growth) }
         ensures fault { IfErr result (IsDueToGrow plan.now.stages sizes growth) }
     {

@@ -13,13 +13,13 @@ pub struct Notice {
 }
 
 impl Model for Notice {
-    ghost use Rattle.cf_desk.specs.Views.{Notice, known_of};
+    ghost use Rattle.cf_desk.specs.Views.{Notice, known_at};
 
     ghost Value = { Notice };
 
     ghost use Rattle.cf_desk.specs.Desks.{NoticeKept};
 
-    ghost view = { λ n. record { table = n.seat.table_id; seen = (known_of n.seat.me.0).seen } };
+    ghost view = { λ n. record { table = n.seat.table_id; seen = (known_at n.seat.me).seen } };
 
     ghost invariant = { NoticeKept };
 }

@@ -2,10 +2,9 @@
 ghost use Rattle.std.specs.Prelude.{◌≡◌, ◌<◌, ◌≤◌, ◌+◌, ◌↔◌, IfSome, IsTrue, length};
 ghost use Rattle.std.specs.Bool.{OnTrue};
 ghost use Rattle.cf_forms.specs.Plans.{function_at};
-ghost use Rattle.cf_model.specs.States.{lowest_ready_of, outcome_at};
-ghost use Rattle.cf_model.specs.Calls.{event_by};
-ghost use Rattle.cf_desk.specs.Faults.{AsksStage, IsFitting, IsOnStage};
-ghost use Rattle.cf_desk.specs.Views.{HasCaller, HoldsClaim, IsOwnEvent, Joins, Reads, state_of};
+ghost use Rattle.cf_model.specs.States.{outcome_at};
+ghost use Rattle.cf_desk.specs.Faults.{AsksStage, HasRoom, IsFitting, KnowsStages};
+ghost use Rattle.cf_desk.specs.Views.{HasCaller, HoldsClaim, IsOwnEvent, Joins, Reads, caller_of, own_event, place_in, ready_in, stages_in, state_in};
 
 use crate::calls::{Joined, Rec, joined_as};
 use crate::row::SeatView;
@@ -32,13 +31,13 @@ pub struct Pass {
 }
 
 impl Model for Pass {
-    ghost use Rattle.cf_desk.specs.Views.{Pass, known_of};
+    ghost use Rattle.cf_desk.specs.Views.{Pass, known_at};
 
     ghost Value = { Pass };
 
     ghost use Rattle.cf_desk.specs.Desks.{PassKept};
 
-    ghost view = { λ p. record { table = p.seat.table_id; known = known_of p.seat.me.0; records = p.records.items; calls = p.calls } };
+    ghost view = { λ p. record { table = p.seat.table_id; known = known_at p.seat.me; records = p.records.items; calls = p.calls } };
 
     ghost invariant = { PassKept };
 }
@@ -46,14 +45,14 @@ impl Model for Pass {
 impl Pass {
     /// The number of its caller.
     pub fn caller(&self) -> u8
-        ensures { result ≡ self.now.known.caller }
+        ensures { result ≡ caller_of self.now }
     {
         self.caller
     }
 
     /// How many events it has seen.
     pub fn seen(&self) -> u16
-        ensures seen { result ≡ length self.now.known.seen }
+        ensures seen { result ≡ place_in self.now }
         ensures few { result ≤ self.now.table.words }
     {
         self.count
@@ -68,15 +67,15 @@ impl Pass {
 
     /// Whether there is such a stage in what the pass has seen.
     pub fn has(&self, i: u16) -> bool
-        ensures { IsTrue result ↔ (i < length (state_of self.now.known).plan.stages) }
+        ensures { IsTrue result ↔ (i < stages_in self.now) }
     {
         i < self.stages()
     }
 
     /// The number of a stage's function, if it has one. The stage is there in what the pass has seen.
     pub fn function(&self, i: u16) -> Option<u16>
-        requires { i < length (state_of self.now.known).plan.stages }
-        ensures { result ≡ function_at (state_of self.now.known).plan.stages i }
+        requires { i < stages_in self.now }
+        ensures { result ≡ function_at (state_in self.now).plan.stages i }
     {
         self.replica.function(i)
     }
@@ -92,7 +91,9 @@ impl Pass {
     /// Whether the stages that a call names are there, in what the pass has seen.
     #[inline(always)]
     pub(crate) fn names(&self, call: Call) -> bool
-        ensures { IsTrue result ↔ IsOnStage self.now (event_by self.now.known.caller call) }
+        ensures names { IsTrue result ↔ KnowsStages self.now call }
+        ensures few { stages_in self.now ≤ 4096 }
+        ensures caller { HasCaller self.now.known }
     {
         let stages = self.stages();
         match call {
@@ -112,12 +113,12 @@ impl Pass {
     #[inline(always)]
     #[tactic(auto, using(crate::proofs::Events::sources_small))]
     pub(crate) fn fits(&self, call: Call) -> bool
-        requires { IsOnStage self.now (event_by self.now.known.caller call) }
-        ensures fits { IsTrue result ↔ IsFitting self.now (event_by self.now.known.caller call) }
+        requires names { KnowsStages self.now call }
+        requires few { stages_in self.now ≤ 4096 }
+        requires caller { HasCaller self.now.known }
+        ensures fits { IsTrue result ↔ IsFitting self.now (own_event self.now call) }
         ensures event { OnTrue result (IsOwnEvent self.now call) }
     {
-        // Each stage is below 4,096, and the caller is below 64.
-        let _known = self.stages();
         match call {
             Call::Complete(_, _) => true,
             Call::Fail(_, _) => true,
@@ -144,7 +145,7 @@ impl Pass {
 
     /// How many stages the plan has, in what the pass has seen.
     fn stages(&self) -> u16
-        ensures count { result ≡ length (state_of self.now.known).plan.stages }
+        ensures count { result ≡ stages_in self.now }
         ensures few { result ≤ 4096 }
         ensures caller { HasCaller self.now.known }
     {
@@ -153,8 +154,8 @@ impl Pass {
 
     /// The outcome of a stage in what the pass has seen.
     pub(crate) fn outcome(&mut self, stage: u16) -> Option<Outcome>
-        requires { stage < length (state_of self.old.known).plan.stages }
-        ensures told { result ≡ outcome_at (state_of self.old.known) stage }
+        requires { stage < stages_in self.old }
+        ensures told { result ≡ outcome_at (state_in self.old) stage }
         ensures same { self.new ≡ self.old }
     {
         self.replica.outcome(stage)
@@ -162,8 +163,8 @@ impl Pass {
 
     /// The lowest ready stage in what the pass has seen.
     pub(crate) fn lowest_ready(&mut self) -> Option<u16>
-        ensures told { result ≡ lowest_ready_of (state_of self.old.known) }
-        ensures there { IfSome result (λ stage. stage < length (state_of self.old.known).plan.stages) }
+        ensures told { result ≡ ready_in self.old }
+        ensures there { IfSome result (λ stage. stage < stages_in self.old) }
         ensures same { self.new ≡ self.old }
     {
         self.replica.lowest_ready()
@@ -171,8 +172,8 @@ impl Pass {
 
     /// Records and tells what a join of a stage is answered of what the pass has seen.
     pub(crate) fn tell_joined(&mut self, stage: u16) -> Joined
-        requires call { length self.old.records < self.old.calls }
-        requires stage { stage < length (state_of self.old.known).plan.stages }
+        requires call { HasRoom self.old }
+        requires stage { stage < stages_in self.old }
         ensures { Joins self.old stage result self.new × (self.new.known ≡ self.old.known) }
     {
         let outcome = self.outcome(stage);
@@ -182,7 +183,7 @@ impl Pass {
 
     /// Records and tells what is asked of what the pass has seen.
     pub(crate) fn tell(&mut self, ask: Ask) -> Told
-        requires call { length self.old.records < self.old.calls }
+        requires call { HasRoom self.old }
         requires asked { AsksStage self.old ask }
         ensures { Reads self.old ask result self.new × (self.new.known ≡ self.old.known) }
     {

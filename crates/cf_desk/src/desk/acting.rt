@@ -1,9 +1,8 @@
 //! The call that changes the graph.
-ghost use Rattle.std.specs.Prelude.{◌≡◌, IfErr, IfOk, IsTrue, MatchOption};
-ghost use Rattle.cf_model.specs.Calls.{event_by};
-ghost use Rattle.cf_desk.specs.Faults.{HasRoom, IsFitting, IsOnStage};
+ghost use Rattle.std.specs.Prelude.{IfErr, IfOk, IsTrue, MatchOption};
+ghost use Rattle.cf_desk.specs.Faults.{HasRoom, IsFitting, KnowsStages};
 ghost use Rattle.cf_desk.specs.Results.{DeskAnswers, CaughtUp, IsRecorded, Refuses};
-ghost use Rattle.cf_desk.specs.Views.{Acts, FindsFull, IsOwnEvent, IsSamePass};
+ghost use Rattle.cf_desk.specs.Views.{Acts, FindsFull, IsAt, IsOwnEvent, IsSamePass, own_event};
 
 use crate::desk::Desk;
 use crate::faults::DeskFault;
@@ -19,7 +18,7 @@ impl Desk {
     /// nothing branches on the kind, and the record is written part by part.
     #[inline(always)]
     pub fn act(&self, p: &mut Pass, c: Call) -> Result<Reply, DeskFault>
-        requires { p.old.table ≡ self.now.table }
+        requires { IsAt self.now p.old }
         ensures same { IsSamePass p.old p.new }
         ensures done { IfOk result (λ reply. DeskAnswers self.now p.old c reply p.new) }
         ensures recorded { IfOk result (λ reply. IsRecorded p.old c reply p.new) }
@@ -44,7 +43,7 @@ impl Desk {
 
     /// Looks once, where the pass doesn't know a stage that it has to know.
     pub(crate) fn learn(&self, p: &mut Pass, known: bool)
-        requires { p.old.table ≡ self.now.table }
+        requires { IsAt self.now p.old }
         ensures { CaughtUp self.now (IsTrue known) p.old p.new }
     {
         if !known {
@@ -56,9 +55,9 @@ impl Desk {
     /// seen fills the log.
     #[inline(always)]
     fn act_there(&self, p: &mut Pass, c: Call) -> Option<Reply>
-        requires table { p.old.table ≡ self.now.table }
-        requires there { IsOnStage p.old (event_by p.old.known.caller c) }
-        requires fits { IsFitting p.old (event_by p.old.known.caller c) }
+        requires table { IsAt self.now p.old }
+        requires there { KnowsStages p.old c }
+        requires fits { IsFitting p.old (own_event p.old c) }
         requires event { IsOwnEvent p.old c }
         requires room { HasRoom p.old }
         ensures { MatchOption result (FindsFull self.now p.old p.new) (λ reply. Acts p.old c reply p.new) }

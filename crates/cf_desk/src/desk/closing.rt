@@ -1,10 +1,10 @@
 //! How a desk is closed.
-ghost use Rattle.std.specs.Prelude.{◌≡◌, ◌+◌, ◌<◌, ◌≤◌, ◌++◌, ◌∷◌, [], All, IsOkAnd, length, map, vec_capacity, vec_len};
+ghost use Rattle.std.specs.Prelude.{◌≡◌, ◌+◌, ◌<◌, ◌≤◌, ◌++◌, ◌∷◌, [], All, IsOkAnd, map, vec_capacity, vec_len};
 ghost use Rattle.std.specs.Mem.Slots.{IsFull, slots_items, slots_len};
 ghost use Rattle.cf_event.specs.Decoding.{decoded, event_of};
 ghost use Rattle.cf_desk.specs.Closings.{HoldsAllEvents, PassesFit, ShowsOneHistory, ToldOneHistory};
 ghost use Rattle.cf_desk.specs.Keepings.{AreKept, IsCallers, IsFit, pass_did, pass_kept};
-ghost use Rattle.cf_desk.specs.Views.{Closes, IsLatestOf, knowns, state_of};
+ghost use Rattle.cf_desk.specs.Views.{Closes, IsAt, IsLatestOf, knowns, place_in, state_in};
 
 use crate::calls::{Closed, Kept};
 use crate::desk::{Desk, Row};
@@ -25,7 +25,7 @@ impl Desk {
     /// the callers and records of the passes in the order in which they were given, and the graph as all events leave it.
     /// It never fails. What all callers were told is one history.
     pub fn close(self, passes: Vec<Pass>) -> Result<Closed, CloseFault>
-        requires table { All (λ p. p.table ≡ self.table) passes.items }
+        requires table { All (IsAt self) passes.items }
         requires all { vec_len passes ≡ self.setting.callers }
         ensures history { IsOkAnd result (λ closed. Closes self passes.items closed.history.items) }
         ensures passes { IsOkAnd result (λ closed. AreKept closed.passes.items passes.items) }
@@ -96,7 +96,7 @@ fn take_apart(
     ensures seat { seat.new.me ≡ (seat.old.me.0 ++ pass.known ∷ [], seat.old.me.1) }
     ensures kept { map pass_kept kept.new.items ≡ map pass_kept kept.old.items ++ pass_did pass ∷ [] }
     ensures room { (vec_len kept.new ≡ vec_len kept.old + 1) × (vec_capacity kept.new ≡ vec_capacity kept.old) }
-    ensures replica { (result.0.state ≡ state_of pass.known) × (result.1 ≡ length pass.known.seen) }
+    ensures replica { (result.0.state ≡ state_in pass) × (result.1 ≡ place_in pass) }
     ensures caller { IsCallers pass }
     ensures fit { IsFit pass }
 {

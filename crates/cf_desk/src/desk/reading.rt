@@ -1,12 +1,10 @@
 //! The calls that look, and the one by which two passes tell each other what they have seen.
-ghost use Rattle.std.specs.Prelude.{◌≡◌, ◌<◌, ◌≤◌, IfErr, IfOk, IfSome, length};
+ghost use Rattle.std.specs.Prelude.{◌≡◌, ◌<◌, ◌≤◌, IfErr, IfOk, IfSome};
 ghost use Rattle.cf_model.specs.declared.asks.Ask.TheVariants.{Outcome as AsksOutcome};
-ghost use Rattle.cf_model.specs.States.{lowest_ready_of};
-ghost use Rattle.cf_model.specs.Calls.{event_by};
 ghost use Rattle.cf_model.specs.declared.calls.Call.TheVariants.{Claim};
-ghost use Rattle.cf_desk.specs.Faults.{IsOnStage};
+ghost use Rattle.cf_desk.specs.Faults.{KnowsStages};
 ghost use Rattle.cf_desk.specs.Results.{RefusesToTell, DeskTells, TellsJoined};
-ghost use Rattle.cf_desk.specs.Views.{Follows, IsSamePass, LooksFor, LooksOnce, Meets, state_of};
+ghost use Rattle.cf_desk.specs.Views.{Follows, IsAt, IsSamePass, LooksFor, LooksOnce, Meets, place_in, ready_in, stages_in};
 
 use crate::calls::Joined;
 use crate::desk::Desk;
@@ -19,7 +17,7 @@ impl Desk {
     /// one, or the end of the row. It adds a record to the pass, which is one of this desk's, and no event. If the pass
     /// doesn't know the stage, it looks once before.
     pub fn read(&self, p: &mut Pass, a: Ask) -> Result<Told, DeskFault>
-        requires { p.old.table ≡ self.now.table }
+        requires { IsAt self.now p.old }
         ensures same { IsSamePass p.old p.new }
         ensures told { IfOk result (λ told. DeskTells self.now p.old a told p.new) }
         ensures refused { IfErr result (RefusesToTell self.now p.old a p.new) }
@@ -40,7 +38,7 @@ impl Desk {
     /// the stage settled. The last look is recorded as a question for the outcome. If the pass doesn't know the stage, it
     /// looks once before.
     pub fn join(&self, p: &mut Pass, stage: u16, looks: u32) -> Result<Joined, DeskFault>
-        requires table { p.old.table ≡ self.now.table }
+        requires table { IsAt self.now p.old }
         requires looks { 0 < looks }
         ensures same { IsSamePass p.old p.new }
         ensures told { IfOk result (λ answer. TellsJoined self.now stage looks p.old answer p.new) }
@@ -60,10 +58,10 @@ impl Desk {
 
     /// The lowest ready stage of all events that are there. It adds neither an event nor a record.
     pub fn ready(&self, p: &mut Pass) -> Option<u16>
-        requires { p.old.table ≡ self.now.table }
+        requires { IsAt self.now p.old }
         ensures seen { Follows p.old p.new }
-        ensures told { result ≡ lowest_ready_of (state_of p.new.known) }
-        ensures there { IfSome result (λ stage. IsOnStage p.new (event_by p.new.known.caller (Claim stage))) }
+        ensures told { result ≡ ready_in p.new }
+        ensures there { IfSome result (λ stage. KnowsStages p.new (Claim stage)) }
         ensures looks { LooksOnce self.now p.old p.new }
     {
         self.catch_others(p);
@@ -72,7 +70,7 @@ impl Desk {
 
     /// Lets two passes of this desk see the longer of their two lists of events.
     pub fn meet(&self, p: &mut Pass, q: &mut Pass)
-        requires table { (p.old.table ≡ self.now.table) × (q.old.table ≡ self.now.table) }
+        requires table { IsAt self.now p.old × IsAt self.now q.old }
         ensures same { IsSamePass p.old p.new × IsSamePass q.old q.new }
         ensures level { Meets p.old q.old p.new q.new }
     {
@@ -86,8 +84,8 @@ impl Desk {
 
     /// Looks until it finds the stage settled, at most so many times.
     fn look_for(&self, p: &mut Pass, stage: u16, looks: u32)
-        requires table { p.old.table ≡ self.now.table }
-        requires stage { stage < length (state_of p.old.known).plan.stages }
+        requires table { IsAt self.now p.old }
+        requires stage { stage < stages_in p.old }
         requires looks { 0 < looks }
         ensures seen { Follows p.old p.new }
         ensures looks { LooksFor self.now stage looks p.old p.new }
@@ -102,9 +100,9 @@ impl Desk {
 
     /// One look: loads the next word until it finds it empty, or the row at its end.
     pub(crate) fn catch_others(&self, p: &mut Pass)
-        requires { p.old.table ≡ self.now.table }
+        requires { IsAt self.now p.old }
         ensures seen { Follows p.old p.new }
-        ensures few { length p.new.known.seen ≤ self.now.words }
+        ensures few { place_in p.new ≤ self.now.words }
         ensures looks { LooksOnce self.now p.old p.new }
     {
         let words = self.words();

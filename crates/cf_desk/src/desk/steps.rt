@@ -1,10 +1,10 @@
 //! The calls that make single steps on the row.
-ghost use Rattle.std.specs.Prelude.{◌≡◌, ◌<◌, ◌≤◌, IfSome, length, MatchBool, MatchOption};
+ghost use Rattle.std.specs.Prelude.{◌≡◌, ◌<◌, ◌≤◌, ◌∷◌, [], IfSome, length, MatchBool, MatchOption};
 ghost use Rattle.cf_model.specs.Ranges.{EventFits};
 ghost use Rattle.cf_event.specs.Decoding.{event_of};
+ghost use Rattle.cf_desk.specs.Faults.{HasRoom};
 ghost use Rattle.cf_desk.specs.Log.{AreLogged};
-ghost use Rattle.cf_desk.specs.Rule.{looked};
-ghost use Rattle.cf_desk.specs.Views.{AddedByOther, AddedOwn, IsOne, IsOwnEvent, IsRedone, Levelled, known_of, state_of, state_up_to};
+ghost use Rattle.cf_desk.specs.Views.{AddedByOther, AddedOwn, IsAt, IsOne, IsOwnEvent, IsRedone, Levelled, and_looks, known_at, place_in, state_of, state_up_to};
 
 use crate::calls::Rec;
 use crate::desk::Desk;
@@ -64,9 +64,9 @@ impl Desk {
     /// One exchange of the next word for that of the pass's call. It gives the reply where it was won.
     #[inline(always)]
     pub(crate) fn add(&self, p: &mut Pass, call: Call) -> Option<Reply>
-        requires table { p.old.table ≡ self.now.table }
-        requires room { length p.old.known.seen < self.now.words }
-        requires call { length p.old.records < p.old.calls }
+        requires table { IsAt self.now p.old }
+        requires room { place_in p.old < self.now.words }
+        requires call { HasRoom p.old }
         requires event { IsOwnEvent p.old call }
         ensures { MatchOption result (AddedByOther p.old p.new) (λ reply. AddedOwn p.old call reply p.new) }
     {
@@ -93,9 +93,9 @@ impl Desk {
 
     /// One load of the next word. It answers whether an event was there.
     pub(crate) fn look(&self, p: &mut Pass) -> bool
-        requires table { p.old.table ≡ self.now.table }
-        requires room { length p.old.known.seen < self.now.words }
-        ensures { MatchBool result (AddedByOther p.old p.new) (p.new ≡ record p.old { known = looked p.old.known }) }
+        requires table { IsAt self.now p.old }
+        requires room { place_in p.old < self.now.words }
+        ensures { MatchBool result (AddedByOther p.old p.new) (p.new ≡ and_looks p.old (place_in p.old ∷ [])) }
     {
         let place = p.count as usize;
         let word = self.table.shared.load::<Looks>(&mut p.seat, place);
@@ -131,11 +131,11 @@ impl Desk {
     )
         requires table { seat.old.table_id ≡ self.now.table }
         requires one { IsOne seat.old.me }
-        requires places { (from ≤ to) × (to ≡ length (known_of seat.old.me.0).seen) × (to ≤ seat.old.table_id.words) }
-        requires events { AreLogged (known_of seat.old.me.0).setting (known_of seat.old.me.0).seen }
-        requires replica { replica.old.state ≡ state_up_to from (known_of seat.old.me.0) }
+        requires places { (from ≤ to) × (to ≡ length (known_at seat.old.me).seen) × (to ≤ seat.old.table_id.words) }
+        requires events { AreLogged (known_at seat.old.me).setting (known_at seat.old.me).seen }
+        requires replica { replica.old.state ≡ state_up_to from (known_at seat.old.me) }
         ensures same { (seat.new.table_id ≡ seat.old.table_id) × (seat.new.me ≡ seat.old.me) }
-        ensures replica { replica.new.state ≡ state_of (known_of seat.old.me.0) }
+        ensures replica { replica.new.state ≡ state_of (known_at seat.old.me) }
     {
         for place in from..to {
             let word = self.table.shared.load::<Finds>(seat, place as usize);
