@@ -210,10 +210,11 @@ static void ledgers(void) {
 
 /* Attaches stages until there is no room, and tells how many there are. */
 static uint32_t filled(cf_handle *request, uint64_t attached) {
-  cf_applied applied;
+  cf_todo todo = {.moment = CF_NEVER};
+  cf_reply reply;
   uint16_t stages = 0;
-  while (cf_request_apply(request, attached, 0, &applied, NULL, 0) == CF_OK) continue;
-  wants(cf_request_apply(request, attached, 0, &applied, NULL, 0), CF_NO_ROOM, "request_apply", 0, 0);
+  while (cf_request_apply(request, attached, 0, &reply, NULL, 0, &todo) == CF_OK) continue;
+  wants(cf_request_apply(request, attached, 0, &reply, NULL, 0, &todo), CF_NO_ROOM, "request_apply", 0, 0);
   wants(cf_ledger_stages(request, &stages), CF_OK, "ledger_stages", 0, 0);
   return stages;
 }

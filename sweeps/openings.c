@@ -8,6 +8,7 @@
 #include "cf.h"
 #include <stdarg.h>
 #include <stdio.h>
+#include <string.h>
 #include <unistd.h>
 
 typedef uint32_t opening(long numbers[3]);
@@ -233,7 +234,8 @@ static uint32_t ledger(long numbers[3]) {
 /* What a host can ask of a request, as a sum. */
 static uint64_t asked_of(cf_handle *request) {
   static uint64_t words[1000];
-  size_t n = 0, told = 0;
+  size_t n = 0;
+  cf_todo todo = {0};
   cf_deadline next = {0};
   uint64_t sum = cf_request_next_deadline(request, &next) + 31 * next.stage + 97 * next.moment;
   cf_ledger_words(request, 0, words, 1000, &n);
@@ -243,8 +245,8 @@ static uint64_t asked_of(cf_handle *request) {
     cf_request_ready(request, lane, &ready);
     sum = sum * 1000003 + ready;
   }
-  cf_request_told(request, NULL, 0, &told);
-  return sum * 1000003 + told;
+  cf_request_told(request, NULL, 0, &todo);
+  return sum * 1000003 + todo.told;
 }
 
 /* A call of a request: what it is, and the stages, the moment or the lane that it names. */
@@ -255,43 +257,39 @@ typedef struct {
 } request_step;
 
 /* Attaches a source, or completes a stage. */
-static uint32_t apply_to(cf_handle *request, const request_step *step, cf_told *told, size_t *n) {
+static uint32_t apply_to(cf_handle *request, const request_step *step, cf_told *told, cf_todo *todo) {
   cf_event event = {.call = CF_CALL_ATTACH, .who = 1, .form = CF_SOURCE, .function = CF_NO_FUNCTION};
   if (step->call == COMPLETE) event = (cf_event){.call = CF_CALL_COMPLETE, .who = 1, .stage = step->first, .value = {CF_INT, 3}};
-  cf_applied applied = {.told = *n};
+  cf_reply reply;
   uint64_t word = 0;
   cf_word_of(event, &word);
-  uint32_t code = cf_request_apply(request, word, (uint8_t)step->second, &applied, told, 2);
-  *n = applied.told;
-  return code;
+  return cf_request_apply(request, word, (uint8_t)step->second, &reply, told, 2, todo);
 }
 
-static uint32_t call_request(cf_handle *request, const request_step *step, cf_task *task, cf_told *told, size_t *n) {
-  cf_request_step next = {.who = 2, .lane = (uint8_t)step->first, .told = *n};
-  cf_request_gathering gathering = {.who = 1, .form = CF_ALL_OF, .told = *n};
-  cf_request_done done;
+static uint32_t call_request(cf_handle *request, const request_step *step, cf_task *task, cf_told *told, cf_todo *todo) {
+  cf_request_gathering gathering = {.who = 1, .form = CF_ALL_OF};
+  cf_todo then = *todo;
+  size_t done;
   uint32_t code = CF_OK;
   switch (step->call) {
   case GATHER: /* both stages, and the first once more, which takes two words */
-    code = cf_request_gather(request, &gathering, (uint16_t[]){step->first, step->second, step->first}, 3, told, 2);
-    *n = gathering.told;
-    return code;
-  case FOLLOW: return cf_request_follow(request, step->first, step->second, told, 2, n);
-  case DEADLINE: return cf_request_deadline(request, step->first, step->second, CF_TIMEOUT, 7, (cf_value){CF_NIL, 0});
-  case PASS: return cf_request_pass(request, step->first, told, 2, n);
-  case REFUSE: return cf_request_refuse(request, (uint8_t)step->first, 7, told, 2, n);
-  case CANCEL: return cf_request_cancel_all(request, (uint8_t)step->first, told, 2, n);
+    return cf_request_gather(request, &gathering, (uint16_t[]){step->first, step->second, step->first}, 3, told, 2, todo);
+  case FOLLOW: return cf_request_follow(request, step->first, step->second, told, 2, todo);
+  case DEADLINE: return cf_request_deadline(request, step->first, step->second, CF_TIMEOUT, 7, (cf_value){CF_NIL, 0}, todo);
+  case PASS: return cf_request_pass(request, step->first, told, 2, todo);
+  case REFUSE: return cf_request_refuse(request, (uint8_t)step->first, 7, told, 2, todo);
+  case CANCEL: return cf_request_cancel_all(request, (uint8_t)step->first, told, 2, todo);
   case GROW: return cf_request_grow(request);
-  case DO: /* one call, which is done or not */
-    code = cf_request_do(request, &(cf_request_call){.call = CF_DO_FOLLOW, .relay = step->first, .stage = step->second}, 1, &done, told, 2);
-    *n = code == CF_OK ? done.told : *n;
-    return done.calls == (code == CF_OK) ? code : CHANGED;
+  case DO: /* one call, which is done or not; the todo is written in both cases */
+    code = cf_request_do(
+        request, &(cf_request_call){.call = CF_DO_FOLLOW, .relay = step->first, .stage = step->second}, 1, &done, told, 2, &then);
+    if (code == CF_OK) *todo = then;
+    return done == (code == CF_OK) ? code : CHANGED;
   case NEXT:
-    code = cf_request_next(request, &next, task, told, 2);
-    *n = next.told;
+    code = cf_request_next(request, 2, (uint8_t)step->first, task, told, 2, todo);
     task->answer = four();
     return code == CF_NOTHING ? CF_OK : code;
-  default: return apply_to(request, step, told, n);
+  default: return apply_to(request, step, told, todo);
   }
 }
 
@@ -301,13 +299,16 @@ static uint32_t step_request(cf_handle *request, const request_step *step, cf_ta
   cf_told row[2] = {told, told};
   const cf_task had = *task;
   const uint64_t before = asked_of(request);
-  size_t n = 99;
-  uint32_t code = call_request(request, step, task, row, &n);
+  cf_todo todo, marked;
+  memset(&marked, 99, sizeof marked);
+  todo = marked;
+  uint32_t code = call_request(request, step, task, row, &todo);
   if (code != CF_NO_MEMORY) return code;
-  bool same = task->held == had.held && task->stage == had.stage && row[0].stage == 99 && row[1].stage == 99 && n == 99;
+  bool same = task->held == had.held && task->stage == had.stage && row[0].stage == 99 && row[1].stage == 99;
+  same = same && memcmp(&todo, &marked, sizeof todo) == 0;
   if (!same || asked_of(request) != before) return CHANGED;
   ++*again;
-  return call_request(request, step, task, row, &n);
+  return call_request(request, step, task, row, &todo);
 }
 
 /* A request with these calls: how many words it has then, and what a host can ask of it. */

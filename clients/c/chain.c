@@ -14,6 +14,8 @@ enum { LENGTH = 16, ME = 1, OWN = 0, LANE = 0, ROOM = 4 };
     }                                                                                                                                      \
   } while (0)
 
+static cf_todo todo = {.moment = CF_NEVER};
+
 static uint64_t word_of(cf_event event) {
   uint64_t word;
   event.who = ME;
@@ -32,13 +34,13 @@ static uint64_t attach(uint16_t before) {
 static void run(cf_handle *request, int32_t number) {
   cf_request_call calls[3] = {{.call = CF_DO_APPLY}, {.call = CF_DO_APPLY}, {.call = CF_DO_NEXT, .who = ME}};
   cf_task *const task = &calls[2].task;
-  cf_request_done done;
   cf_told told[ROOM];
+  size_t done;
   calls[0].word = complete(number);
   for (uint16_t stage = 0; stage <= LENGTH; stage++) {
     cf_request_call *const from = stage == 0 ? calls : stage < LENGTH ? calls + 1 : calls + 2;
     calls[1].word = attach(stage);
-    DO(cf_request_do(request, from, (size_t)(calls + 3 - from), &done, told, ROOM));
+    DO(cf_request_do(request, from, (size_t)(calls + 3 - from), &done, told, ROOM, &todo));
     if (task->held) task->answer = (cf_answer){.kind = CF_GIVE, .value = {CF_INT, task->args.first.number + 1}};
   }
   printf("%d calls for %d stages; stage %u gives %d\n", LENGTH + 1, LENGTH, (unsigned)told[0].stage, told[0].outcome.value.number);
@@ -46,10 +48,10 @@ static void run(cf_handle *request, int32_t number) {
 
 /* Attaches stages behind the source until there is no room. */
 static void fill(cf_handle *request) {
-  cf_applied applied;
+  cf_reply reply;
   uint16_t stages;
   uint32_t code;
-  do code = cf_request_apply(request, attach(0), LANE, &applied, NULL, 0);
+  do code = cf_request_apply(request, attach(0), LANE, &reply, NULL, 0, &todo);
   while (code == CF_OK);
   DO(cf_ledger_stages(request, &stages));
   printf("%u stages: %s\n", (unsigned)stages, cf_code_name(code));
@@ -59,10 +61,9 @@ int main(void) {
   const cf_request_sizes sizes = {.room = LENGTH, .lanes = 1, .own = OWN};
   cf_handle plan = {0}, request = {0};
   cf_request_call wrong[2] = {{.call = CF_DO_FOLLOW, .relay = 0, .stage = 0}, {.call = CF_DO_REFUSE, .lane = 1}};
-  cf_request_done done;
   cf_told told[ROOM];
   uint16_t stage;
-  size_t n;
+  size_t done;
   DO(cf_builder_new(&plan, 0, 0));
   DO(cf_builder_stage(&plan, CF_SOURCE, NULL, 0, CF_NO_FUNCTION, &stage));
   DO(cf_build(&plan));
@@ -74,13 +75,13 @@ int main(void) {
   run(&request, 100);
   DO(cf_request_restart(&request));
 
-  const uint32_t code = cf_request_do(&request, wrong, 2, &done, told, ROOM);
-  printf("%zu of 2 calls: %s\n", done.calls, cf_code_name(code));
+  const uint32_t code = cf_request_do(&request, wrong, 2, &done, told, ROOM, &todo);
+  printf("%zu of 2 calls: %s\n", done, cf_code_name(code));
   fill(&request);
   DO(cf_request_grow(&request));
   fill(&request);
-  DO(cf_request_cancel_all(&request, ME, told, ROOM, &n));
-  printf("cancelled: %zu\n", n);
+  DO(cf_request_cancel_all(&request, ME, told, ROOM, &todo));
+  printf("cancelled: %zu\n", todo.told);
   cf_free(&request);
   return 0;
 }

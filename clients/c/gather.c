@@ -14,6 +14,7 @@ enum { OFFERS = 5, ME = 1, OWN = 0, ROOM = 2 * (OFFERS - 1), TOLD = OFFERS + ROO
   } while (0)
 
 static uint16_t all, quickest;
+static cf_todo todo = {.moment = CF_NEVER};
 
 /* Says so where one of the two roots is told. */
 static void say(const cf_told *told, size_t n) {
@@ -24,13 +25,13 @@ static void say(const cf_told *told, size_t n) {
 }
 
 static void answer(cf_handle *request, uint16_t offer, cf_event event) {
-  cf_applied applied;
   cf_told told[TOLD];
+  cf_reply reply;
   uint64_t word;
   event.who = ME, event.stage = offer;
   DO(cf_word_of_event(&event, &word));
-  DO(cf_request_apply(request, word, 0, &applied, told, TOLD));
-  say(told, applied.told);
+  DO(cf_request_apply(request, word, 0, &reply, told, TOLD, &todo));
+  say(told, todo.told);
 }
 
 int main(void) {
@@ -47,14 +48,14 @@ int main(void) {
   cf_free(&plan);
 
   gathering.form = CF_ALL_OF;
-  DO(cf_request_gather(&request, &gathering, offers, OFFERS, told, TOLD));
+  DO(cf_request_gather(&request, &gathering, offers, OFFERS, told, TOLD, &todo));
   all = gathering.root;
   gathering.form = CF_ANY_OF;
-  DO(cf_request_gather(&request, &gathering, offers, OFFERS, told, TOLD));
+  DO(cf_request_gather(&request, &gathering, offers, OFFERS, told, TOLD, &todo));
   quickest = gathering.root;
   DO(cf_ledger_stages(&request, &stages));
   printf("%d offers, %u stages\n", OFFERS, (unsigned)stages);
-  const uint32_t code = cf_request_gather(&request, &gathering, offers, OFFERS, told, TOLD);
+  const uint32_t code = cf_request_gather(&request, &gathering, offers, OFFERS, told, TOLD, &todo);
   printf("once more: %s\n", cf_code_name(code));
 
   answer(&request, offers[3], (cf_event){.call = CF_CALL_COMPLETE, .value = {CF_INT, 52}});

@@ -18,6 +18,8 @@ enum { OWN, ME, CLERK, EVENTS = 16 };
 #define ROW(call, wanted) row(#call, (call), (wanted))
 #define HOLDS(fact) holds(#fact, (fact))
 
+static cf_todo todo = {.moment = CF_NEVER};
+
 /* The functions of the stages: the card is declined. */
 static cf_answer call(const cf_task *task) {
   if (task->stage == CHARGE) return (cf_answer){.kind = CF_THROW, .code = 0};
@@ -25,21 +27,20 @@ static cf_answer call(const cf_task *task) {
 }
 
 static void apply(cf_handle *request, cf_event event) {
-  cf_applied applied;
+  cf_reply reply;
   uint64_t word;
   DO(cf_word_of_event(&event, &word));
-  DO(cf_request_apply(request, word, 0, &applied, NULL, 0));
+  DO(cf_request_apply(request, word, 0, &reply, NULL, 0, &todo));
 }
 
 /* A request, whose words are left in the row. */
 static size_t serve(cf_handle *plan, uint64_t *words) {
   const cf_request_sizes sizes = {.room = 1, .lanes = 1, .own = OWN};
   cf_handle request = {0};
-  cf_request_step step = {.who = ME};
   cf_task task = {0};
   size_t n;
   DO(cf_request_new(plan, &sizes, (uint8_t[]){0, 0, 0}, 3, &request));
-  while (cf_request_next(&request, &step, &task, NULL, 0) == CF_OK) task.answer = call(&task);
+  while (cf_request_next(&request, ME, 0, &task, NULL, 0, &todo) == CF_OK) task.answer = call(&task);
   apply(&request, (cf_event){.call = CF_CALL_ATTACH, .who = ME, .form = CF_ACCEPT, .sources = 1, .first = SORRY, .function = 7});
   apply(&request, (cf_event){.call = CF_CALL_CANCEL, .who = CLERK, .stage = MAIL});
   apply(&request, (cf_event){.call = CF_CALL_COMPLETE, .who = ME, .stage = MAIL, .value = {CF_INT, 2}});

@@ -21,7 +21,7 @@ int main(void) {
   printf("version %s\n", cf_version());
   printf("runs a program of this header: %d\n", cf_fits(CF_VERSION_MAJOR, CF_VERSION_MINOR));
   printf("one of a later header: %d, %d\n", cf_fits(CF_VERSION_MAJOR, CF_VERSION_MINOR + 1), cf_fits(CF_VERSION_MAJOR + 1, 0));
-  printf("one of an earlier header, whose calls have changed: %d\n", cf_fits(1, 8));
+  printf("one of an earlier header, whose calls have changed: %d\n", cf_fits(1, 9));
   printf("%s\n", cf_code_name(CF_NO_STAGE));
   printf("names of codes that differ: %d\n", differing());
   printf("code 99 has a name: %d\n", cf_code_name(99) != NULL);

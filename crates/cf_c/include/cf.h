@@ -959,7 +959,10 @@ uint32_t cf_ledger_restart(cf_handle *ledger);
  * settle stages have a row for this:
  *   - told, room: a row for `room` stages. It gets the stages that are settled and weren't told yet, as far as there is
  *     room for them. These are told then. All others stay to be told, by the next of these calls or by cf_request_told.
- *   - n, or a field `told`: gets how many there were to tell, which may be more than `room`.
+ *
+ * What is to be done next. Each call that changes stages or deadlines writes it into a struct that your program keeps for
+ * the request:
+ *   - todo: the request's cf_todo.
  *
  * The words, the news and the stages of a request are asked by cf_ledger_words, cf_ledger_news, cf_ledger_ready,
  * cf_ledger_stage, cf_ledger_function and cf_ledger_stages. Its words make the same ledger again (cf_ledger_of). What
@@ -967,8 +970,27 @@ uint32_t cf_ledger_restart(cf_handle *ledger);
  *
  * A call that takes memory finds it first. If it answers CF_NO_MEMORY, nothing has changed, and it may be made again. */
 
-/* A stage that is told: its number, and its outcome. */
-typedef struct { uint16_t stage; cf_outcome outcome; } cf_told;
+/* A stage that is told: its number, the caller that still runs its function, plus 1, or 0, and its outcome. If `stop`
+ * isn't 0, that caller's claim of the stage is open, so the stage was settled otherwise than by its finish, which comes
+ * too late. Your program may stop the function. As a stage is told once, so is this. */
+typedef struct { uint16_t stage; uint16_t stop; cf_outcome outcome; } cf_told;
+
+/* What the host of a request has to do next. Your program keeps one for each request, and hands it to each call. At first
+ * its `moment` is CF_NEVER, and all else 0.
+ *   - told: gets how many stages there were to tell, which may be more than `room`.
+ *   - moment: gets the moment of cf_request_next_deadline, or CF_NEVER if there is none.
+ *   - news: gets CF_NEWS_READY if `ready` isn't 0 for some lane, and CF_NEWS_MOMENT if `moment` isn't what it was before
+ *     the call. It is 0 if there is nothing to do.
+ *   - jobs: how many jobs of each lane are on their way, each of which will call cf_request_next. Your program writes it.
+ *     A job takes itself off before its first cf_request_next, and isn't counted while it runs functions.
+ *   - ready: gets how many stages of each lane are ready beyond its jobs. So many jobs are to be started, and added to
+ *     `jobs`. If your program starts fewer, the next call tells the others again. That of a lane that isn't there stays.
+ *
+ * If a cf_request_next has nothing to finish, to claim and to tell, `told` and `news` get 0, and `moment` and `ready` stay
+ * as they were. */
+#define CF_NEVER UINT64_MAX
+enum { CF_NEWS_READY = 1, CF_NEWS_MOMENT = 2 };
+typedef struct { size_t told; uint64_t moment; uint32_t news; uint16_t jobs[16]; uint16_t ready[16]; } cf_todo;
 
 /* What a request is opened with.
  *   - room: how many stages may be attached later.
@@ -990,27 +1012,23 @@ typedef struct { uint16_t room; uint8_t lanes; uint8_t own; } cf_request_sizes;
  *   - CF_NO_MEMORY. */
 uint32_t cf_request_new(cf_handle *plan, const cf_request_sizes *sizes, const uint8_t *lanes, size_t n, cf_handle *request);
 
-/* What cf_request_apply has done: the reply of the word, and how many stages there were to tell. */
-typedef struct { cf_reply reply; size_t told; } cf_applied;
-
 /* Does a word, as cf_ledger_apply does. Then it settles the stages that follow a stage that is settled now.
  *   - lane: the lane of the stage that the word attaches. It has to be there with any word.
- *   - applied: gets the reply.
- *   - told, room: a row, as said above.
+ *   - reply: gets the reply.
+ *   - told, room, todo: as said above.
  *
  * Codes:
  *   - CF_NO_LANE: there is no such lane.
  *   - CF_NO_MEMORY.
  *   - CF_NO_WORD, CF_NO_STAGE: as for cf_ledger_apply.
  *   - CF_NO_ROOM: there is no room for the stage that the word attaches. cf_request_grow makes some. */
-uint32_t cf_request_apply(cf_handle *request, uint64_t word, uint8_t lane, cf_applied *applied, cf_told *told, size_t room);
+uint32_t cf_request_apply(cf_handle *request, uint64_t word, uint8_t lane, cf_reply *reply, cf_told *told, size_t room, cf_todo *todo);
 
 /* What cf_request_gather is asked, and what it has attached.
  *   - who: the caller, 0 to 63. Your program writes it.
  *   - form: CF_ALL_OF or CF_ANY_OF. Your program writes it.
- *   - root: gets the number of the root.
- *   - told: gets how many stages there were to tell. */
-typedef struct { uint8_t who; uint32_t form; uint16_t root; size_t told; } cf_request_gathering;
+ *   - root: gets the number of the root. */
+typedef struct { uint8_t who; uint32_t form; uint16_t root; } cf_request_gathering;
 
 /* Attaches a stage that waits for all of these stages, or for one of them, whatever their number. An attached stage has
  * at most two sources. So the first stage that this call attaches gathers two of them, and each stage behind it one
@@ -1018,7 +1036,7 @@ typedef struct { uint8_t who; uint32_t form; uint16_t root; size_t told; } cf_re
  * form with all of these sources would, unless another call settles one of the stages itself.
  *   - step: as said above.
  *   - sources, n: the n stages, in order, any of which may stand twice.
- *   - told, room: a row, as said above.
+ *   - told, room, todo: as said above.
  *
  * Codes. All stages are attached, or none is and nothing changes:
  *   - CF_NO_SUCH_NUMBER: the form is another.
@@ -1026,7 +1044,7 @@ typedef struct { uint8_t who; uint32_t form; uint16_t root; size_t told; } cf_re
  *   - CF_NO_STAGE: one of the n stages isn't there.
  *   - CF_NO_ROOM: there isn't room for so many stages.
  *   - CF_NO_MEMORY. */
-uint32_t cf_request_gather(cf_handle *request, cf_request_gathering *step, const uint16_t *sources, size_t n, cf_told *told, size_t room);
+uint32_t cf_request_gather(cf_handle *request, cf_request_gathering *step, const uint16_t *sources, size_t n, cf_told *told, size_t room, cf_todo *todo);
 
 /* What cf_request_compose is asked, and what it has attached.
  *   - who: the caller, 0 to 63. Your program writes it.
@@ -1034,17 +1052,15 @@ uint32_t cf_request_gather(cf_handle *request, cf_request_gathering *step, const
  *   - form: CF_COMPOSE or CF_EXCEPTIONALLY_COMPOSE. Your program writes it.
  *   - source: the stage whose value or fault the compose's function takes. Your program writes it.
  *   - function: the number of the compose's function, 0 to 4095. Your program writes it.
- *   - relay, stage: get the numbers of the relay and of the compose.
- *   - told: gets how many stages there were to tell. */
-typedef struct { uint8_t who; uint8_t lane; uint32_t form; uint16_t source; uint16_t function; uint16_t relay; uint16_t stage; size_t told; } cf_request_composing;
+ *   - relay, stage: get the numbers of the relay and of the compose. */
+typedef struct { uint8_t who; uint8_t lane; uint32_t form; uint16_t source; uint16_t function; uint16_t relay; uint16_t stage; } cf_request_composing;
 
 /* Attaches a compose whose function may answer any stage of the request, also one that is attached later. A finish links
  * to a lower stage only. So this call attaches two stages: a source, which is the compose's relay, and right above it
  * the compose. cf_request_next claims the compose as any other stage. If its function answers a stage that isn't lower,
  * finish it by cf_request_link. With any other answer finish it by cf_request_next. The relay stays open then,
  * and needs nothing.
- *   - step: as said above.
- *   - told, room: a row, as said above.
+ *   - step, told, room, todo: as said above.
  *
  * Codes. Both stages are attached, or none is and nothing changes:
  *   - CF_NO_LANE: there is no such lane.
@@ -1053,14 +1069,13 @@ typedef struct { uint8_t who; uint8_t lane; uint32_t form; uint16_t source; uint
  *   - CF_NO_STAGE: the source isn't there.
  *   - CF_NO_ROOM: there isn't room for two stages.
  *   - CF_NO_MEMORY. */
-uint32_t cf_request_compose(cf_handle *request, cf_request_composing *step, cf_told *told, size_t room);
+uint32_t cf_request_compose(cf_handle *request, cf_request_composing *step, cf_told *told, size_t room, cf_todo *todo);
 
-/* What cf_request_link is asked, and how many stages there were to tell.
- *   - who: the caller, 0 to 63. Your program writes it.
- *   - relay: the relay of the compose. Your program writes it.
- *   - stage: the stage that the compose's function answered. Your program writes it.
- *   - told: gets how many stages there were to tell. */
-typedef struct { uint8_t who; uint16_t relay; uint16_t stage; size_t told; } cf_request_linking;
+/* What cf_request_link is asked.
+ *   - who: the caller, 0 to 63.
+ *   - relay: the relay of the compose.
+ *   - stage: the stage that the compose's function answered. */
+typedef struct { uint8_t who; uint16_t relay; uint16_t stage; } cf_request_linking;
 
 /* Finishes the compose that the task holds with a stage of the request, whichever it is. From now on the relay follows
  * that stage, as by cf_request_follow, and the compose is linked to the relay. A compose that is finished with itself
@@ -1068,61 +1083,58 @@ typedef struct { uint8_t who; uint16_t relay; uint16_t stage; size_t told; } cf_
  *   - step: as said above.
  *   - task: it holds the compose. The answer in it isn't looked at. It gets in `finished` how the finish went, and holds
  *     nothing then.
- *   - told, room: a row, as said above.
+ *   - told, room, todo: as said above.
  *
  * Codes. All of it is done, or nothing is and nothing changes:
  *   - CF_NOT_HELD: the task holds nothing, or the caller has no open claim of the stage that it holds.
  *   - CF_NO_WORD: step->who is above 63.
  *   - CF_NO_STAGE: the relay, the compose or the stage isn't there, or the relay isn't below the compose.
  *   - CF_NO_MEMORY. */
-uint32_t cf_request_link(cf_handle *request, cf_request_linking *step, cf_task *task, cf_told *told, size_t room);
-
-/* What cf_request_next is asked, and how many stages there were to tell.
- *   - who: the caller, 0 to 63. Your program writes it.
- *   - lane: the lane in which it works. Your program writes it.
- *   - told: gets how many stages there were to tell. */
-typedef struct { uint8_t who; uint8_t lane; size_t told; } cf_request_step;
+uint32_t cf_request_link(cf_handle *request, const cf_request_linking *step, cf_task *task, cf_told *told, size_t room, cf_todo *todo);
 
 /* One step of a caller's loop, as cf_next does it. It finishes the stage that the task holds, if there is one, with
  * the answer in the task, and settles the stages that follow one that is settled now. Then it claims the lowest ready
  * stage of the lane, and writes it into the task.
+ *   - who: the caller, 0 to 63.
+ *   - lane: the lane in which it works.
  *   - task: all bytes 0 for the first step.
- *   - told, room: a row, as said above.
+ *   - told, room, todo: as said above.
  *
  * Codes:
  *   - CF_NO_LANE: there is no such lane.
  *   - CF_NO_MEMORY.
- *   - CF_NO_WORD: step->who is above 63.
+ *   - CF_NO_WORD: who is above 63.
  *   - CF_NO_STAGE: the stage that the task holds isn't there.
  *   - CF_NOT_HELD: the caller has no open claim of the stage that the task holds.
  *   - CF_NOTHING: no stage of the lane is ready. The finish was done, if there was one. The task holds nothing, and all
  *     else is written as with CF_OK. */
-uint32_t cf_request_next(cf_handle *request, cf_request_step *step, cf_task *task, cf_told *told, size_t room);
+uint32_t cf_request_next(cf_handle *request, uint8_t who, uint8_t lane, cf_task *task, cf_told *told, size_t room, cf_todo *todo);
 
 /* From now on a stage ends as another stage of the request does, unless it is settled before. It gets the same value,
  * or a fault of the same cause and code: a cancellation cancels it, a time-out times it out.
  *   - relay: the stage that follows.
  *   - stage: the stage that it follows.
- *   - told, room, n: a row, as said above.
+ *   - told, room, todo: as said above.
  *
  * Codes: CF_NO_MEMORY, and CF_NO_STAGE if one of the two isn't there. */
-uint32_t cf_request_follow(cf_handle *request, uint16_t relay, uint16_t stage, cf_told *told, size_t room, size_t *n);
+uint32_t cf_request_follow(cf_handle *request, uint16_t relay, uint16_t stage, cf_told *told, size_t room, cf_todo *todo);
 
 /* Sets a moment by which a stage has to be settled. If it is open then, cf_request_pass settles it. A stage may have
  * several, and attached stages may have some, too.
  *   - moment: the moment, in a unit of your choice.
  *   - kind, code, value: as for cf_builder_limit.
+ *   - todo: as said above. No stage is told by this call, and its `told` gets how many wait to be told.
  *
  * Codes: CF_NO_MEMORY, and CF_NO_STAGE if there is no such stage. */
-uint32_t cf_request_deadline(cf_handle *request, uint16_t stage, uint64_t moment, uint32_t kind, uint32_t code, cf_value value);
+uint32_t cf_request_deadline(cf_handle *request, uint16_t stage, uint64_t moment, uint32_t kind, uint32_t code, cf_value value, cf_todo *todo);
 
 /* Lets time pass up to a moment. All open stages whose deadline has come are settled, in the order of their moments,
  * and those of one moment in the order in which the deadlines were set. A stage that follows another one that is
  * settled then ends as that one does.
- *   - told, room, n: a row, as said above.
+ *   - told, room, todo: as said above.
  *
  * Codes: CF_NO_MEMORY, and CF_PAST_MOMENT if the moment is before that of the last cf_request_pass. */
-uint32_t cf_request_pass(cf_handle *request, uint64_t moment, cf_told *told, size_t room, size_t *n);
+uint32_t cf_request_pass(cf_handle *request, uint64_t moment, cf_told *told, size_t room, cf_todo *todo);
 
 /* A deadline: the stage, the moment, CF_TIMEOUT or CF_GIVE_VALUE, the code, which is 0 for CF_GIVE_VALUE, and the value,
  * which is CF_NIL for CF_TIMEOUT. */
@@ -1137,14 +1149,14 @@ uint32_t cf_request_next_deadline(cf_handle *request, cf_deadline *deadline);
 
 /* Nobody runs a lane any more: its ready stages fail, and so do those that become ready by this.
  *   - code: the code of the exception with which they fail.
- *   - told, room, n: a row, as said above.
+ *   - told, room, todo: as said above.
  *
  * Codes: CF_NO_LANE if there is no such lane, and CF_NO_MEMORY. */
-uint32_t cf_request_refuse(cf_handle *request, uint8_t lane, uint32_t code, cf_told *told, size_t room, size_t *n);
+uint32_t cf_request_refuse(cf_handle *request, uint8_t lane, uint32_t code, cf_told *told, size_t room, cf_todo *todo);
 
-/* Tells the stages that are settled and weren't told yet.
- *   - told, room, n: a row, as said above. */
-uint32_t cf_request_told(cf_handle *request, cf_told *told, size_t room, size_t *n);
+/* Tells the stages that are settled and weren't told yet, and what is to be done next, as at first.
+ *   - told, room, todo: as said above. */
+uint32_t cf_request_told(cf_handle *request, cf_told *told, size_t room, cf_todo *todo);
 
 /* Tells how many stages of a lane are ready.
  *
@@ -1153,10 +1165,10 @@ uint32_t cf_request_ready(cf_handle *request, uint8_t lane, uint16_t *ready);
 
 /* Cancels all stages that are open, from the lowest on, by words of a caller.
  *   - who: the caller, 0 to 63.
- *   - told, room, n: a row, as said above.
+ *   - told, room, todo: as said above.
  *
  * Codes: CF_NO_MEMORY, and CF_NO_WORD if who is above 63. */
-uint32_t cf_request_cancel_all(cf_handle *request, uint8_t who, cf_told *told, size_t room, size_t *n);
+uint32_t cf_request_cancel_all(cf_handle *request, uint8_t who, cf_told *told, size_t room, cf_todo *todo);
 
 /* Makes room for more stages, by doing all words again. Nothing else changes. There is room for as many more as there
  * are stages by now, and for 16 more at least. If the bounds of CF_ROOM don't let so many in, there is room for as many
@@ -1187,19 +1199,16 @@ typedef struct {
   uint32_t kind; cf_value value; cf_reply reply; cf_task task;
 } cf_request_call;
 
-/* How many of its calls cf_request_do has done, and how many stages there were to tell then. */
-typedef struct { size_t calls; size_t told; } cf_request_done;
-
 /* Makes calls one after another, each as it is made alone, up to the first that is refused. Then it tells, once, the
  * stages that are settled. So what waits in your program, such as an attach that can have no news, goes with the next
  * call: a stage that is attached and run takes one call, with a row for cf_request_apply and one for cf_request_next.
  *   - calls, n: the rows. A row whose call is done gets its answer, and the others stay as they are.
  *   - done: gets how many were done.
- *   - told, room: a row, as said above.
+ *   - told, room, todo: as said above.
  *
  * Codes: if a call is refused, its code, or CF_NO_SUCH_NUMBER if there is no such call. The calls before it are done
- * then, `done` and `told` are written, and the row of the refused call is calls[done->calls]. */
-uint32_t cf_request_do(cf_handle *request, cf_request_call *calls, size_t n, cf_request_done *done, cf_told *told, size_t room);
+ * then, `done`, `told` and `todo` are written, and the row of the refused call is calls[*done]. */
+uint32_t cf_request_do(cf_handle *request, cf_request_call *calls, size_t n, size_t *done, cf_told *told, size_t room, cf_todo *todo);
 
 /* ---- Views: what one session knows of a row in a store ---- */
 
@@ -1456,14 +1465,14 @@ uint32_t cf_code_text(uint32_t code, uint8_t *text, size_t room, size_t *length)
 
 /* The version of this header. A library of a later version with the same first number has all that stands here,
  * unchanged. */
-#define CF_VERSION_MAJOR 1
-#define CF_VERSION_MINOR 9
+#define CF_VERSION_MAJOR 2
+#define CF_VERSION_MINOR 0
 #define CF_VERSION_PATCH 0
 
 /* None of the next four calls answers a cf_code. The texts that they answer are static and end in a zero byte. Your
  * program doesn't free them. */
 
-/* Answers the version of the library, such as "1.9.0". */
+/* Answers the version of the library, such as "2.0.0". */
 const char *cf_version(void);
 
 /* Answers whether a program that was written for this version of the header runs with the library. */

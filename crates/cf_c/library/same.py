@@ -4,7 +4,7 @@
     crates/cf_c/library/same.py
 
 Each struct has the same fields in the same order and of the same types on both sides, so the same offsets; each call the same parameters;
-each code the number of its name; each form its number. No call takes more than six words, nor a struct above 16 bytes but by pointer:
+each code the number of its name; each form its number. No call takes more than seven words, nor a struct above 16 bytes but by pointer:
 bindings pay dearly for either. It prints a line for each difference, and ends with status 1 where there is one.
 """
 import re
@@ -20,10 +20,11 @@ HEADER = HERE.parent / "include/cf.h"
 OF_C = ["cf_c", "cf_c_handles"]  # the calls, and what they take and give
 NUMBERS = {"u8": "uint8_t", "u16": "uint16_t", "u32": "uint32_t", "u64": "uint64_t", "i32": "int32_t", "usize": "size_t", "bool": "bool"}
 SIZES = {"uint8_t": 1, "bool": 1, "uint16_t": 2, "uint32_t": 4, "int32_t": 4, "uint64_t": 8, "size_t": 8}
-MOST_WORDS, MOST_BYTES = 6, 16
+MOST_WORDS, MOST_BYTES = 7, 16
 STRUCT = re.compile(r"#\[repr\(C\)\]\n(?:#\[[^\n]*\n)*pub struct (Cf\w+) \{\n(.*?)^\}", re.M | re.S)
 FIELD = re.compile(r"^    (?:pub(?:\(crate\))? )?(?!ghost)(\w+): ([^\n]+?),?$", re.M)
 EXPORT = re.compile(r'pub extern "C" fn (cf_\w+)\((.*?)\)(?: -> (\w+))?\s*(?:\n    (?:requires|ensures)|\{)', re.S)
+ROW = re.compile(r"\[(\w+); (\d+)\]")
 TYPEDEF = re.compile(r"typedef struct \{(.*?)\} (cf_\w+);", re.S)
 # What C sees of a handle: a pointer, and whether something stands there.
 HANDLE = [("inner", "RawBox"), ("full", "bool")], [("at", "void *"), ("full", "bool")]
@@ -44,6 +45,9 @@ def of_c(kind):
         return [of_c(kind[5:])[0] + " *"]
     if kind.startswith("&"):
         return ["const " + of_c(kind[1:])[0] + " *"]
+    row = ROW.fullmatch(kind)
+    if row:
+        return [f"{of_c(row[1])[0]} [{row[2]}]"]
     return [NUMBERS.get(kind) or snake(kind)]
 
 
@@ -58,8 +62,8 @@ def structs_of_header(text):
         for said in filter(None, (it.strip() for it in inside.split(";"))):
             kind, names = said.split(None, 1)
             for field in names.split(","):
-                field = field.strip()
-                fields.append((field.lstrip("*"), kind + " *" if field.startswith("*") else kind))
+                field, row, count = field.strip().partition("[")
+                fields.append((field.lstrip("*"), kind + " *" if field.startswith("*") else f"{kind} [{count}" if row else kind))
         found[name] = fields
     return found
 
@@ -68,6 +72,9 @@ def size_of(kind, structs):
     """The bytes and the alignment of a type of C."""
     if kind in SIZES or kind.endswith("*"):
         return (SIZES.get(kind, 8),) * 2
+    if kind.endswith("]"):
+        size, align = size_of(kind.split()[0], structs)
+        return size * int(kind[:-1].split("[")[1]), align
     end, most = 0, 1
     for _, field in structs[kind]:
         size, align = size_of(field, structs)

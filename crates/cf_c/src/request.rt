@@ -12,13 +12,13 @@ use cf_c_handles::code::Code;
 use cf_c_handles::handle::{CfHandle, fill};
 use cf_c_handles::plan::kind_of;
 use cf_c_handles::request::{asking, composing, doing, gathering, request_of, row};
-use cf_c_handles::values::CfValue;
-use cf_c_handles::values::call::{CfRequestCall, CfRequestDone};
+use cf_c_handles::values::call::CfRequestCall;
 use cf_c_handles::values::request::{
-    CfApplied, CfDeadline, CfRequestComposing, CfRequestGathering, CfRequestLinking,
-    CfRequestSizes, CfRequestStep, CfTold,
+    CfDeadline, CfRequestComposing, CfRequestGathering, CfRequestLinking, CfRequestSizes, CfTodo,
+    CfTold,
 };
 use cf_c_handles::values::task::CfTask;
+use cf_c_handles::values::{CfReply, CfValue};
 use cf_request::Deadline;
 use std::alloc::Global;
 
@@ -50,12 +50,14 @@ pub extern "C" fn cf_request_apply(
     h: &mut CfHandle,
     word: u64,
     lane: u8,
-    applied: &mut CfApplied,
+    reply: &mut CfReply,
     told: &mut [CfTold],
+    todo: &mut CfTodo,
 ) -> u32
-    ensures { HandleWrites (AppliesIn word lane) h.old h.new result (applied.old, told.old) (applied.new, told.new) }
+    ensures { HandleWrites (AppliesIn word lane) h.old h.new result (reply.old, told.old, todo.old)
+        (reply.new, told.new, todo.new) }
 {
-    ask!(alloc, h, held => doing::apply(&mut held, word, lane, applied, told))
+    ask!(alloc, h, held => doing::apply(&mut held, word, lane, reply, told, todo))
 }
 
 /// Attaches a stage that gathers these. Then it tells the stages that are settled.
@@ -66,10 +68,12 @@ pub extern "C" fn cf_request_gather(
     step: &mut CfRequestGathering,
     sources: &[u16],
     told: &mut [CfTold],
+    todo: &mut CfTodo,
 ) -> u32
-    ensures { HandleWrites (GathersIn sources.now) h.old h.new result (step.old, told.old) (step.new, told.new) }
+    ensures { HandleWrites (GathersIn sources.now) h.old h.new result (step.old, told.old, todo.old)
+        (step.new, told.new, todo.new) }
 {
-    ask!(alloc, h, held => gathering::gather(&mut held, step, sources, told))
+    ask!(alloc, h, held => gathering::gather(&mut held, step, sources, told, todo))
 }
 
 /// Attaches a compose with its relay. Then it tells the stages that are settled.
@@ -79,10 +83,11 @@ pub extern "C" fn cf_request_compose(
     h: &mut CfHandle,
     step: &mut CfRequestComposing,
     told: &mut [CfTold],
+    todo: &mut CfTodo,
 ) -> u32
-    ensures { HandleWrites ComposesIn h.old h.new result (step.old, told.old) (step.new, told.new) }
+    ensures { HandleWrites ComposesIn h.old h.new result (step.old, told.old, todo.old) (step.new, told.new, todo.new) }
 {
-    ask!(alloc, h, held => composing::compose(&mut held, step, told))
+    ask!(alloc, h, held => composing::compose(&mut held, step, told, todo))
 }
 
 /// Finishes the compose that a task holds with any stage. Then it tells the stages that are settled.
@@ -90,13 +95,15 @@ pub extern "C" fn cf_request_compose(
 pub extern "C" fn cf_request_link(
     alloc: Global,
     h: &mut CfHandle,
-    step: &mut CfRequestLinking,
+    step: &CfRequestLinking,
     task: &mut CfTask,
     told: &mut [CfTold],
+    todo: &mut CfTodo,
 ) -> u32
-    ensures { HandleWrites LinksIn h.old h.new result (step.old, task.old, told.old) (step.new, task.new, told.new) }
+    ensures { HandleWrites (LinksIn step.now) h.old h.new result (task.old, told.old, todo.old)
+        (task.new, told.new, todo.new) }
 {
-    ask!(alloc, h, held => composing::link(&mut held, step, task, told))
+    ask!(alloc, h, held => composing::link(&mut held, step, task, told, todo))
 }
 
 /// Finishes what a task holds with the answer in it. Then claims the next ready stage of the lane, gives it to the task, and tells the
@@ -105,24 +112,26 @@ pub extern "C" fn cf_request_link(
 pub extern "C" fn cf_request_next(
     alloc: Global,
     h: &mut CfHandle,
-    step: &mut CfRequestStep,
+    who: u8,
+    lane: u8,
     task: &mut CfTask,
     told: &mut [CfTold],
+    todo: &mut CfTodo,
 ) -> u32
-    ensures { HandleWrites GoesOnIn h.old h.new result (step.old, task.old, told.old) (step.new, task.new, told.new) }
+    ensures { HandleWrites (GoesOnIn who lane) h.old h.new result (task.old, told.old, todo.old)
+        (task.new, told.new, todo.new) }
 {
-    if task.held != 0 {
-        return next_apart(alloc, h, step, task, told);
-    }
-    if let Some(mut held) = h.take(alloc) {
-        if doing::rests(&held, step, task) {
-            let done = doing::rest(&mut held, step, task, told);
+    if task.held == 0 {
+        if let Some(held) = h.take(alloc) {
+            if doing::rests(&held, who, lane, task) {
+                let done = doing::rest(&held, who, lane, task, told, todo);
+                h.put(held);
+                return code_of(done);
+            }
             h.put(held);
-            return code_of(done);
         }
-        h.put(held);
     }
-    next_apart(alloc, h, step, task, told)
+    next_apart(alloc, h, who, lane, task, told, todo)
 }
 
 /// The same in a call of its own.
@@ -130,13 +139,16 @@ pub extern "C" fn cf_request_next(
 fn next_apart(
     alloc: Global,
     h: &mut CfHandle,
-    step: &mut CfRequestStep,
+    who: u8,
+    lane: u8,
     task: &mut CfTask,
     told: &mut [CfTold],
+    todo: &mut CfTodo,
 ) -> u32
-    ensures { HandleWrites GoesOnIn h.old h.new result (step.old, task.old, told.old) (step.new, task.new, told.new) }
+    ensures { HandleWrites (GoesOnIn who lane) h.old h.new result (task.old, told.old, todo.old)
+        (task.new, told.new, todo.new) }
 {
-    ask!(alloc, h, held => doing::next(&mut held, step, task, told))
+    ask!(alloc, h, held => doing::next(&mut held, who, lane, task, told, todo))
 }
 
 /// From now on a stage ends as another does. Tells the stages that are settled.
@@ -147,11 +159,11 @@ pub extern "C" fn cf_request_follow(
     relay: u16,
     stage: u16,
     told: &mut [CfTold],
-    n: &mut usize,
+    todo: &mut CfTodo,
 ) -> u32
-    ensures { HandleWrites (FollowsIn relay stage) h.old h.new result (told.old, n.old) (told.new, n.new) }
+    ensures { HandleWrites (FollowsIn relay stage) h.old h.new result (told.old, todo.old) (told.new, todo.new) }
 {
-    ask!(alloc, h, held => doing::follow(&mut held, relay, stage, told, n))
+    ask!(alloc, h, held => doing::follow(&mut held, relay, stage, told, todo))
 }
 
 /// Sets a moment by which a stage has to be settled.
@@ -164,9 +176,10 @@ pub extern "C" fn cf_request_deadline(
     kind: u32,
     code: u32,
     value: CfValue,
+    todo: &mut CfTodo,
 ) -> u32
-    ensures { HandleDoes (SetsDeadlineIn (record { stage = stage; moment = moment; kind = kind_of kind code value }))
-        h.old h.new result }
+    ensures { HandleWrites (SetsDeadlineIn (record { stage = stage; moment = moment; kind = kind_of kind code value }))
+        h.old h.new result todo.old todo.new }
 {
     let kind = kind_of(kind, code, value);
     let deadline = Deadline {
@@ -174,7 +187,7 @@ pub extern "C" fn cf_request_deadline(
         moment,
         kind,
     };
-    ask!(alloc, h, held => doing::set_deadline(&mut held, deadline))
+    ask!(alloc, h, held => doing::set_deadline(&mut held, deadline, todo))
 }
 
 /// Lets time pass up to a moment. Tells the stages that are settled.
@@ -184,11 +197,11 @@ pub extern "C" fn cf_request_pass(
     h: &mut CfHandle,
     moment: u64,
     told: &mut [CfTold],
-    n: &mut usize,
+    todo: &mut CfTodo,
 ) -> u32
-    ensures { HandleWrites (PassesIn moment) h.old h.new result (told.old, n.old) (told.new, n.new) }
+    ensures { HandleWrites (PassesIn moment) h.old h.new result (told.old, todo.old) (told.new, todo.new) }
 {
-    ask!(alloc, h, held => doing::pass(&mut held, moment, told, n))
+    ask!(alloc, h, held => doing::pass(&mut held, moment, told, todo))
 }
 
 /// The first deadline of a stage that is open, from the last moment on.
@@ -211,11 +224,11 @@ pub extern "C" fn cf_request_refuse(
     lane: u8,
     code: u32,
     told: &mut [CfTold],
-    n: &mut usize,
+    todo: &mut CfTodo,
 ) -> u32
-    ensures { HandleWrites (RefusesIn lane code) h.old h.new result (told.old, n.old) (told.new, n.new) }
+    ensures { HandleWrites (RefusesIn lane code) h.old h.new result (told.old, todo.old) (told.new, todo.new) }
 {
-    ask!(alloc, h, held => doing::refuse(&mut held, lane, code, told, n))
+    ask!(alloc, h, held => doing::refuse(&mut held, lane, code, told, todo))
 }
 
 /// Tells the stages that are settled and weren't told yet.
@@ -224,11 +237,11 @@ pub extern "C" fn cf_request_told(
     alloc: Global,
     h: &mut CfHandle,
     told: &mut [CfTold],
-    n: &mut usize,
+    todo: &mut CfTodo,
 ) -> u32
-    ensures { HandleWrites TellsIn h.old h.new result (told.old, n.old) (told.new, n.new) }
+    ensures { HandleWrites TellsIn h.old h.new result (told.old, todo.old) (told.new, todo.new) }
 {
-    ask!(alloc, h, held => doing::told(&mut held, told, n))
+    ask!(alloc, h, held => doing::told(&mut held, told, todo))
 }
 
 /// How many stages of a lane are ready.
@@ -251,11 +264,11 @@ pub extern "C" fn cf_request_cancel_all(
     h: &mut CfHandle,
     who: u8,
     told: &mut [CfTold],
-    n: &mut usize,
+    todo: &mut CfTodo,
 ) -> u32
-    ensures { HandleWrites (CancelsIn who) h.old h.new result (told.old, n.old) (told.new, n.new) }
+    ensures { HandleWrites (CancelsIn who) h.old h.new result (told.old, todo.old) (told.new, todo.new) }
 {
-    ask!(alloc, h, held => doing::cancel_all(&mut held, who, told, n))
+    ask!(alloc, h, held => doing::cancel_all(&mut held, who, told, todo))
 }
 
 /// Makes room for more stages.
@@ -281,11 +294,12 @@ pub extern "C" fn cf_request_do(
     alloc: Global,
     h: &mut CfHandle,
     calls: &mut [CfRequestCall],
-    done: &mut CfRequestDone,
+    done: &mut usize,
     told: &mut [CfTold],
+    todo: &mut CfTodo,
 ) -> u32
-    ensures { HandleWrites DoesCallsIn h.old h.new result (calls.old, done.old, told.old)
-        (calls.new, done.new, told.new) }
+    ensures { HandleWrites DoesCallsIn h.old h.new result (calls.old, done.old, told.old, todo.old)
+        (calls.new, done.new, told.new, todo.new) }
 {
-    ask!(alloc, h, held => row::do_calls(&mut held, calls, done, told))
+    ask!(alloc, h, held => row::do_calls(&mut held, calls, done, told, todo))
 }

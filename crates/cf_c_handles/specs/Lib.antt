@@ -30,4 +30,5 @@ pub mod Seals
 pub mod Sweeps
 pub mod Tasks
 pub mod Texts
+pub mod Todos
 pub mod Values

@@ -1,5 +1,5 @@
 -- What a request behind a handle is asked.
-use Rattle.std.specs.Prelude.{◌≡◌, ◌⊎◌, ℕ, ◌<◌, ◌≤◌, Bool, Result, Ok, Err, List, [], is_some}
+use Rattle.std.specs.Prelude.{◌≡◌, ◌⊎◌, ℕ, ◌<◌, ◌≤◌, Bool, None, Result, Ok, Err, List, [], is_some}
 use Rattle.cf_model.specs.declared.events.Reply.{Reply}
 use Rattle.cf_request.specs.Deadlines.{Forgets, IsNextDue, NoneOpen}
 use Rattle.cf_request.specs.Growing.{Grows, IsNoGrowth}
@@ -12,15 +12,16 @@ use Rattle.cf_request.specs.declared.machine.Next.{Next}
 use Rattle.cf_c_handles.specs.LedgerSteps.{late_number, step_code, taken_code, task_with}
 use Rattle.cf_c_handles.specs.Ledgers.{word_code}
 use Rattle.cf_c_handles.specs.Replies.{as_reply}
-use Rattle.cf_c_handles.specs.Requests.{TellsInto, as_deadline}
+use Rattle.cf_c_handles.specs.Requests.{as_deadline}
 use Rattle.cf_c_handles.specs.Tasks.{held_by}
+use Rattle.cf_c_handles.specs.Todos.{SaysNext, TellsInto}
 use Rattle.cf_c_handles.specs.declared.code.Code.{Code}
 use Rattle.cf_c_handles.specs.declared.code.Code.TheVariants.{NoLane, NoMemory, NoStage, Nothing, PastMoment, Room, WrongKind}
 use Rattle.cf_c_handles.specs.declared.handle.object.Object.{Object}
 use Rattle.cf_c_handles.specs.declared.handle.object.Object.TheVariants.{Request}
-use Rattle.cf_c_handles.specs.declared.values.request.CfApplied.{CfApplied}
+use Rattle.cf_c_handles.specs.declared.values.CfReply.{CfReply}
 use Rattle.cf_c_handles.specs.declared.values.request.CfDeadline.{CfDeadline}
-use Rattle.cf_c_handles.specs.declared.values.request.CfRequestStep.{CfRequestStep}
+use Rattle.cf_c_handles.specs.declared.values.request.CfTodo.{CfTodo}
 use Rattle.cf_c_handles.specs.declared.values.request.CfTold.{CfTold}
 use Rattle.cf_c_handles.specs.declared.values.task.CfTask.{CfTask}
 
@@ -56,24 +57,24 @@ pub record StaysButFinds (old : Machine) (new : Object) : Type 0 where
 
 -- ---- calls that tell stages
 
--- something is done, and then what is told is written
-pub record DoesAndTells (Does : Machine → Machine → Type 0) (old : Machine) (new : Object) (had has : List CfTold × ℕ) : Type 0 where
+-- something is done, and then it is told what is settled and what is next
+pub record DoesAndTells (Does : Machine → Machine → Type 0) (old : Machine) (new : Object) (had has : List CfTold × CfTodo) : Type 0 where
   pub between : Machine
   pub now : Machine
   pub does : Does old between
-  pub tells : TellsInto between had.0 has.0 has.1 now
+  pub tells : TellsInto between had has now
   pub is : new ≡ Request now
 
 -- it is done, or refused for a fault that is due
-abbrev pub TellsAfter : (Machine → Machine → Type 0) → (Machine → MachineFault → Type 0) → Object → List CfTold × ℕ → Result (Unit {0}) Code → Object → List CfTold × ℕ → Type 0
+abbrev pub TellsAfter : (Machine → Machine → Type 0) → (Machine → MachineFault → Type 0) → Object → List CfTold × CfTodo → Result (Unit {0}) Code → Object → List CfTold × CfTodo → Type 0
 TellsAfter Does IsDue (Request m) had (Ok done) new has = DoesAndTells Does m new had has
 TellsAfter Does IsDue (Request m) had (Err code) new has = IsDueAs machine_code (IsDue m) code × StaysButFinds m new × (has ≡ had)
 TellsAfter Does IsDue held had r new has = (r ≡ Err WrongKind) × (new ≡ held) × (has ≡ had)
 
-abbrev pub FollowsIn : ℕ → ℕ → Object → List CfTold × ℕ → Result (Unit {0}) Code → Object → List CfTold × ℕ → Type 0
+abbrev pub FollowsIn : ℕ → ℕ → Object → List CfTold × CfTodo → Result (Unit {0}) Code → Object → List CfTold × CfTodo → Type 0
 FollowsIn relay stage = TellsAfter (SetsFollow relay stage) (IsNoFollow relay stage)
 
-abbrev pub PassesIn : ℕ → Object → List CfTold × ℕ → Result (Unit {0}) Code → Object → List CfTold × ℕ → Type 0
+abbrev pub PassesIn : ℕ → Object → List CfTold × CfTodo → Result (Unit {0}) Code → Object → List CfTold × CfTodo → Type 0
 PassesIn moment = TellsAfter (Passes moment) (IsNoPass moment)
 
 -- why a lane isn't refused: too little memory was found before
@@ -83,37 +84,37 @@ IsNoRefusal m faults.NoStage = ⊥
 IsNoRefusal m faults.Past = ⊥
 IsNoRefusal m faults.Full = ⊥
 
-abbrev pub RefusesIn : ℕ → ℕ → Object → List CfTold × ℕ → Result (Unit {0}) Code → Object → List CfTold × ℕ → Type 0
+abbrev pub RefusesIn : ℕ → ℕ → Object → List CfTold × CfTodo → Result (Unit {0}) Code → Object → List CfTold × CfTodo → Type 0
 RefusesIn lane code (Request m) had r new has = IfLane lane m r new (has ≡ had) (TellsAfter (Refuses lane code) IsNoRefusal (Request m) had r new has)
 RefusesIn lane code held had r new has = (r ≡ Err WrongKind) × (new ≡ held) × (has ≡ had)
 
 -- all that is open is cancelled, or nothing is
-abbrev pub CancelsIn : ℕ → Object → List CfTold × ℕ → Result (Unit {0}) Code → Object → List CfTold × ℕ → Type 0
+abbrev pub CancelsIn : ℕ → Object → List CfTold × CfTodo → Result (Unit {0}) Code → Object → List CfTold × CfTodo → Type 0
 CancelsIn who (Request m) had (Ok done) new has = DoesAndTells (CancelsAll who) m new had has
 CancelsIn who (Request m) had (Err code) new has = IsDueAs step_code (IsNoCancel who m) code × StaysButFinds m new × (has ≡ had)
 CancelsIn who held had r new has = (r ≡ Err WrongKind) × (new ≡ held) × (has ≡ had)
 
-abbrev pub TellsIn : Object → List CfTold × ℕ → Result (Unit {0}) Code → Object → List CfTold × ℕ → Type 0
+abbrev pub TellsIn : Object → List CfTold × CfTodo → Result (Unit {0}) Code → Object → List CfTold × CfTodo → Type 0
 TellsIn = TellsAfter (λ old new. new ≡ old) (λ m fault. ⊥)
 
 -- ---- words
 
 -- a word is done, and C has its reply and what is told
-pub record HasApplied (word lane : ℕ) (old : Machine) (new : Object) (had has : CfApplied × List CfTold) : Type 0 where
+pub record HasApplied (word lane : ℕ) (old : Machine) (new : Object) (had has : CfReply × List CfTold × CfTodo) : Type 0 where
   pub reply : Reply
   pub between : Machine
   pub now : Machine
   pub applies : AppliesWord word lane old reply between
-  pub replied : has.0.reply ≡ as_reply reply
-  pub tells : TellsInto between had.1 has.1 has.0.told now
+  pub replied : has.0 ≡ as_reply reply
+  pub tells : TellsInto between (had.1, had.2) (has.1, has.2) now
   pub is : new ≡ Request now
 
 -- or the word is refused for a fault that is due
-abbrev pub AppliesOrNot : ℕ → ℕ → Machine → CfApplied × List CfTold → Result (Unit {0}) Code → Object → CfApplied × List CfTold → Type 0
+abbrev pub AppliesOrNot : ℕ → ℕ → Machine → CfReply × List CfTold × CfTodo → Result (Unit {0}) Code → Object → CfReply × List CfTold × CfTodo → Type 0
 AppliesOrNot word lane m had (Ok done) new has = HasApplied word lane m new had has
 AppliesOrNot word lane m had (Err code) new has = IsDueAs word_code (IsNoWord word m) code × StaysButFinds m new × (has ≡ had)
 
-abbrev pub AppliesIn : ℕ → ℕ → Object → CfApplied × List CfTold → Result (Unit {0}) Code → Object → CfApplied × List CfTold → Type 0
+abbrev pub AppliesIn : ℕ → ℕ → Object → CfReply × List CfTold × CfTodo → Result (Unit {0}) Code → Object → CfReply × List CfTold × CfTodo → Type 0
 AppliesIn word lane (Request m) had r new has = IfLane lane m r new (has ≡ had) (AppliesOrNot word lane m had r new has)
 AppliesIn word lane held had r new has = (r ≡ Err WrongKind) × (new ≡ held) × (has ≡ had)
 
@@ -127,51 +128,72 @@ pub record Advances (who lane : ℕ) (old : Machine) (had : CfTask) (claimed : B
   pub task : has ≡ task_with (record had { finished = late_number next.finish }) next.taken
 
 -- what was held is finished, the next stage of the lane is claimed, and C has both and what is told
-pub record HasGoneOn (old : Machine) (r : Result (Unit {0}) Code) (new : Object) (had has : CfRequestStep × CfTask × List CfTold) : Type 0 where
+pub record HasGoneOn (who lane : ℕ) (old : Machine) (r : Result (Unit {0}) Code) (new : Object) (had has : CfTask × List CfTold × CfTodo) : Type 0 where
   pub next : Next
   pub between : Machine
   pub now : Machine
-  pub goes_on : GoesOn had.0.who had.0.lane (held_by had.1) old next between
+  pub goes_on : GoesOn who lane (held_by had.0) old next between
   pub told : r ≡ taken_code next.taken
-  pub task : has.1 ≡ task_with (record had.1 { finished = late_number next.finish }) next.taken
-  pub tells : TellsInto between had.2 has.2 has.0.told now
-  pub step : has.0 ≡ record had.0 { told = has.0.told }
+  pub task : has.0 ≡ task_with (record had.0 { finished = late_number next.finish }) next.taken
+  pub tells : TellsInto between (had.1, had.2) (has.1, has.2) now
   pub is : new ≡ Request now
 
 -- nothing is done
-pub record IsNotGone (old : Machine) (r : Result (Unit {0}) Code) (new : Object) (had has : CfRequestStep × CfTask × List CfTold) : Type 0 where
+pub record IsNotGone (who lane : ℕ) (old : Machine) (r : Result (Unit {0}) Code) (new : Object) (had has : CfTask × List CfTold × CfTodo) : Type 0 where
   pub code : Code
   pub is : r ≡ Err code
-  pub refused : IsDueAs step_code (IsNoNext had.0.who had.0.lane (held_by had.1) old) code
+  pub refused : IsDueAs step_code (IsNoNext who lane (held_by had.0) old) code
   pub stays : StaysButFinds old new
   pub same : has ≡ had
 
 -- it is done, also if nothing was claimed, or refused for a fault that is due
-abbrev pub GoesOnOrNot : Machine → CfRequestStep × CfTask × List CfTold → Result (Unit {0}) Code → Object → CfRequestStep × CfTask × List CfTold → Type 0
-GoesOnOrNot m had r new has = HasGoneOn m r new had has ⊎ IsNotGone m r new had has
-
-abbrev pub GoesOnIn : Object → CfRequestStep × CfTask × List CfTold → Result (Unit {0}) Code → Object → CfRequestStep × CfTask × List CfTold → Type 0
-GoesOnIn (Request m) had r new has = IfLane had.0.lane m r new (has ≡ had) (GoesOnOrNot m had r new has)
-GoesOnIn held had r new has = (r ≡ Err WrongKind) × (new ≡ held) × (has ≡ had)
+abbrev pub GoesOnOrNot : ℕ → ℕ → Machine → CfTask × List CfTold × CfTodo → Result (Unit {0}) Code → Object → CfTask × List CfTold × CfTodo → Type 0
+GoesOnOrNot who lane m had r new has = HasGoneOn who lane m r new had has ⊎ IsNotGone who lane m r new had has
 
 -- the caller and its lane are there, and there is nothing to finish, to give and to tell
-pub record Rests (m : Machine) (step : CfRequestStep) (task : CfTask) : Type 0 where
-  pub caller : step.who ≤ 63
-  pub lane : step.lane < lanes_in m
+pub record Rests (who lane : ℕ) (m : Machine) (task : CfTask) : Type 0 where
   pub none_held : task.held ≡ 0
-  pub none_ready : ready_in m.teller step.lane ≡ 0
+  pub caller : who ≤ 63
+  pub there : lane < lanes_in m
+  pub none_ready : ready_in m.teller lane ≡ 0
   pub none_told : m.teller.told ≡ []
 
-abbrev pub RestsIn : Object → CfRequestStep → CfTask → Type 0
-RestsIn (Request m) step task = Rests m step task
-RestsIn held step task = ⊥
+-- the step that does nothing: the machine is as it was, and C is told that there is nothing to tell and nothing new
+pub record IsIdleStep (who lane : ℕ) (m : Machine) (had : CfTask × CfTodo) (r : Result (Unit {0}) Code) (has : CfTask × CfTodo) : Type 0 where
+  pub next : Next
+  pub goes_on : GoesOn who lane None m next m
+  pub code : r ≡ taken_code next.taken
+  pub task : has.0 ≡ task_with (record had.0 { finished = late_number next.finish }) next.taken
+  pub todo : has.1 ≡ record had.1 { told = 0; news = 0 }
+
+-- exactly where there is nothing to do, nothing changes, and the next moment and what is ready aren't written
+abbrev pub GoesOnOrRests : ℕ → ℕ → Machine → CfTask × List CfTold × CfTodo → Result (Unit {0}) Code → Object → CfTask × List CfTold × CfTodo → Type 0
+GoesOnOrRests who lane m had r new has =
+    (Rests who lane m had.0 × IsIdleStep who lane m (had.0, had.2) r (has.0, has.2) × (new ≡ Request m) × (has.1 ≡ had.1))
+    ⊎ ((¬ Rests who lane m had.0) × GoesOnOrNot who lane m had r new has)
+
+abbrev pub GoesOnIn : ℕ → ℕ → Object → CfTask × List CfTold × CfTodo → Result (Unit {0}) Code → Object → CfTask × List CfTold × CfTodo → Type 0
+GoesOnIn who lane (Request m) had r new has = IfLane lane m r new (has ≡ had) (GoesOnOrRests who lane m had r new has)
+GoesOnIn who lane held had r new has = (r ≡ Err WrongKind) × (new ≡ held) × (has ≡ had)
+
+abbrev pub RestsIn : ℕ → ℕ → Object → CfTask → Type 0
+RestsIn who lane (Request m) task = Rests who lane m task
+RestsIn who lane held task = ⊥
 
 -- ---- calls that tell no stages
 
-abbrev pub SetsDeadlineIn : Deadline → Object → Result (Unit {0}) Code → Object → Type 0
-SetsDeadlineIn d (Request m) (Ok done) new = (now : Machine) × SetsDeadline d m now × (new ≡ Request now)
-SetsDeadlineIn d (Request m) (Err code) new = IsDueAs machine_code (IsNoDeadline d m) code × (new ≡ Request m)
-SetsDeadlineIn d held r new = (r ≡ Err WrongKind) × (new ≡ held)
+-- a deadline is set, and C is told what is next
+pub record HasDeadline (d : Deadline) (old : Machine) (new : Object) (had has : CfTodo) : Type 0 where
+  pub between : Machine
+  pub now : Machine
+  pub sets : SetsDeadline d old between
+  pub says : SaysNext between had has now
+  pub is : new ≡ Request now
+
+abbrev pub SetsDeadlineIn : Deadline → Object → CfTodo → Result (Unit {0}) Code → Object → CfTodo → Type 0
+SetsDeadlineIn d (Request m) had (Ok done) new has = HasDeadline d m new had has
+SetsDeadlineIn d (Request m) had (Err code) new has = IsDueAs machine_code (IsNoDeadline d m) code × (new ≡ Request m) × (has ≡ had)
+SetsDeadlineIn d held had r new has = (r ≡ Err WrongKind) × (new ≡ held) × (has ≡ had)
 
 -- there is room for more stages, or it is refused for a fault that is due
 abbrev pub GrowsIn : Object → Result (Unit {0}) Code → Object → Type 0

@@ -10,14 +10,15 @@ use Rattle.cf_request.specs.declared.composing.Composing.TheVariants.{Compose, E
 use Rattle.cf_c_handles.specs.LedgerSteps.{late_number, step_code, task_with}
 use Rattle.cf_c_handles.specs.Ledgers.{word_code}
 use Rattle.cf_c_handles.specs.RequestCalls.{IfLane, IsDueAs, StaysButFinds}
-use Rattle.cf_c_handles.specs.Requests.{TellsInto}
 use Rattle.cf_c_handles.specs.Tasks.{held_by}
+use Rattle.cf_c_handles.specs.Todos.{TellsInto}
 use Rattle.cf_c_handles.specs.declared.code.Code.{Code}
 use Rattle.cf_c_handles.specs.declared.code.Code.TheVariants.{NoSuchNumber, NotHeld, WrongKind}
 use Rattle.cf_c_handles.specs.declared.handle.object.Object.{Object}
 use Rattle.cf_c_handles.specs.declared.handle.object.Object.TheVariants.{Request}
 use Rattle.cf_c_handles.specs.declared.values.request.CfRequestComposing.{CfRequestComposing}
 use Rattle.cf_c_handles.specs.declared.values.request.CfRequestLinking.{CfRequestLinking}
+use Rattle.cf_c_handles.specs.declared.values.request.CfTodo.{CfTodo}
 use Rattle.cf_c_handles.specs.declared.values.request.CfTold.{CfTold}
 use Rattle.cf_c_handles.specs.declared.values.task.CfTask.{CfTask}
 
@@ -31,26 +32,26 @@ composing_of number =
     else None)
 
 -- both are attached, and C has their numbers and what is told
-pub record HasComposed (how : Composing) (old : Machine) (new : Object) (had has : CfRequestComposing × List CfTold) : Type 0 where
+pub record HasComposed (how : Composing) (old : Machine) (new : Object) (had has : CfRequestComposing × List CfTold × CfTodo) : Type 0 where
   pub composed : Composed
   pub between : Machine
   pub now : Machine
   pub composes : Composes had.0.who how had.0.source had.0.function had.0.lane old composed between
-  pub tells : TellsInto between had.1 has.1 has.0.told now
-  pub rest : has.0 ≡ record had.0 { relay = composed.relay; stage = composed.stage; told = has.0.told }
+  pub tells : TellsInto between (had.1, had.2) (has.1, has.2) now
+  pub rest : has.0 ≡ record had.0 { relay = composed.relay; stage = composed.stage }
   pub is : new ≡ Request now
 
 -- or nothing is, for a fault that is due
-abbrev pub ComposesOrNot : Composing → Machine → CfRequestComposing × List CfTold → Result (Unit {0}) Code → Object → CfRequestComposing × List CfTold → Type 0
+abbrev pub ComposesOrNot : Composing → Machine → CfRequestComposing × List CfTold × CfTodo → Result (Unit {0}) Code → Object → CfRequestComposing × List CfTold × CfTodo → Type 0
 ComposesOrNot how m had (Ok done) new has = HasComposed how m new had has
 ComposesOrNot how m had (Err code) new has = IsDueAs word_code (IsNoCompose had.0.who had.0.source had.0.function m) code × (new ≡ Request m) × (has ≡ had)
 
 -- exactly where the form is no compose's, C is told that, and nothing changes
-abbrev pub ComposesBy : Option Composing → Machine → CfRequestComposing × List CfTold → Result (Unit {0}) Code → Object → CfRequestComposing × List CfTold → Type 0
+abbrev pub ComposesBy : Option Composing → Machine → CfRequestComposing × List CfTold × CfTodo → Result (Unit {0}) Code → Object → CfRequestComposing × List CfTold × CfTodo → Type 0
 ComposesBy None m had r new has = (r ≡ Err NoSuchNumber) × (new ≡ Request m) × (has ≡ had)
 ComposesBy (Some how) m had r new has = ComposesOrNot how m had r new has
 
-abbrev pub ComposesIn : Object → CfRequestComposing × List CfTold → Result (Unit {0}) Code → Object → CfRequestComposing × List CfTold → Type 0
+abbrev pub ComposesIn : Object → CfRequestComposing × List CfTold × CfTodo → Result (Unit {0}) Code → Object → CfRequestComposing × List CfTold × CfTodo → Type 0
 ComposesIn (Request m) had r new has = IfLane had.0.lane m r new (has ≡ had) (ComposesBy (composing_of had.0.form) m had r new has)
 ComposesIn held had r new has = (r ≡ Err WrongKind) × (new ≡ held) × (has ≡ had)
 
@@ -61,26 +62,25 @@ abbrev pub composed_of : CfRequestLinking → CfTask → Composed
 composed_of step task = record { relay = step.relay; stage = task.stage }
 
 -- it is finished, the task holds nothing, and C has how it went and what is told
-pub record HasLinked (old : Machine) (new : Object) (had has : CfRequestLinking × CfTask × List CfTold) : Type 0 where
+pub record HasLinked (step : CfRequestLinking) (old : Machine) (new : Object) (had has : CfTask × List CfTold × CfTodo) : Type 0 where
   pub finish : Finish
   pub between : Machine
   pub now : Machine
-  pub links : Links had.0.who (composed_of had.0 had.1) had.0.stage old finish between
-  pub task : has.1 ≡ task_with (record had.1 { finished = late_number (Some finish) }) None
-  pub tells : TellsInto between had.2 has.2 has.0.told now
-  pub step : has.0 ≡ record had.0 { told = has.0.told }
+  pub links : Links step.who (composed_of step had.0) step.stage old finish between
+  pub task : has.0 ≡ task_with (record had.0 { finished = late_number (Some finish) }) None
+  pub tells : TellsInto between (had.1, had.2) (has.1, has.2) now
   pub is : new ≡ Request now
 
 -- or nothing is done, for a fault that is due
-abbrev pub LinksOrNot : Machine → CfRequestLinking × CfTask × List CfTold → Result (Unit {0}) Code → Object → CfRequestLinking × CfTask × List CfTold → Type 0
-LinksOrNot m had (Ok done) new has = HasLinked m new had has
-LinksOrNot m had (Err code) new has = IsDueAs step_code (IsNoLink had.0.who (composed_of had.0 had.1) had.0.stage m) code × StaysButFinds m new × (has ≡ had)
+abbrev pub LinksOrNot : CfRequestLinking → Machine → CfTask × List CfTold × CfTodo → Result (Unit {0}) Code → Object → CfTask × List CfTold × CfTodo → Type 0
+LinksOrNot step m had (Ok done) new has = HasLinked step m new had has
+LinksOrNot step m had (Err code) new has = IsDueAs step_code (IsNoLink step.who (composed_of step had.0) step.stage m) code × StaysButFinds m new × (has ≡ had)
 
 -- exactly where the task holds nothing, C is told that, and nothing changes
-abbrev pub LinksBy : Option Held → Machine → CfRequestLinking × CfTask × List CfTold → Result (Unit {0}) Code → Object → CfRequestLinking × CfTask × List CfTold → Type 0
-LinksBy None m had r new has = (r ≡ Err NotHeld) × (new ≡ Request m) × (has ≡ had)
-LinksBy (Some held) m had r new has = LinksOrNot m had r new has
+abbrev pub LinksBy : Option Held → CfRequestLinking → Machine → CfTask × List CfTold × CfTodo → Result (Unit {0}) Code → Object → CfTask × List CfTold × CfTodo → Type 0
+LinksBy None step m had r new has = (r ≡ Err NotHeld) × (new ≡ Request m) × (has ≡ had)
+LinksBy (Some held) step m had r new has = LinksOrNot step m had r new has
 
-abbrev pub LinksIn : Object → CfRequestLinking × CfTask × List CfTold → Result (Unit {0}) Code → Object → CfRequestLinking × CfTask × List CfTold → Type 0
-LinksIn (Request m) had r new has = LinksBy (held_by had.1) m had r new has
-LinksIn held had r new has = (r ≡ Err WrongKind) × (new ≡ held) × (has ≡ had)
+abbrev pub LinksIn : CfRequestLinking → Object → CfTask × List CfTold × CfTodo → Result (Unit {0}) Code → Object → CfTask × List CfTold × CfTodo → Type 0
+LinksIn step (Request m) had r new has = LinksBy (held_by had.0) step m had r new has
+LinksIn step held had r new has = (r ≡ Err WrongKind) × (new ≡ held) × (has ≡ had)

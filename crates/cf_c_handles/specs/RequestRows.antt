@@ -9,8 +9,8 @@ use Rattle.cf_c_handles.specs.LedgerSteps.{late_number, step_code, task_with}
 use Rattle.cf_c_handles.specs.Ledgers.{word_code}
 use Rattle.cf_c_handles.specs.Replies.{as_reply}
 use Rattle.cf_c_handles.specs.RequestCalls.{IsDueAs, IsNoRefusal, lanes_in, machine_code}
-use Rattle.cf_c_handles.specs.Requests.{TellsInto}
 use Rattle.cf_c_handles.specs.Tasks.{held_by}
+use Rattle.cf_c_handles.specs.Todos.{TellsInto}
 use Rattle.cf_c_handles.specs.declared.code.Code.{Code}
 use Rattle.cf_c_handles.specs.declared.code.Code.TheVariants.{NoLane, NoSuchNumber, WrongKind}
 use Rattle.cf_c_handles.specs.declared.handle.object.Object.{Object}
@@ -18,7 +18,7 @@ use Rattle.cf_c_handles.specs.declared.handle.object.Object.TheVariants.{Request
 use Rattle.cf_c_handles.specs.declared.request.row.Call.{Call}
 use Rattle.cf_c_handles.specs.declared.request.row.Call.TheVariants.{Apply, Next as TakeNext, Follow, SetDeadline, Pass, Refuse, CancelAll}
 use Rattle.cf_c_handles.specs.declared.values.call.CfRequestCall.{CfRequestCall}
-use Rattle.cf_c_handles.specs.declared.values.call.CfRequestDone.{CfRequestDone}
+use Rattle.cf_c_handles.specs.declared.values.request.CfTodo.{CfTodo}
 use Rattle.cf_c_handles.specs.declared.values.request.CfTold.{CfTold}
 
 -- ---- one call
@@ -98,14 +98,14 @@ pub record DoesCalls (m : Machine) (had : List CfRequestCall) (r : Result (Unit 
   pub stops : StopsAt (drop count had) between r new
   pub rest : drop count has ≡ drop count had
 
--- and then what is told is written
-pub record HasDoneCalls (m : Machine) (r : Result (Unit {0}) Code) (new : Object) (had has : List CfRequestCall × CfRequestDone × List CfTold) : Type 0 where
+-- and then it is told what is settled and what is next
+pub record HasDoneCalls (m : Machine) (r : Result (Unit {0}) Code) (new : Object) (had has : List CfRequestCall × ℕ × List CfTold × CfTodo) : Type 0 where
   pub between : Machine
   pub now : Machine
-  pub does : DoesCalls m had.0 r between has.0 has.1.calls
-  pub tells : TellsInto between had.2 has.2 has.1.told now
+  pub does : DoesCalls m had.0 r between has.0 has.1
+  pub tells : TellsInto between (had.2, had.3) (has.2, has.3) now
   pub is : new ≡ Request now
 
-abbrev pub DoesCallsIn : Object → List CfRequestCall × CfRequestDone × List CfTold → Result (Unit {0}) Code → Object → List CfRequestCall × CfRequestDone × List CfTold → Type 0
+abbrev pub DoesCallsIn : Object → List CfRequestCall × ℕ × List CfTold × CfTodo → Result (Unit {0}) Code → Object → List CfRequestCall × ℕ × List CfTold × CfTodo → Type 0
 DoesCallsIn (Request m) had r new has = HasDoneCalls m r new had has
 DoesCallsIn held had r new has = (r ≡ Err WrongKind) × (new ≡ held) × (has ≡ had)

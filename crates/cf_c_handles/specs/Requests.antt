@@ -1,16 +1,15 @@
--- A request behind a handle: how it is opened, and how it tells which stages were settled.
-use Rattle.std.specs.Prelude.{◌≡◌, ℕ, ◌<◌, ◌≤◌, ◌++◌, true, false, Option, None, Result, Ok, Err, List, [], All, drop, length, take}
+-- A request behind a handle: how it is opened, and a stage as it is told.
+use Rattle.std.specs.Prelude.{◌≡◌, ℕ, ◌+◌, ◌<◌, ◌≤◌, true, false, Option, Some, None, Result, Ok, Err, List, [], All, length}
 use Rattle.cf_outcome.specs.declared.outcome.Outcome.{Outcome}
 use Rattle.cf_outcome.specs.declared.outcome.Value.TheVariants.{Nil}
 use Rattle.cf_forms.specs.declared.limits.LimitKind.{LimitKind}
 use Rattle.cf_forms.specs.declared.limits.LimitKind.TheVariants.{Timeout, Give}
 use Rattle.cf_forms.specs.Plans.{Planned, has_place, with_room}
-use Rattle.cf_model.specs.States.{State, outcome_at, start}
-use Rattle.cf_request.specs.Machines.{Machine, state_in}
+use Rattle.cf_model.specs.States.{State, claim_at, outcome_at, start}
+use Rattle.cf_request.specs.Machines.{Machine}
 use Rattle.cf_request.specs.Ready.{IsLaneCount}
 use Rattle.cf_request.specs.Telling.{AreFresh}
 use Rattle.cf_request.specs.declared.deadlines.Deadline.{Deadline}
-use Rattle.cf_c_handles.specs.Ledgers.{AreWritten}
 use Rattle.cf_c_handles.specs.Values.{as_outcome, as_value}
 use Rattle.cf_c_handles.specs.declared.code.Code.{Code}
 use Rattle.cf_c_handles.specs.declared.code.Code.TheVariants.{Lanes, NoLane, NoMemory, NoWord, Room, WrongKind}
@@ -39,25 +38,17 @@ limit_value (Give v) = as_value v
 abbrev pub as_deadline : Deadline → CfDeadline
 as_deadline d = record { stage = d.stage; moment = d.moment; kind = limit_number d.kind; code = limit_code d.kind; value = limit_value d.kind }
 
-abbrev pub told_as : ℕ → Option Outcome → CfTold
-told_as i outcome = record { stage = i; outcome = as_outcome outcome }
+-- 1 and the caller whose function may be stopped, or 0
+abbrev pub stop_of : Option ℕ → ℕ
+stop_of None = 0
+stop_of (Some who) = 1 + who
 
--- a stage as it is told, with its outcome
+abbrev pub told_as : ℕ → Option ℕ → Option Outcome → CfTold
+told_as i claimant outcome = record { stage = i; stop = stop_of claimant; outcome = as_outcome outcome }
+
+-- a stage as it is told, with the caller whose claim of it is open, and its outcome
 abbrev pub told_in : State → ℕ → CfTold
-told_in s i = told_as i (outcome_at s i)
-
--- ---- telling
-
--- the first so many of what is told were taken
-abbrev pub taking : ℕ → Machine → Machine
-taking count m =
-    record m { teller = record m.teller { taken = m.teller.taken ++ take count m.teller.told; told = drop count m.teller.told } }
-
--- what is told is written as far as a buffer reaches, with its outcomes, and is taken then; C is told how many it was
-pub record TellsInto (old : Machine) (had has : List CfTold) (count : ℕ) (new : Machine) : Type 0 where
-  pub given : AreWritten (told_in (state_in old)) old.teller.told had has
-  pub count_is : count ≡ length old.teller.told
-  pub takes : new ≡ taking (length had) old
+told_in s i = told_as i (claim_at s i) (outcome_at s i)
 
 -- ---- requests are opened
 

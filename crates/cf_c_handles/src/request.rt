@@ -1,10 +1,12 @@
 //! One request of a service as a machine, which tells each settled stage once.
 ghost use Rattle.std.specs.Prelude.{◌≡◌, ◌↔◌, IsTrue, length};
+ghost use Rattle.cf_request.specs.Deadlines.{Forgets};
+ghost use Rattle.cf_request.specs.Machines.{OnlyDeadlines, state_in};
 ghost use Rattle.cf_ledger.specs.Ledgers.{state_of};
-ghost use Rattle.cf_request.specs.Machines.{state_in};
 ghost use Rattle.cf_c_handles.specs.Ledgers.{AreWritten};
 ghost use Rattle.cf_c_handles.specs.RequestCalls.{machine_code};
-ghost use Rattle.cf_c_handles.specs.Requests.{AreBelow, AreLanes, RequestOf, TellsInto, told_in};
+ghost use Rattle.cf_c_handles.specs.Todos.{AreWanted, IsNextMoment, SaysNext, TellsInto, is_wanted_below, news_of};
+ghost use Rattle.cf_c_handles.specs.Requests.{AreBelow, AreLanes, RequestOf, told_in};
 
 pub mod asking;
 pub mod composing;
@@ -14,13 +16,16 @@ pub mod row;
 
 use crate::code::Code;
 use crate::handle::object::Object;
-use crate::values::request::{CfRequestSizes, CfTold, put_told};
+use crate::values::request::{CfRequestSizes, CfTodo, CfTold, put_told};
 use cf_plan::Plan;
 use cf_request::{Ledger, Machine, MachineFault};
 use std::alloc::Global;
 
 /// The number of lanes that a request may have.
 const MOST_LANES: u8 = 16;
+
+/// Stands for the next moment where no open stage has a deadline.
+const NEVER: u64 = 18_446_744_073_709_551_615;
 
 /// The request of a plan with these sizes, and with the lanes of its stages.
 pub fn request_of(
@@ -77,29 +82,77 @@ fn machine_code(fault: MachineFault) -> Code
     }
 }
 
-/// Writes the stages that are told as far as the row reaches, and takes these. It tells how many were told.
+/// Writes the stages that are told as far as the row reaches, and what is to be done next, and takes these stages.
 #[inline(always)]
-#[tactic(auto, using(crate::proofs::Requests::takes_so_many))]
-fn tell_into(machine: &mut Machine, row: &mut [CfTold]) -> usize
-    ensures { TellsInto machine.old row.old row.new result machine.new }
+#[tactic(auto, using(crate::proofs::Requests::takes_so_many, crate::proofs::Requests::takes_none))]
+fn tell_into(machine: &mut Machine, row: &mut [CfTold], todo: &mut CfTodo)
+    ensures { TellsInto machine.old (row.old, todo.old) (row.new, todo.new) machine.new }
 {
-    let count = write_told(machine, row);
-    machine.took(row.len());
-    count
-}
-
-/// Writes the stages that are told as far as the row reaches. It tells how many they are.
-#[inline(always)]
-fn write_told(machine: &Machine, row: &mut [CfTold]) -> usize
-    ensures given { AreWritten (told_in (state_in machine.now)) machine.now.teller.told row.old row.new }
-    ensures count { result ≡ length machine.now.teller.told }
-{
+    say_next(machine, todo);
     let told = machine.told();
+    if told.is_empty() {
+        return;
+    }
     write_stages(machine.ledger(), told, row);
-    told.len()
+    machine.took(row.len());
 }
 
-/// Writes these stages with their outcomes, as far as the row reaches.
+/// Writes what is to be done next.
+#[inline(always)]
+fn say_next(machine: &mut Machine, todo: &mut CfTodo)
+    ensures { SaysNext machine.old todo.old todo.new machine.new }
+{
+    todo.told = machine.told().len();
+    let wanted = write_ready(machine, todo);
+    let moment = next_moment(machine);
+    let moved = moment != todo.moment;
+    todo.moment = moment;
+    todo.news = news_of(wanted, moved);
+}
+
+/// Writes of each lane how many stages are ready beyond the jobs on their way, and says whether there are any.
+#[inline(always)]
+fn write_ready(machine: &Machine, todo: &mut CfTodo) -> bool
+    ensures ready { AreWanted machine.now todo.old.jobs todo.old.ready todo.new.ready }
+    ensures wanted { result ≡ is_wanted_below machine.now todo.old.jobs machine.now.teller.lanes.count }
+    ensures rest { todo.new ≡ record todo.old { ready = todo.new.ready } }
+{
+    // There is a first lane, and mostly no other.
+    let lanes = machine.lanes();
+    let first = machine.ready(0).saturating_sub(todo.jobs[0]);
+    todo.ready[0] = first;
+    let mut wanted = first != 0;
+    'each: for lane in 1..lanes {
+        let k = lane as usize;
+        let more = machine.ready(lane).saturating_sub(todo.jobs[k]);
+        todo.ready[k] = more;
+        wanted = wanted || more != 0;
+    }
+    wanted
+}
+
+/// The moment at which time has to pass next.
+#[inline(always)]
+fn next_moment(machine: &mut Machine) -> u64
+    ensures moment { IsNextMoment machine.old result }
+    ensures forgets { Forgets (state_in machine.old).stages machine.old.deadlines machine.new.deadlines }
+    ensures rest { OnlyDeadlines machine.old machine.new }
+{
+    match machine.next_deadline() {
+        Some(deadline) => deadline.moment,
+        None => NEVER,
+    }
+}
+
+/// What is new: stages that are ready (1), and another moment (2).
+#[inline(always)]
+fn news_of(wanted: bool, moved: bool) -> u32
+    ensures { result ≡ news_of wanted moved }
+{
+    u32::from(wanted) + 2 * u32::from(moved)
+}
+
+/// Writes these stages with their claims and outcomes, as far as the row reaches.
 #[inline(always)]
 fn write_stages(ledger: &Ledger, stages: &[u16], row: &mut [CfTold])
     ensures { AreWritten (told_in (state_of ledger.now)) stages.now row.old row.new }
@@ -110,15 +163,15 @@ fn write_stages(ledger: &Ledger, stages: &[u16], row: &mut [CfTold])
     }
 }
 
-/// Writes a stage with its outcome; one that isn't there has none.
+/// Writes a stage with its claim and its outcome; one that isn't there has neither.
 #[inline(always)]
 #[tactic(auto, using(crate::proofs::Requests::none_there))]
 fn put_stage(told: &mut CfTold, ledger: &Ledger, stage: u16)
     ensures { told.new ≡ told_in (state_of ledger.now) stage }
 {
     if stage < ledger.stages() {
-        put_told(told, stage, ledger.outcome(stage));
+        put_told(told, stage, ledger.claimant(stage), ledger.outcome(stage));
     } else {
-        put_told(told, stage, None);
+        put_told(told, stage, None, None);
     }
 }

@@ -1,3 +1,6 @@
+pub mod AnyRow
 pub mod Hosts
 pub mod WholeRows
 pub mod OverCalls
+pub mod Settled
+pub mod TwoSessions

@@ -14,12 +14,13 @@ use Rattle.cf_ledger.specs.Ledgers.{Ledger, roomier, state_at, state_of, with_mo
 use Rattle.cf_request.specs.Deadlines.{Forgets, IsNextDue, Sets}
 use Rattle.cf_request.specs.Machines.{IsNoPass, Machine, Passes, state_in}
 use Rattle.cf_request.specs.Rows.{AddsBehind, AreCalls, IsCall, IsLater, Out, nothing}
-use Rattle.cf_request.specs.Rows.IsCall.{applies, goes_on, sets_follow, sets_deadline, forgets, passes, refuses, cancels_all, took, grows, reserves, is_refused}
+use Rattle.cf_request.specs.Rows.IsCall.{applies, goes_on, sets_join, sets_deadline, forgets, passes, refuses, cancels_all, took, grows, reserves, is_refused}
 use Rattle.cf_request.specs.Telling.{is_settled_in}
 use Rattle.cf_request.specs.declared.deadlines.Deadline.{Deadline}
 use Rattle.cf_request.specs.declared.faults.MachineFault.{MachineFault}
 use Rattle.cf_request.specs.declared.faults.MachineFault.TheVariants.{NoMemory, NoStage, Past, Full}
-use Rattle.cf_request.specs.declared.relays.Follow.{Follow}
+use Rattle.cf_request.specs.declared.joins.Join.{Join}
+use Rattle.cf_example.specs.Calls.{IsKept}
 use Rattle.cf_example.specs.Keeping.{DeadlinesAreMet, MomentsGoOn, RelaysStay}
 
 -- ---- a settled stage stays settled
@@ -28,7 +29,7 @@ after_append : (s : State) (xs ys : List Event) → state_after s (xs ++ ys) ≡
 after_append s [] ys = refl
 after_append s (x ∷ xs) ys = after_append ((answered s x).1) xs ys
 
-take_whole : {A : Type 0} (xs : List A) → take (length xs) xs ≡ xs
+pub take_whole : {A : Type 0} (xs : List A) → take (length xs) xs ≡ xs
 take_whole [] = refl
 take_whole {A} (x ∷ xs) = ap (λ (l : List A). x ∷ l) (take_whole xs)
 
@@ -52,17 +53,17 @@ settled_by_call keeps behind old new out i call settled = settled_later keeps ol
 
 -- ---- a deadline is kept, or its stage is settled
 
-first : {A : Type 0} (x : A) (xs : List A) → Contains (x ∷ xs) x
+pub first : {A : Type 0} (x : A) (xs : List A) → Contains (x ∷ xs) x
 first x xs = (0, omega arith, refl)
 
-later : {A : Type 0} (x y : A) (xs : List A) → Contains xs y → Contains (x ∷ xs) y
+pub later : {A : Type 0} (x y : A) (xs : List A) → Contains xs y → Contains (x ∷ xs) y
 later x y xs h = (suc h.0, (let l = h.1 in omega arith), h.2)
 
-cases : {A : Type 0} (x y : A) (xs : List A) → Contains (x ∷ xs) y → (x ≡ y) ⊎ Contains xs y
+pub cases : {A : Type 0} (x y : A) (xs : List A) → Contains (x ∷ xs) y → (x ≡ y) ⊎ Contains xs y
 cases x y xs (zero, l, e) = inl e
 cases x y xs (suc k, l, e) = inr (k, omega arith, e)
 
-none : {A : Type 0} (y : A) → Contains [] y → ⊥
+pub none : {A : Type 0} (y : A) → Contains [] y → ⊥
 none y h = absurd (let l = h.1 in omega arith)
 
 kept_by_forgetting : (stages : List Stage) (old new : List Deadline) (d : Deadline) → Forgets stages old new → Contains old d → Contains new d ⊎ (is_settled_in stages d.stage ≡ true)
@@ -104,7 +105,7 @@ Treats old new =
 treats : (old new : Machine) (out : Out) → IsCall old out new → Treats old new
 treats old new out (applies word lane reply none h) = inl (ap (λ (m : Machine). m.deadlines) h.same)
 treats old new out (goes_on who lane held next is h) = inl (ap (λ (m : Machine). m.deadlines) h.same)
-treats old new out (sets_follow relay stage none h) = inl (ap (λ (m : Machine). m.deadlines) h.same)
+treats old new out (sets_join join none h) = inl (ap (λ (m : Machine). m.deadlines) h.same)
 treats old new out (sets_deadline deadline none h) = inr (inl (deadline, h.sets))
 treats old new out (forgets none forgotten same) = inr (inr (inl forgotten))
 treats old new out (passes moment none h) = inr (inr (inr h.forgets))
@@ -115,28 +116,25 @@ treats old new out (grows none h) = inl (ap (λ (m : Machine). m.deadlines) h.is
 treats old new out (reserves words none is) = inl (ap (λ (m : Machine). m.deadlines) is)
 treats old new out (is_refused none h) = inl (ap (λ (m : Machine). m.deadlines) h.same)
 
-abbrev IsSafe : Deadline → Machine → Type 0
-IsSafe d m = Contains m.deadlines d ⊎ (is_settled_in (state_in m).stages d.stage ≡ true)
-
-safe_by_call : KeepsOutcomes → AddsBehind → (old new : Machine) (out : Out) (d : Deadline) → IsCall old out new → IsSafe d old → IsSafe d new
+safe_by_call : KeepsOutcomes → AddsBehind → (old new : Machine) (out : Out) (d : Deadline) → IsCall old out new → IsKept d old → IsKept d new
 safe_by_call keeps behind old new out d call (inr settled) = inr (settled_by_call keeps behind old new out d.stage call settled)
 safe_by_call keeps behind old new out d call (inl h) = by_way (treats old new out call)
   where
-    of_old : Contains new.deadlines d ⊎ (is_settled_in (state_in old).stages d.stage ≡ true) → IsSafe d new
+    of_old : Contains new.deadlines d ⊎ (is_settled_in (state_in old).stages d.stage ≡ true) → IsKept d new
     of_old (inl g) = inl g
     of_old (inr settled) = inr (settled_by_call keeps behind old new out d.stage call settled)
 
-    by_way : Treats old new → IsSafe d new
+    by_way : Treats old new → IsKept d new
     by_way (inl same) = inl (subst (λ (l : List Deadline). Contains l d) (sym same) h)
     by_way (inr (inl (e, sets))) = of_old (kept_by_setting (state_in old).stages e old.deadlines new.deadlines d sets h)
     by_way (inr (inr (inl f))) = of_old (kept_by_forgetting (state_in old).stages old.deadlines new.deadlines d f h)
     by_way (inr (inr (inr f))) = kept_by_forgetting (state_in new).stages old.deadlines new.deadlines d f h
 
-safe : KeepsOutcomes → AddsBehind → (old new : Machine) (outs : List Out) (d : Deadline) → AreCalls old outs new → IsSafe d old → IsSafe d new
-safe keeps behind old new [] d same s = subst (λ (m : Machine). IsSafe d m) (sym same) s
+pub safe : KeepsOutcomes → AddsBehind → (old new : Machine) (outs : List Out) (d : Deadline) → AreCalls old outs new → IsKept d old → IsKept d new
+safe keeps behind old new [] d same s = subst (λ (m : Machine). IsKept d m) (sym same) s
 safe keeps behind old new (out ∷ outs) d (between, call, rest) s = safe keeps behind between new outs d rest (safe_by_call keeps behind old between out d call s)
 
-met : KeepsOutcomes → AddsBehind → (mid new : Machine) (d : Deadline) (moment : ℕ) → Passes moment mid new → d.moment ≤ moment → IsSafe d mid → is_settled_in (state_in new).stages d.stage ≡ true
+pub met : KeepsOutcomes → AddsBehind → (mid new : Machine) (d : Deadline) (moment : ℕ) → Passes moment mid new → d.moment ≤ moment → IsKept d mid → is_settled_in (state_in new).stages d.stage ≡ true
 met keeps behind mid new d moment p le (inl h) = All-contains (λ (e : Deadline). e.moment ≤ moment → is_settled_in (state_in new).stages e.stage ≡ true) mid.deadlines d p.none.1 h le
 met keeps behind mid new d moment p le (inr settled) = settled_by_call keeps behind mid new nothing d.stage (passes moment refl p) settled
 
@@ -147,7 +145,7 @@ deadlines_met keeps behind old mid new outs d moment h calls p le = met keeps be
 
 -- what a call does to them: it sets some behind the others
 record Follows (old new : Machine) : Type 0 where
-  more : List Follow
+  more : List Join
   is : new.follows ≡ old.follows ++ more
 
 follows_same : (old new : Machine) → new.follows ≡ old.follows → Follows old new
@@ -156,7 +154,7 @@ follows_same old new same = record { more = []; is = same ∙ sym (append-nil ol
 follows_by : (old new : Machine) (out : Out) → IsCall old out new → Follows old new
 follows_by old new out (applies word lane reply none h) = follows_same old new (ap (λ (m : Machine). m.follows) h.same)
 follows_by old new out (goes_on who lane held next is h) = follows_same old new (ap (λ (m : Machine). m.follows) h.same)
-follows_by old new out (sets_follow relay stage none h) = record { more = (record { relay = relay; stage = stage }) ∷ []; is = h.set }
+follows_by old new out (sets_join join none h) = record { more = join ∷ []; is = h.set }
 follows_by old new out (sets_deadline deadline none h) = follows_same old new (ap (λ (m : Machine). m.follows) h.same)
 follows_by old new out (forgets none forgotten same) = follows_same old new (ap (λ (m : Machine). m.follows) same)
 follows_by old new out (passes moment none h) = follows_same old new (ap (λ (m : Machine). m.follows) h.same)
@@ -171,14 +169,14 @@ pub relays_stay : RelaysStay
 relays_stay old new [] f h same = subst (λ (m : Machine). Contains m.follows f) (sym same) h
 relays_stay old new (out ∷ outs) f h (between, call, rest) =
     let row = follows_by old between out call in
-    relays_stay between new outs f (subst (λ (l : List Follow). Contains l f) (sym row.is) (Contains-append_left old.follows row.more f h)) rest
+    relays_stay between new outs f (subst (λ (l : List Join). Contains l f) (sym row.is) (Contains-append_left old.follows row.more f h)) rest
 
 -- ---- moments
 
 moment_by : (old new : Machine) (out : Out) → IsCall old out new → old.moment ≤ new.moment
 moment_by old new out (applies word lane reply none h) = let same = ap (λ (m : Machine). m.moment) h.same in omega (arith, same)
 moment_by old new out (goes_on who lane held next is h) = let same = ap (λ (m : Machine). m.moment) h.same in omega (arith, same)
-moment_by old new out (sets_follow relay stage none h) = let same = ap (λ (m : Machine). m.moment) h.same in omega (arith, same)
+moment_by old new out (sets_join join none h) = let same = ap (λ (m : Machine). m.moment) h.same in omega (arith, same)
 moment_by old new out (sets_deadline deadline none h) = let same = ap (λ (m : Machine). m.moment) h.same in omega (arith, same)
 moment_by old new out (forgets none forgotten same) = let is = ap (λ (m : Machine). m.moment) same in omega (arith, is)
 moment_by old new out (passes moment none h) = let same = ap (λ (m : Machine). m.moment) h.same in let on = h.onward in omega (arith, same, on)

@@ -14,8 +14,10 @@ use Rattle.cf_event.specs.Histories.{InOrder, IsAnswered, dids, numbers_of}
 use Rattle.cf_expr.specs.Expressions.{expr}
 use Rattle.cf_expr.specs.Histories.{IsPlain, IsPlainPlan, IsQuiet, nothing_granted}
 use Rattle.cf_desk.specs.declared.calls.Closed.{Closed}
-use Rattle.cf_desk.specs.Keepings.{caller_kept}
+use Rattle.cf_desk.specs.Keepings.{AreKept, caller_kept}
 use Rattle.cf_desk.specs.Laws.{StandsAt, call_of}
+use Rattle.cf_desk.specs.Rule.{count_in}
+use Rattle.cf_desk.specs.Views.{Pass, knowns}
 
 -- each caller with its records
 abbrev pub callers_of : Closed → List (ℕ × List Record)
@@ -64,3 +66,11 @@ QuietGraphHoldsExpressions plan closed =
     IsBuilt closed.graph.state.plan → IsPlainPlan closed.graph.state.plan → IsQuiet closed.graph.state →
     (meanings : Meanings) → IsPlain meanings nothing_granted (start plan) closed.history.items →
     (i : ℕ) → i < length closed.graph.state.plan.stages → outcome_at closed.graph.state i ≡ expr closed.graph.state.plan closed.history.items meanings i
+
+-- each pass stands in the place in which it was handed in, with its caller and its records: none twice, and none is left out
+abbrev pub PassesStand : List Pass → Closed → Type 0
+PassesStand passes closed = AreKept closed.passes.items passes
+
+-- of these passes each of so many callers has one
+abbrev pub CallersHaveOneEach : ℕ → List Pass → Type 0
+CallersHaveOneEach callers passes = (c : ℕ) → c < callers → count_in c (knowns passes) ≡ 1

@@ -1,13 +1,14 @@
 //! The headline, a sentence each: what closing a desk gives whoever relies on it. Each sentence is a definition of
 //! `specs/Headline`, and a clause of `close_all`. Each clause follows from the contract of `Desk::close` and from nothing
-//! else: there is no proof in this crate.
+//! else: only the last, of who settled a stage, has a proof.
 //!
 //! The plan in a clause is the desk's, with its room. So all of it also holds where callers attach stages.
-ghost use Rattle.std.specs.Prelude.{◌≡◌, All, IfOk, IsOkAnd, length, true};
+ghost use Rattle.std.specs.Prelude.{◌≡◌, All, IfOk, IsOkAnd, OnOk, length, true};
 ghost use Rattle.cf_forms.specs.Plans.{has_place, with_room};
 ghost use Rattle.cf_desk.specs.Closings.{ToldOneHistory};
 ghost use Rattle.cf_example.specs.Accounts.{AddsTwo, SaysWhatIsKept};
-ghost use Rattle.cf_example.specs.Headline.{AnswersAreTheGraphs, CallsStandAtTheirPlaces, CallsStandOnce, EventsAreTaken, GraphIsAfterEvents, NobodyElseStands, PlacesNeverGoBack, QuietGraphHoldsExpressions, StagesAreClaimedOnce, StagesSettleOnce};
+ghost use Rattle.cf_example.specs.Headline.{AnswersAreTheGraphs, CallersHaveOneEach, CallsStandAtTheirPlaces, CallsStandOnce, EventsAreTaken, GraphIsAfterEvents, NobodyElseStands, PassesStand, PlacesNeverGoBack, QuietGraphHoldsExpressions, StagesAreClaimedOnce, StagesSettleOnce};
+ghost use Rattle.cf_example.specs.Settled.{SettlersStay};
 ghost use Rattle.cf_history.specs.declared.verdict.Verdict.TheVariants.{Fits};
 
 use cf_desk::{Call, CloseFault, Closed, Desk, DeskFault, Pass};
@@ -39,6 +40,11 @@ pub fn close_all(desk: Desk, passes: Vec<Pass>) -> Result<Closed, CloseFault>
     // It succeeds, and the graph is as the events leave it. A quiet plain graph holds its expressions' outcomes.
     ensures graph { IsOkAnd result (GraphIsAfterEvents desk.setting.plan) }
     ensures expressed { IfOk result (QuietGraphHoldsExpressions desk.setting.plan) }
+    // Each pass is taken once: in its place stand its caller and its records. And each caller has one of them.
+    ensures taken_in_turn { IfOk result (PassesStand passes.items) }
+    ensures one_each { OnOk result (CallersHaveOneEach desk.setting.callers passes.items) }
+    // Whoever was told `true` has settled the stage, and nobody settles it again.
+    ensures settlers { IfOk result SettlersStay }
 {
     match desk.close(passes) {
         Ok(closed) => Ok(closed),

@@ -6,9 +6,11 @@
 //! desk. It follows from the contracts of the calls that are made, and from nothing else. `headline` promises what closing
 //! any desk gives, `running` what a run of plain work ends as, and `racing` what a race leaves. `hosting` runs a request
 //! over a machine, for threads, clocks and waiters of any kind, and `keeping` says what the machine keeps meanwhile.
-//! `rows` has a store in memory, and asks it again for a put whose answer was lost.
+//! `calls` makes any row of a machine's calls, and lets time pass. `rows` has a store in memory, and asks it again for a
+//! put whose answer was lost, and in `sharing` two sessions claim stages over it.
 #![tactic(auto)]
 
+pub mod calls;
 mod fault;
 pub mod headline;
 pub mod hosting;
@@ -16,10 +18,12 @@ pub mod keeping;
 pub mod racing;
 pub mod rows;
 pub mod running;
+pub mod sharing;
 
 ghost use Rattle.std.specs.Prelude.{◌≡◌, All, IfOk};
 ghost use Rattle.cf_desk.specs.Closings.{ShowsOneHistory, ToldOneHistory};
 ghost use Rattle.cf_forms.specs.Plans.{with_room};
+ghost use Rattle.cf_example.specs.Settled.{SettlersStay};
 
 use cf_desk::{Call, Closed, Desk, DeskFault, DeskGrowth, DeskSizes, Pass};
 use cf_forms::{Form, Of};
@@ -44,10 +48,11 @@ const GROWTH: DeskGrowth = DeskGrowth {
 
 /// Lets two callers share a graph of this plan with room for one stage more: caller 0 completes stage 0 with this value,
 /// caller 1 cancels it and attaches an apply of it, with function 0, and both look at what came of it. What they were told
-/// stands in the closed desk, and is one history.
+/// stands in the closed desk, and is one history: the one that was told `true` settled the stage, and no other was.
 pub fn take_turns(alloc: Global, plan: Plan, value: Value) -> Result<Closed, Fault>
     ensures one { IfOk result (ToldOneHistory (with_room plan 1) 16) }
     ensures shows { IfOk result (ShowsOneHistory (with_room plan 1)) }
+    ensures settlers { IfOk result SettlersStay }
 {
     let (desk, mut first, mut second) = open_two(alloc, plan)?;
     act_and_look(&desk, &mut first, &mut second, value)?;
@@ -91,6 +96,7 @@ fn close_two(alloc: Global, desk: Desk, first: Pass, second: Pass) -> Result<Clo
     requires table { (first.table ≡ desk.table) × (second.table ≡ desk.table) }
     ensures one { IfOk result (ToldOneHistory desk.setting.plan desk.setting.functions) }
     ensures shows { IfOk result (ShowsOneHistory desk.setting.plan) }
+    ensures settlers { IfOk result SettlersStay }
 {
     let passes = match vec![in alloc; first, second] {
         Ok(passes) => passes,

@@ -8,7 +8,7 @@ use crate::handle::object::Object;
 use crate::ledger::stepping::{late_number, step_code};
 use crate::ledger::word_code;
 use crate::request::tell_into;
-use crate::values::request::{CfRequestComposing, CfRequestLinking, CfTold};
+use crate::values::request::{CfRequestComposing, CfRequestLinking, CfTodo, CfTold};
 use crate::values::task::{CfTask, held_by};
 use cf_request::{Composed, Composing, Machine};
 
@@ -17,8 +17,9 @@ pub fn compose(
     held: &mut Object,
     step: &mut CfRequestComposing,
     row: &mut [CfTold],
+    todo: &mut CfTodo,
 ) -> Result<(), Code>
-    ensures { ComposesIn held.old (step.old, row.old) result held.new (step.new, row.new) }
+    ensures { ComposesIn held.old (step.old, row.old, todo.old) result held.new (step.new, row.new, todo.new) }
 {
     let Object::Request(machine) = held else {
         return Err(Code::WrongKind);
@@ -28,7 +29,7 @@ pub fn compose(
     }
     match composing_of(step.form) {
         None => Err(Code::NoSuchNumber),
-        Some(how) => compose_so(machine, how, step, row),
+        Some(how) => compose_so(machine, how, step, row, todo),
     }
 }
 
@@ -38,16 +39,18 @@ fn compose_so(
     how: Composing,
     step: &mut CfRequestComposing,
     row: &mut [CfTold],
+    todo: &mut CfTodo,
 ) -> Result<(), Code>
     requires { step.old.lane < machine.old.teller.lanes.count }
-    ensures { ComposesOrNot how machine.old (step.old, row.old) result (HeldRequest machine.new) (step.new, row.new) }
+    ensures { ComposesOrNot how machine.old (step.old, row.old, todo.old) result (HeldRequest machine.new)
+        (step.new, row.new, todo.new) }
 {
     match machine.compose(step.who, how, step.source, step.function, step.lane) {
         Err(fault) => Err(word_code(fault)),
         Ok(composed) => {
             step.relay = composed.relay;
             step.stage = composed.stage;
-            step.told = tell_into(machine, row);
+            tell_into(machine, row, todo);
             Ok(())
         }
     }
@@ -67,37 +70,39 @@ fn composing_of(number: u32) -> Option<Composing>
 /// Finishes the compose that a task holds with any stage. The task holds nothing then.
 pub fn link(
     held: &mut Object,
-    step: &mut CfRequestLinking,
+    step: &CfRequestLinking,
     task: &mut CfTask,
     row: &mut [CfTold],
+    todo: &mut CfTodo,
 ) -> Result<(), Code>
-    ensures { LinksIn held.old (step.old, task.old, row.old) result held.new (step.new, task.new, row.new) }
+    ensures { LinksIn step.now held.old (task.old, row.old, todo.old) result held.new (task.new, row.new, todo.new) }
 {
     let Object::Request(machine) = held else {
         return Err(Code::WrongKind);
     };
     match held_by(task) {
         None => Err(Code::NotHeld),
-        Some(_) => link_so(machine, step, task, row),
+        Some(_) => link_so(machine, step, task, row, todo),
     }
 }
 
 /// The same where the task holds a stage.
 fn link_so(
     machine: &mut Machine,
-    step: &mut CfRequestLinking,
+    step: &CfRequestLinking,
     task: &mut CfTask,
     row: &mut [CfTold],
+    todo: &mut CfTodo,
 ) -> Result<(), Code>
-    ensures { LinksOrNot machine.old (step.old, task.old, row.old) result (HeldRequest machine.new)
-        (step.new, task.new, row.new) }
+    ensures { LinksOrNot step.now machine.old (task.old, row.old, todo.old) result (HeldRequest machine.new)
+        (task.new, row.new, todo.new) }
 {
     match machine.link(step.who, composed_of(step, task), step.stage) {
         Err(fault) => Err(step_code(fault)),
         Ok(finish) => {
             task.finished = late_number(Some(finish));
             task.held = 0;
-            step.told = tell_into(machine, row);
+            tell_into(machine, row, todo);
             Ok(())
         }
     }

@@ -1,5 +1,5 @@
 //! What is done to a request behind a handle, and what it tells then.
-ghost use Rattle.cf_c_handles.specs.RequestCalls.{Advances, AppliesIn, CancelsIn, FollowsIn, GoesOnIn, GrowsIn, IsDueAs, PassesIn, RefusesIn, RestartsIn, Rests, RestsIn, SetsDeadlineIn, TellsIn, GoesOnOrNot, lanes_in};
+ghost use Rattle.cf_c_handles.specs.RequestCalls.{Advances, AppliesIn, CancelsIn, FollowsIn, GoesOnIn, GoesOnOrNot, GrowsIn, IsDueAs, IsIdleStep, PassesIn, RefusesIn, RestartsIn, Rests, RestsIn, SetsDeadlineIn, TellsIn};
 ghost use Rattle.cf_c_handles.specs.Tasks.{held_by};
 ghost use Rattle.cf_request.specs.Machines.{IsNoNext, OnlyFinds};
 ghost use Rattle.std.specs.Prelude.{◌≡◌, ◌↔◌, ◌<◌, IfErr, IfOk, IsTrue, OnErr};
@@ -10,10 +10,10 @@ use crate::code::Code;
 use crate::handle::object::Object;
 use crate::ledger::stepping::{late_number, step_code, take};
 use crate::ledger::word_code;
-use crate::request::{machine_code, tell_into};
-use crate::values::put_reply;
-use crate::values::request::{CfApplied, CfRequestStep, CfTold};
+use crate::request::{machine_code, say_next, tell_into};
+use crate::values::request::{CfTodo, CfTold};
 use crate::values::task::{CfTask, held_by};
+use crate::values::{CfReply, put_reply};
 use cf_event::LAST_CALLER;
 use cf_request::{Deadline, Machine, Next};
 use std::alloc::Global;
@@ -24,10 +24,12 @@ pub fn apply(
     held: &mut Object,
     word: u64,
     lane: u8,
-    applied: &mut CfApplied,
+    reply: &mut CfReply,
     row: &mut [CfTold],
+    todo: &mut CfTodo,
 ) -> Result<(), Code>
-    ensures { AppliesIn word lane held.old (applied.old, row.old) result held.new (applied.new, row.new) }
+    ensures { AppliesIn word lane held.old (reply.old, row.old, todo.old) result
+        held.new (reply.new, row.new, todo.new) }
 {
     let Object::Request(machine) = held else {
         return Err(Code::WrongKind);
@@ -37,9 +39,9 @@ pub fn apply(
     }
     match machine.apply(word, lane) {
         Err(fault) => Err(word_code(fault)),
-        Ok(reply) => {
-            put_reply(&mut applied.reply, reply);
-            applied.told = tell_into(machine, row);
+        Ok(told) => {
+            put_reply(reply, told);
+            tell_into(machine, row, todo);
             Ok(())
         }
     }
@@ -49,35 +51,42 @@ pub fn apply(
 #[inline(always)]
 pub fn next(
     held: &mut Object,
-    step: &mut CfRequestStep,
+    who: u8,
+    lane: u8,
     task: &mut CfTask,
     row: &mut [CfTold],
+    todo: &mut CfTodo,
 ) -> Result<(), Code>
-    ensures { GoesOnIn held.old (step.old, task.old, row.old) result held.new (step.new, task.new, row.new) }
+    ensures { GoesOnIn who lane held.old (task.old, row.old, todo.old) result held.new (task.new, row.new, todo.new) }
 {
     let Object::Request(machine) = held else {
         return Err(Code::WrongKind);
     };
-    if step.lane >= machine.lanes() {
+    if lane >= machine.lanes() {
         return Err(Code::NoLane);
     }
-    go_on(machine, step, task, row)
+    if task.held == 0 && rests_in(machine, who, lane, task) {
+        return rest_in(machine, who, lane, task, todo);
+    }
+    go_on(machine, who, lane, task, row, todo)
 }
 
-/// The same in a lane that is there.
+/// The same in a lane that is there, where there is something to do.
 #[inline(always)]
 fn go_on(
     machine: &mut Machine,
-    step: &mut CfRequestStep,
+    who: u8,
+    lane: u8,
     task: &mut CfTask,
     row: &mut [CfTold],
+    todo: &mut CfTodo,
 ) -> Result<(), Code>
-    requires { step.old.lane < machine.old.teller.lanes.count }
-    ensures { GoesOnOrNot machine.old (step.old, task.old, row.old) result (HeldRequest machine.new)
-        (step.new, task.new, row.new) }
+    requires { lane < machine.old.teller.lanes.count }
+    ensures { GoesOnOrNot who lane machine.old (task.old, row.old, todo.old) result (HeldRequest machine.new)
+        (task.new, row.new, todo.new) }
 {
-    let is_claimed = advance(machine, step.who, step.lane, task)?;
-    step.told = tell_into(machine, row);
+    let is_claimed = advance(machine, who, lane, task)?;
+    tell_into(machine, row, todo);
     if is_claimed {
         Ok(())
     } else {
@@ -120,62 +129,64 @@ fn give(task: &mut CfTask, next: Next) -> Result<(), Code>
     take(task, next.taken)
 }
 
-/// Whether `next` has nothing to finish, to give and to tell. It looks at no stage.
+/// Whether `next` has nothing to give and to tell, where the task holds nothing. It looks at no stage.
 #[inline(always)]
-pub fn rests(held: &Object, step: &CfRequestStep, task: &CfTask) -> bool
-    ensures { IsTrue result ↔ RestsIn held.now step.now task.now }
+pub fn rests(held: &Object, who: u8, lane: u8, task: &CfTask) -> bool
+    requires { task.now.held ≡ 0 }
+    ensures { IsTrue result ↔ RestsIn who lane held.now task.now }
 {
     match held {
-        Object::Request(machine) => rests_in(machine, step, task),
+        Object::Request(machine) => rests_in(machine, who, lane, task),
         _ => false,
     }
 }
 
 /// The same of a request.
 #[inline(always)]
-fn rests_in(machine: &Machine, step: &CfRequestStep, task: &CfTask) -> bool
-    ensures { IsTrue result ↔ Rests machine.now step.now task.now }
+fn rests_in(machine: &Machine, who: u8, lane: u8, task: &CfTask) -> bool
+    requires { task.now.held ≡ 0 }
+    ensures { IsTrue result ↔ Rests who lane machine.now task.now }
 {
-    step.who <= LAST_CALLER
-        && step.lane < machine.lanes()
-        && task.held == 0
-        && machine.ready(step.lane) == 0
+    who <= LAST_CALLER
+        && lane < machine.lanes()
+        && machine.ready(lane) == 0
         && machine.told().is_empty()
 }
 
-/// What `next` does where it has nothing to finish, to give and to tell. It writes to the task last, so that nothing of
-/// the request has to be read again.
+/// What `next` does where it has nothing to finish, to give and to tell. Nothing of the request is written.
 #[inline(always)]
 pub fn rest(
-    held: &mut Object,
-    step: &mut CfRequestStep,
+    held: &Object,
+    who: u8,
+    lane: u8,
     task: &mut CfTask,
-    row: &mut [CfTold],
+    row: &[CfTold],
+    todo: &mut CfTodo,
 ) -> Result<(), Code>
-    requires { RestsIn held.old step.old task.old }
-    ensures { GoesOnIn held.old (step.old, task.old, row.old) result held.new (step.new, task.new, row.new) }
+    requires { RestsIn who lane held.now task.old }
+    ensures { GoesOnIn who lane held.now (task.old, row.now, todo.old) result held.now (task.new, row.now, todo.new) }
 {
     let Object::Request(machine) = held else {
         return Err(Code::WrongKind);
     };
-    rest_in(machine, step, task, row)
+    rest_in(machine, who, lane, task, todo)
 }
 
 /// The same of a request.
 #[inline(always)]
 fn rest_in(
-    machine: &mut Machine,
-    step: &mut CfRequestStep,
+    machine: &Machine,
+    who: u8,
+    lane: u8,
     task: &mut CfTask,
-    row: &mut [CfTold],
+    todo: &mut CfTodo,
 ) -> Result<(), Code>
-    requires { Rests machine.old step.old task.old }
-    ensures there { step.old.lane < lanes_in machine.old }
-    ensures does { GoesOnOrNot machine.old (step.old, task.old, row.old) result (HeldRequest machine.new)
-        (step.new, task.new, row.new) }
+    requires { Rests who lane machine.now task.old }
+    ensures { IsIdleStep who lane machine.now (task.old, todo.old) result (task.new, todo.new) }
 {
-    let next = machine.rest(step.who, step.lane);
-    step.told = tell_into(machine, row);
+    let next = machine.rest(who, lane);
+    todo.told = 0;
+    todo.news = 0;
     give(task, next)
 }
 
@@ -185,9 +196,9 @@ pub fn follow(
     relay: u16,
     stage: u16,
     row: &mut [CfTold],
-    n: &mut usize,
+    todo: &mut CfTodo,
 ) -> Result<(), Code>
-    ensures { FollowsIn relay stage held.old (row.old, n.old) result held.new (row.new, n.new) }
+    ensures { FollowsIn relay stage held.old (row.old, todo.old) result held.new (row.new, todo.new) }
 {
     let Object::Request(machine) = held else {
         return Err(Code::WrongKind);
@@ -195,15 +206,20 @@ pub fn follow(
     match machine.follow(relay, stage) {
         Err(fault) => Err(machine_code(fault)),
         Ok(()) => {
-            *n = tell_into(machine, row);
+            tell_into(machine, row, todo);
             Ok(())
         }
     }
 }
 
 /// Lets time pass up to a moment.
-pub fn pass(held: &mut Object, moment: u64, row: &mut [CfTold], n: &mut usize) -> Result<(), Code>
-    ensures { PassesIn moment held.old (row.old, n.old) result held.new (row.new, n.new) }
+pub fn pass(
+    held: &mut Object,
+    moment: u64,
+    row: &mut [CfTold],
+    todo: &mut CfTodo,
+) -> Result<(), Code>
+    ensures { PassesIn moment held.old (row.old, todo.old) result held.new (row.new, todo.new) }
 {
     let Object::Request(machine) = held else {
         return Err(Code::WrongKind);
@@ -211,7 +227,7 @@ pub fn pass(held: &mut Object, moment: u64, row: &mut [CfTold], n: &mut usize) -
     match machine.pass(moment) {
         Err(fault) => Err(machine_code(fault)),
         Ok(()) => {
-            *n = tell_into(machine, row);
+            tell_into(machine, row, todo);
             Ok(())
         }
     }
@@ -223,9 +239,9 @@ pub fn refuse(
     lane: u8,
     code: u32,
     row: &mut [CfTold],
-    n: &mut usize,
+    todo: &mut CfTodo,
 ) -> Result<(), Code>
-    ensures { RefusesIn lane code held.old (row.old, n.old) result held.new (row.new, n.new) }
+    ensures { RefusesIn lane code held.old (row.old, todo.old) result held.new (row.new, todo.new) }
 {
     let Object::Request(machine) = held else {
         return Err(Code::WrongKind);
@@ -236,15 +252,20 @@ pub fn refuse(
     match machine.refuse(lane, code) {
         Err(_) => Err(Code::NoMemory),
         Ok(()) => {
-            *n = tell_into(machine, row);
+            tell_into(machine, row, todo);
             Ok(())
         }
     }
 }
 
 /// Cancels all stages that are open by words of a caller.
-pub fn cancel_all(held: &mut Object, who: u8, row: &mut [CfTold], n: &mut usize) -> Result<(), Code>
-    ensures { CancelsIn who held.old (row.old, n.old) result held.new (row.new, n.new) }
+pub fn cancel_all(
+    held: &mut Object,
+    who: u8,
+    row: &mut [CfTold],
+    todo: &mut CfTodo,
+) -> Result<(), Code>
+    ensures { CancelsIn who held.old (row.old, todo.old) result held.new (row.new, todo.new) }
 {
     let Object::Request(machine) = held else {
         return Err(Code::WrongKind);
@@ -252,34 +273,37 @@ pub fn cancel_all(held: &mut Object, who: u8, row: &mut [CfTold], n: &mut usize)
     match machine.cancel_all(who) {
         Err(fault) => Err(step_code(fault)),
         Ok(()) => {
-            *n = tell_into(machine, row);
+            tell_into(machine, row, todo);
             Ok(())
         }
     }
 }
 
 /// Tells what was settled and wasn't told yet.
-pub fn told(held: &mut Object, row: &mut [CfTold], n: &mut usize) -> Result<(), Code>
-    ensures { TellsIn held.old (row.old, n.old) result held.new (row.new, n.new) }
+pub fn told(held: &mut Object, row: &mut [CfTold], todo: &mut CfTodo) -> Result<(), Code>
+    ensures { TellsIn held.old (row.old, todo.old) result held.new (row.new, todo.new) }
 {
     let Object::Request(machine) = held else {
         return Err(Code::WrongKind);
     };
-    *n = tell_into(machine, row);
+    tell_into(machine, row, todo);
     Ok(())
 }
 
-/// Sets a deadline.
+/// Sets a deadline. It tells no stages.
 #[inline(always)]
-pub fn set_deadline(held: &mut Object, deadline: Deadline) -> Result<(), Code>
-    ensures { SetsDeadlineIn deadline held.old result held.new }
+pub fn set_deadline(held: &mut Object, deadline: Deadline, todo: &mut CfTodo) -> Result<(), Code>
+    ensures { SetsDeadlineIn deadline held.old todo.old result held.new todo.new }
 {
     let Object::Request(machine) = held else {
         return Err(Code::WrongKind);
     };
     match machine.deadline(deadline) {
-        Ok(()) => Ok(()),
         Err(fault) => Err(machine_code(fault)),
+        Ok(()) => {
+            say_next(machine, todo);
+            Ok(())
+        }
     }
 }
 

@@ -7,7 +7,7 @@ use crate::code::Code;
 use crate::handle::object::Object;
 use crate::ledger::word_code;
 use crate::request::tell_into;
-use crate::values::request::{CfRequestGathering, CfTold};
+use crate::values::request::{CfRequestGathering, CfTodo, CfTold};
 use cf_request::{Gathering, Machine};
 
 /// Attaches a stage that gathers these.
@@ -16,15 +16,17 @@ pub fn gather(
     gathering: &mut CfRequestGathering,
     sources: &[u16],
     row: &mut [CfTold],
+    todo: &mut CfTodo,
 ) -> Result<(), Code>
-    ensures { GathersIn sources.now held.old (gathering.old, row.old) result held.new (gathering.new, row.new) }
+    ensures { GathersIn sources.now held.old (gathering.old, row.old, todo.old) result
+        held.new (gathering.new, row.new, todo.new) }
 {
     let Object::Request(machine) = held else {
         return Err(Code::WrongKind);
     };
     match gathering_of(gathering.form) {
         None => Err(Code::NoSuchNumber),
-        Some(how) => gather_so(machine, how, gathering, sources, row),
+        Some(how) => gather_so(machine, how, gathering, sources, row, todo),
     }
 }
 
@@ -35,15 +37,16 @@ fn gather_so(
     gathering: &mut CfRequestGathering,
     sources: &[u16],
     row: &mut [CfTold],
+    todo: &mut CfTodo,
 ) -> Result<(), Code>
-    ensures { GathersOrNot how sources.now machine.old (gathering.old, row.old) result (HeldRequest machine.new)
-        (gathering.new, row.new) }
+    ensures { GathersOrNot how sources.now machine.old (gathering.old, row.old, todo.old) result
+        (HeldRequest machine.new) (gathering.new, row.new, todo.new) }
 {
     match machine.gather(gathering.who, how, sources) {
         Err(fault) => Err(word_code(fault)),
         Ok(root) => {
             gathering.root = root;
-            gathering.told = tell_into(machine, row);
+            tell_into(machine, row, todo);
             Ok(())
         }
     }

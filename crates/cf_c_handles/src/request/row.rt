@@ -11,8 +11,8 @@ use crate::plan::kind_of;
 use crate::request::doing::advance;
 use crate::request::{machine_code, tell_into};
 use crate::values::as_reply;
-use crate::values::call::{CfRequestCall, CfRequestDone};
-use crate::values::request::CfTold;
+use crate::values::call::CfRequestCall;
+use crate::values::request::{CfTodo, CfTold};
 use cf_request::{Deadline, Machine};
 
 /// Which call a row asks for.
@@ -32,16 +32,18 @@ pub enum Call {
 pub fn do_calls(
     held: &mut Object,
     calls: &mut [CfRequestCall],
-    done: &mut CfRequestDone,
+    done: &mut usize,
     row: &mut [CfTold],
+    todo: &mut CfTodo,
 ) -> Result<(), Code>
-    ensures { DoesCallsIn held.old (calls.old, done.old, row.old) result held.new (calls.new, done.new, row.new) }
+    ensures { DoesCallsIn held.old (calls.old, done.old, row.old, todo.old) result
+        held.new (calls.new, done.new, row.new, todo.new) }
 {
     let Object::Request(machine) = held else {
         return Err(Code::WrongKind);
     };
-    let answer = do_row(machine, calls, &mut done.calls);
-    done.told = tell_into(machine, row);
+    let answer = do_row(machine, calls, done);
+    tell_into(machine, row, todo);
     answer
 }
 

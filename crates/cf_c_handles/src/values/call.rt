@@ -30,11 +30,3 @@ pub struct CfRequestCall {
     pub reply: CfReply,
     pub task: CfTask,
 }
-
-/// How many calls were done, and how many stages were to be told.
-#[repr(C)]
-#[derive(Clone, Copy)]
-pub struct CfRequestDone {
-    pub calls: usize,
-    pub told: usize,
-}

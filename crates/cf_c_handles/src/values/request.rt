@@ -1,8 +1,8 @@
 //! What a request is given and what it tells, as C has it.
 ghost use Rattle.std.specs.Prelude.{◌≡◌, Some};
-ghost use Rattle.cf_c_handles.specs.Requests.{as_deadline, told_as};
+ghost use Rattle.cf_c_handles.specs.Requests.{as_deadline, stop_of, told_as};
 
-use crate::values::{CfOutcome, CfReply, CfValue, as_outcome, as_value};
+use crate::values::{CfOutcome, CfValue, as_outcome, as_value};
 use cf_forms::LimitKind;
 use cf_outcome::{Outcome, Value};
 use cf_request::Deadline;
@@ -17,35 +17,38 @@ pub struct CfRequestSizes {
     pub own: u8,
 }
 
-/// A stage that is told as settled, and its outcome.
+/// A stage that is told as settled, 1 and the caller whose claim of it is open then (0 if none is), and its outcome.
 #[repr(C)]
 #[derive(Clone, Copy)]
 pub struct CfTold {
     pub stage: u16,
+    pub stop: u16,
     pub outcome: CfOutcome,
 }
 
-/// What a word did: its reply, and how many stages were to be told.
+/// What the host of a request has to do next: how many stages there were to tell, when time has to pass next, whether any of
+/// that is new, and of each lane how many stages are ready beyond the jobs that are on their way. The host writes the jobs.
 #[repr(C)]
 #[derive(Clone, Copy)]
-pub struct CfApplied {
-    pub reply: CfReply,
+pub struct CfTodo {
     pub told: usize,
+    pub moment: u64,
+    pub news: u32,
+    pub jobs: [u16; 16],
+    pub ready: [u16; 16],
 }
 
-/// A gathering of a caller of a request. C says who gathers, and by which form. It is told the number of the root, and
-/// how many stages were to be told.
+/// A gathering of a caller of a request. C says who gathers, and by which form. It is told the number of the root.
 #[repr(C)]
 #[derive(Clone, Copy)]
 pub struct CfRequestGathering {
     pub who: u8,
     pub form: u32,
     pub root: u16,
-    pub told: usize,
 }
 
 /// A compose that a caller of a request attaches. C says who attaches it, its lane, by which form, over which source, and
-/// its function's number. It is told the numbers of the relay and of the compose, and how many stages were to be told.
+/// its function's number. It is told the numbers of the relay and of the compose.
 #[repr(C)]
 #[derive(Clone, Copy)]
 pub struct CfRequestComposing {
@@ -56,27 +59,15 @@ pub struct CfRequestComposing {
     pub function: u16,
     pub relay: u16,
     pub stage: u16,
-    pub told: usize,
 }
 
-/// A compose of a request that its caller finishes with any stage. C says who finishes it, its relay, and the stage. It is
-/// told how many stages were to be told.
+/// A compose of a request that its caller finishes with any stage. C says who finishes it, its relay, and the stage.
 #[repr(C)]
 #[derive(Clone, Copy)]
 pub struct CfRequestLinking {
     pub who: u8,
     pub relay: u16,
     pub stage: u16,
-    pub told: usize,
-}
-
-/// A step of a caller of a request. C says who takes it, and in which lane. It is told how many stages were to be told.
-#[repr(C)]
-#[derive(Clone, Copy)]
-pub struct CfRequestStep {
-    pub who: u8,
-    pub lane: u8,
-    pub told: usize,
 }
 
 /// A moment by which a stage has to be settled, and whether it times out (kind 0), with which code, or gets a value then.
@@ -107,11 +98,28 @@ pub(crate) fn as_deadline(deadline: Deadline) -> CfDeadline
     }
 }
 
-/// Writes a stage that is told, and its outcome.
+/// Writes a stage that is told, whose claim is open, and its outcome.
 #[inline(always)]
-pub(crate) fn put_told(told: &mut CfTold, stage: u16, outcome: Option<Outcome>)
-    ensures { told.new ≡ told_as stage outcome }
+pub(crate) fn put_told(
+    told: &mut CfTold,
+    stage: u16,
+    claimant: Option<u8>,
+    outcome: Option<Outcome>,
+)
+    ensures { told.new ≡ told_as stage claimant outcome }
 {
     told.stage = stage;
+    told.stop = stop_of(claimant);
     told.outcome = as_outcome(outcome);
+}
+
+/// 1 and the caller whose claim is open, or 0.
+#[inline(always)]
+fn stop_of(claimant: Option<u8>) -> u16
+    ensures { result ≡ stop_of claimant }
+{
+    match claimant {
+        None => 0,
+        Some(who) => 1 + u16::from(who),
+    }
 }
