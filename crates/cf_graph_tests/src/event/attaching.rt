@@ -13,7 +13,7 @@ use std::alloc::Global;
 use std::process::Abort;
 
 /// Each form by its number, how many sources it takes at least and at most, and whether it has a function.
-const FORMS: [(Form, u16, u16, bool); 19] = [
+static FORMS: [(Form, u16, u16, bool); 19] = [
     (Form::Source, 0, 0, false),
     (Form::Supply, 0, 0, true),
     (Form::RunAsync, 0, 0, true),
@@ -35,7 +35,7 @@ const FORMS: [(Form, u16, u16, bool); 19] = [
     (Form::ExceptionallyCompose, 1, 1, true),
 ];
 
-const SOURCES: [Of; 7] = [
+static SOURCES: [Of; 7] = [
     Of::None,
     Of::One(0),
     Of::One(5),
@@ -45,7 +45,7 @@ const SOURCES: [Of; 7] = [
     Of::Two(5, 7),
 ];
 
-const FUNCTIONS: [Option<u16>; 3] = [None, Some(0), Some(9)];
+static FUNCTIONS: [Option<u16>; 3] = [None, Some(0), Some(9)];
 
 /// How many of those stages fit their form: one of Source, two for each form without a source and with a function, four for
 /// each with one source, eight for each with two, seven for each that takes any.
@@ -116,7 +116,7 @@ fn no_other_word_attaches(rt: HostRuntime) {
 }
 
 /// The sources and the functions of those events, as the bits of their words.
-const BITS: [u64; 8] = [
+static BITS: [u64; 8] = [
     0,
     9,
     7 << 12,
@@ -138,7 +138,7 @@ fn count_words(rt: &impl Abort, form: u64, count: u64) -> u32 {
 }
 
 /// Attachings, and whether there is a word for each.
-const GREATEST: [(u8, Form, Of, Option<u16>, bool); 6] = [
+static GREATEST: [(u8, Form, Of, Option<u16>, bool); 6] = [
     (63, Form::RunBoth, Of::Two(4095, 4095), Some(4095), true),
     (64, Form::RunBoth, Of::Two(0, 0), Some(0), false),
     (0, Form::RunBoth, Of::Two(4096, 0), Some(0), false),
@@ -179,7 +179,7 @@ fn answer(graph: &mut Graph, word: u64) -> Option<Reply> {
 }
 
 /// Words, and what each is answered.
-const WORDS: [(u64, Option<Reply>); 6] = [
+static WORDS: [(u64, Option<Reply>); 6] = [
     (0x0402001000000000, None),
     (0x0700000103000006, Some(Reply::Attach(Attached::At(1)))),
     (0x0700001110000000, Some(Reply::Attach(Attached::At(2)))),
@@ -215,7 +215,7 @@ fn is_settled(graph: &mut Graph, i: u16, outcome: Outcome) -> bool {
 }
 
 /// The second names the stage that the first attaches.
-const EVENTS: [Event; 2] = [
+static EVENTS: [Event; 2] = [
     Event::Attach {
         who: 0,
         form: Form::AllOf,

@@ -10,7 +10,7 @@ use std::alloc::Global;
 use std::process::Abort;
 
 /// Events with their words.
-const ROWS: [(Event, u64); 17] = [
+static ROWS: [(Event, u64); 17] = [
     (
         Event::Complete {
             who: 0,
@@ -134,7 +134,7 @@ const ROWS: [(Event, u64); 17] = [
 ];
 
 /// Words of no event.
-const REFUSED: [u64; 15] = [
+static REFUSED: [u64; 15] = [
     0x0000000000000000,
     0x0100000000000001,
     0x0100000200000000,
@@ -168,7 +168,7 @@ fn each_event_has_its_word(rt: HostRuntime) {
 }
 
 /// Events with a number that is too great for a word.
-const TOO_GREAT: [Event; 3] = [
+static TOO_GREAT: [Event; 3] = [
     Event::FailAs {
         who: 0,
         stage: 4096,
@@ -250,7 +250,7 @@ fn complete_and_tick(rt: &impl Abort, mut graph: Graph, nudges: &[u32], turns: u
 }
 
 /// Turns before the events, and how many are counted.
-const TURNS: [(&[u32], u64); 4] = [(&[], 0), (&[9], 0), (&[9, 0], 0), (&[0, 9], 1)];
+static TURNS: [(&[u32], u64); 4] = [(&[], 0), (&[9], 0), (&[9, 0], 0), (&[0, 9], 1)];
 
 #[test]
 fn turns_are_taken_before_their_event(rt: HostRuntime) {

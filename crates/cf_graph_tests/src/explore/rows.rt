@@ -96,7 +96,7 @@ struct Row {
     twice: usize,
 }
 
-const ROWS: [Row; 7] = [
+static ROWS: [Row; 7] = [
     Row {
         name: "complete against cancel",
         rows: &AGAINST,

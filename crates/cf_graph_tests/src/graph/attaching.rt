@@ -197,7 +197,7 @@ const BY_EVENTS: [Step; 5] = [
     Step::AttachBy(3, Form::Apply, Of::One(1), Some(8), Attached::StagesFull),
 ];
 
-const DECIDING: [Case; 11] = [
+static CASES: [Case; 18] = [
     Case {
         name: "an anyOf takes its first argument",
         rows: &TWO_SOURCES,
@@ -264,10 +264,7 @@ const DECIDING: [Case; 11] = [
         room: Some(2),
         steps: &[&FOLLOWED],
     },
-];
-
-/// Stages of no source, a full graph, and what callers do as events, which has the same answers.
-const STARTING: [Case; 7] = [
+    // Stages of no source, a full graph, and what callers do as events, which has the same answers.
     Case {
         name: "a source",
         rows: &TWO_SOURCES,
@@ -314,6 +311,5 @@ const STARTING: [Case; 7] = [
 
 #[test]
 fn attached_stages_answer_so(rt: HostRuntime) {
-    play(&rt, rt.alloc(), &DECIDING);
-    play(&rt, rt.alloc(), &STARTING);
+    play(&rt, rt.alloc(), &CASES);
 }

@@ -246,7 +246,7 @@ const MOST_SUPPLIES: Rows = Rows {
 
 const ALL_CLAIMED: [Step; 2] = [Step::ClaimsEach(4096), Step::LowestReady(None)];
 
-const CASES: [Case; 16] = [
+static CASES: [Case; 16] = [
     Case {
         name: "an apply over a source",
         rows: &SOURCE_AND_APPLY,
@@ -392,7 +392,7 @@ const GROWN_AGAIN: [Step; 3] = [
     Step::Granted(2, 3),
 ];
 
-const REFUSED: [Case; 2] = [
+static REFUSED: [Case; 2] = [
     Case {
         name: "a graph",
         rows: &SOURCE_AND_APPLY,
@@ -436,12 +436,12 @@ const WORKED: [Step; 3] = [
 ];
 
 /// The longest chain, in two ways.
-const ON_CHAIN: [(&str, &[Step]); 2] = [
+static ON_CHAIN: [(&str, &[Step]); 2] = [
     ("asked at the end", &ASKED_AT_THE_END),
     ("worked", &WORKED),
 ];
 
-const ALL_FIRED: [Step; 3] = [
+static ALL_FIRED: [Step; 3] = [
     Step::Tick(4294967295, Ticked::Fired(1)),
     Step::Value(4095, 1),
     Step::Turns(4095),

@@ -92,7 +92,7 @@ const WITHOUT_ROOM: [&[Step]; 7] = [&NEW, &EXPIRES, &FULL, &NEW, &EXPIRES, &FULL
 
 const EMPTY: [Step; 3] = [Step::Restart, Step::Stages(0), Step::LowestReady(None)];
 
-const CASES: [Case; 3] = [
+static CASES: [Case; 3] = [
     Case {
         name: "a graph with room",
         rows: &ROWS,
@@ -136,7 +136,7 @@ fn restart_filled(rt: &impl Abort, alloc: Global, graph: &mut Graph, taken: u32)
     take(rt, alloc, graph, "filled", &[&steps]);
 }
 
-const SUPPLIES: Rows = Rows {
+static SUPPLIES: Rows = Rows {
     alike: &[(4080, (Form::Supply, &[], Some(0)))],
     ..NONE
 };

@@ -26,7 +26,7 @@ fn stops(sweep: &mut Sweep, all: &[(u16, u16, i32, Answer)]) -> bool {
 }
 
 /// Three applies and a compose behind a source, each ready in turn, and a source that is never settled.
-const ROWS: Rows = Rows {
+static ROWS: Rows = Rows {
     stages: &[
         SOURCE,
         (Form::Apply, &[0], Some(7)),
@@ -62,7 +62,7 @@ const NOT_SWEPT: [Step; 3] = [
 ];
 
 /// What is done before a sweep, where it stops, and what its graph is like then.
-const SWEEPS: [(&[Step], &[(u16, u16, i32, Answer)], &[Step]); 2] = [
+static SWEEPS: [(&[Step], &[(u16, u16, i32, Answer)], &[Step]); 2] = [
     (&[Step::Complete(0, 2, true)], &STOPS, &SWEPT),
     // Nothing is ready.
     (&[], &[], &NOT_SWEPT),

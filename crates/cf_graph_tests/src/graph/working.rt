@@ -205,7 +205,7 @@ const FEW_CALLED: [Step; 2] = [
     Step::Notes(&[(7, Args::One(Value::Int(3))), (5, Args::One(Value::Int(1)))]),
 ];
 
-const CASES: [Case; 9] = [
+static CASES: [Case; 9] = [
     Case {
         name: "down a chain",
         rows: &CHAIN,
@@ -285,16 +285,16 @@ fn a_closure_remembers_its_calls(rt: HostRuntime) {
     remembers(&rt, rt.alloc(), &mut closure);
 }
 
-const COMPLETED: [Step; 1] = [Step::Complete(0, 3, true)];
+static COMPLETED: [Step; 1] = [Step::Complete(0, 3, true)];
 
-const WORKED: [Step; 3] = [
+static WORKED: [Step; 3] = [
     Step::Value(1, 10),
     Step::Value(2, 27),
     // The stage of a `ThenRun` gives nil.
     Step::Complete(4, 8, true),
 ];
 
-const WORKED_AGAIN: [Step; 1] = [Step::Value(5, 47)];
+static WORKED_AGAIN: [Step; 1] = [Step::Value(5, 47)];
 
 /// The closure is called three times, and once more when stage 4 is there.
 fn works_twice(rt: &impl Abort, alloc: Global, graph: &mut Graph, closure: &mut Closure) {

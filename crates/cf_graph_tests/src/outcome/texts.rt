@@ -23,7 +23,7 @@ const THREE: Outcome = Outcome::Value(Value::Int(3));
 
 /// What outcomes are, and what becomes of them: wrapped, whether it is cancelled, whether it is exceptional, and what is
 /// told of it.
-const OUTCOMES: [(Outcome, Outcome, bool, bool, Now); 3] = [
+static OUTCOMES: [(Outcome, Outcome, bool, bool, Now); 3] = [
     (THREE, THREE, false, false, Now::Got(Value::Int(3))),
     (RAW_CANCEL, WRAPPED_CANCEL, true, true, Now::Cancellation),
     (
@@ -62,7 +62,7 @@ fn is_written(rt: &impl Abort, alloc: Global, outcome: Outcome, text: &str) -> b
 }
 
 /// The values, each as it is written, and as its outcome is.
-const VALUES: [(Value, &str, &str); 7] = [
+static VALUES: [(Value, &str, &str); 7] = [
     (Value::Nil, "nil", "value nil"),
     (Value::Int(0), "0", "value 0"),
     (Value::Int(9), "9", "value 9"),
@@ -82,7 +82,7 @@ fn writes_each_value(rt: HostRuntime) {
 }
 
 /// The causes, each as it is written raw and wrapped.
-const CAUSES: [(Cause, &str, &str); 8] = [
+static CAUSES: [(Cause, &str, &str); 8] = [
     (
         Cause::Thrown(0),
         "fault thrown 0 raw",
@@ -139,7 +139,7 @@ fn writes_each_fault(rt: HostRuntime) {
 }
 
 /// What a caller is told, each as it is written.
-const TOLD: [(Now, &str); 11] = [
+static TOLD: [(Now, &str); 11] = [
     (Now::Absent(Value::Int(4)), "absent 4"),
     (Now::Absent(Value::Nil), "absent nil"),
     (Now::Got(Value::Nil), "value nil"),

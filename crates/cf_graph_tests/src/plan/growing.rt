@@ -91,7 +91,7 @@ fn is_whole(plan: &GrowingPlan, whole: &Plan) -> bool {
 
 const SOURCE: Row<'static> = Row(Form::Source, Of::None, &[], None);
 
-const OPENING: [Row<'static>; 3] = [SOURCE, SOURCE, Row(Form::Apply, Of::One(0), &[0], Some(4))];
+static OPENING: [Row<'static>; 3] = [SOURCE, SOURCE, Row(Form::Apply, Of::One(0), &[0], Some(4))];
 
 /// The builder takes these stages.
 fn put(builder: &mut PlanBuilder, rows: &[Row<'_>]) -> Result<(), PlanFault> {
@@ -231,7 +231,7 @@ const RESTARTED: [Step; 21] = [
 ];
 
 /// Stages are attached behind the opening, the newest comes first, and a restart takes out what was attached.
-const PARTS: [&[Step]; 3] = [&BEHIND, &NEWEST_FIRST, &RESTARTED];
+static PARTS: [&[Step]; 3] = [&BEHIND, &NEWEST_FIRST, &RESTARTED];
 
 #[test]
 fn attached_stages_are_those_of_a_whole_plan(rt: HostRuntime) {

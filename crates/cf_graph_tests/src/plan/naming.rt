@@ -5,7 +5,7 @@ use cf_forms::{Form, composes, is_decided_by_first};
 
 /// Each form with its number, its name, whether its function answers with a stage, and whether the first settled source
 /// decides it. That doesn't hold of the forms without a source, and of those that wait for all of theirs.
-const FORMS: [(u8, Form, &str, bool, bool); 19] = [
+static FORMS: [(u8, Form, &str, bool, bool); 19] = [
     (0, Form::Source, "source", false, false),
     (1, Form::Supply, "supply", false, false),
     (2, Form::RunAsync, "runAsync", false, false),
@@ -54,9 +54,9 @@ fn each_form_has_its_number_and_its_name(rt: HostRuntime) {
     }
 }
 
-const OTHER_NUMBERS: [u32; 3] = [19, 256, 4_294_967_295];
+static OTHER_NUMBERS: [u32; 3] = [19, 256, 4_294_967_295];
 
-const OTHER_NAMES: [&str; 5] = ["", "Source", "apply ", "thenApply", "exceptionallycompose"];
+static OTHER_NAMES: [&str; 5] = ["", "Source", "apply ", "thenApply", "exceptionallycompose"];
 
 #[test]
 fn other_numbers_and_names_are_none(rt: HostRuntime) {

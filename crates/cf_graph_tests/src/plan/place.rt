@@ -5,7 +5,7 @@ use cf_plan::Plan;
 use std::alloc::Global;
 
 /// Sources, a number of stages, and whether the sources are below it.
-const BELOW: [(Of, u16, bool); 6] = [
+static BELOW: [(Of, u16, bool); 6] = [
     (Of::None, 0, true),
     (Of::One(0), 0, false),
     (Of::One(3), 4, true),

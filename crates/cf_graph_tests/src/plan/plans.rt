@@ -234,7 +234,7 @@ const MOST_ROOM: Case<'static> = Case {
     ..HUNDRED
 };
 
-const CASES: [Case<'static>; 15] = [
+static CASES: [Case<'static>; 15] = [
     FIRING_ORDER,
     ACCEPTED,
     REFUSED,
@@ -258,7 +258,7 @@ fn plans_are_what_was_accepted(rt: HostRuntime) {
 }
 
 /// Numbers of edges from none up to the most, and those beside the powers of two that blocks grow by.
-const EDGES: [usize; 12] = [
+static EDGES: [usize; 12] = [
     0, 1, 2, 255, 256, 257, 4_095, 4_096, 4_097, 8_192, 16_383, 16_384,
 ];
 
@@ -289,7 +289,7 @@ fn every_number_of_edges_is_built(rt: HostRuntime) {
     }
 }
 
-const STAGES: [u16; 8] = [0, 1, 2, 63, 64, 65, 4_095, 4_096];
+static STAGES: [u16; 8] = [0, 1, 2, 63, 64, 65, 4_095, 4_096];
 
 /// So many supplies, which all start.
 #[test]
@@ -317,7 +317,7 @@ const COPIED: Case<'static> = Case {
 };
 
 /// Edges, room, and whether a plan with so many edges has place for it.
-const PLACES: [(usize, u16, bool); 10] = [
+static PLACES: [(usize, u16, bool); 10] = [
     (0, 0, true),
     (0, 4_094, true),
     (0, 4_095, false),
@@ -344,7 +344,7 @@ fn stages_edges_and_room_are_bounded(rt: HostRuntime) {
     }
 }
 
-const FAULTS: [(PlanFault, &str); 9] = [
+static FAULTS: [(PlanFault, &str); 9] = [
     (PlanFault::TooManyStages, "TooManyStages"),
     (PlanFault::SourceNotLower, "SourceNotLower"),
     (PlanFault::WrongSourceCount, "WrongSourceCount"),

@@ -54,7 +54,7 @@ fn a_function_answers_by_its_meaning(rt: HostRuntime) {
 }
 
 /// A form, the outcome of the source that decides, and what the stage does.
-const ONE: [(Form, Outcome, Due); 20] = [
+static ONE: [(Form, Outcome, Due); 20] = [
     (Form::Apply, THREE, Due::Needs(Args::One(INT))),
     (Form::Apply, RAW, Due::Settles(WRAPPED)),
     (Form::Accept, WRAPPED, Due::Settles(WRAPPED)),
@@ -89,7 +89,7 @@ fn one_source_decides(rt: HostRuntime) {
 }
 
 /// A form, the outcomes of both sources, and what the stage does.
-const TWO: [(Form, Outcome, Outcome, Due); 6] = [
+static TWO: [(Form, Outcome, Outcome, Due); 6] = [
     (
         Form::Combine,
         THREE,
@@ -116,7 +116,7 @@ fn two_sources_decide(rt: HostRuntime) {
 }
 
 /// The form of stage 5, the outcome of the source that decided, the answer, and where that lands.
-const ANSWERS: [(Form, Option<Outcome>, Answer, Landing); 15] = [
+static ANSWERS: [(Form, Option<Outcome>, Answer, Landing); 15] = [
     (Form::Supply, None, GIVES, Landing::Settles(THREE)),
     (Form::Apply, Some(NIL), GIVES, Landing::Settles(THREE)),
     (Form::Accept, Some(NIL), GIVES, Landing::Settles(NIL)),
@@ -182,7 +182,7 @@ fn an_answer_lands(rt: HostRuntime) {
 }
 
 /// A form, sources, whether there is a function, and whether the stage fits.
-const FITTING: [(Form, Of, bool, bool); 12] = [
+static FITTING: [(Form, Of, bool, bool); 12] = [
     (Form::Source, Of::None, false, true),
     (Form::Source, Of::None, true, false),
     (Form::Supply, Of::None, true, true),

@@ -18,7 +18,7 @@ pub(crate) enum Takes {
 }
 
 /// Each form, how many sources it takes, and whether it has a function.
-const FORMS: [(Form, Takes, bool); 19] = [
+static FORMS: [(Form, Takes, bool); 19] = [
     (Form::Source, Takes::None, false),
     (Form::Supply, Takes::None, true),
     (Form::RunAsync, Takes::None, true),
@@ -149,14 +149,14 @@ fn add(builder: &mut PlanBuilder, new: New) -> Result<u16, PlanFault> {
 
 const GIVE: LimitKind = LimitKind::Give(Value::Int(9));
 
-const TWO_LIMITS: [(u16, u32, LimitKind); 2] = [(0, 1, GIVE), (1, 2, LimitKind::Timeout(1))];
+static TWO_LIMITS: [(u16, u32, LimitKind); 2] = [(0, 1, GIVE), (1, 2, LimitKind::Timeout(1))];
 
 /// Two sources with a limit each.
 pub(crate) fn two_sources(rt: &impl Abort, alloc: Global) -> Plan {
     limited(rt, builder_of(rt, alloc), &TWO_LIMITS)
 }
 
-const THREE_LIMITS: [(u16, u32, LimitKind); 3] = [
+static THREE_LIMITS: [(u16, u32, LimitKind); 3] = [
     (2, 2, LimitKind::Timeout(0)),
     (0, 1, GIVE),
     (1, 2, LimitKind::Timeout(7)),
@@ -194,7 +194,7 @@ fn add_by(builder: &mut PlanBuilder, k: u16, x: u32) -> Result<u16, PlanFault> {
     builder.stage(form, &of[..count], function_of(called))
 }
 
-const LARGER_LIMITS: [(u16, u32, LimitKind); 3] = [
+static LARGER_LIMITS: [(u16, u32, LimitKind); 3] = [
     (2, 2, LimitKind::Timeout(0)),
     (0, 1, GIVE),
     (4, 2, LimitKind::Timeout(4294967295)),

@@ -203,7 +203,7 @@ const ROOMY: &str = r#"{"cf":2,"room":2,"stages":[{"form":"source"},{"form":"sou
 /// The step that attaches a supply.
 const ATTACHES_SUPPLY: &str = r#"["attach",{"form":"supply","fn":"neg"}]"#;
 
-const TEXTS: [Texts; 14] = [
+static TEXTS: [Texts; 14] = [
     Texts {
         before: r#"{"cf":2,"stages":0,"room":"#,
         pieces: &WRONG_ROOMS,
@@ -346,7 +346,7 @@ const LIMITED: [Refused; 1] = [(
     ReadingFault::Plan(PlanFault::NoSuchStage, 0),
 )];
 
-const REFUSED: [&[Refused]; 3] = [&IN_PLACE, &VERSION_ONE, &LIMITED];
+static REFUSED: [&[Refused]; 3] = [&IN_PLACE, &VERSION_ONE, &LIMITED];
 
 #[test]
 fn texts_are_refused_for_what_is_wrong(rt: HostRuntime) {

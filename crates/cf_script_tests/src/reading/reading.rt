@@ -37,7 +37,7 @@ const CANCELLED: Args = Args::Got(Outcome::Fault {
 });
 
 /// Functions with arguments, and the numbers that they give, those of Java's `int`.
-const NUMBERS: [(Func, Args, i32); 18] = [
+static NUMBERS: [(Func, Args, i32); 18] = [
     (Func::Add(5), NOTHING, 5),
     (Func::Add(5), NIL, 5),
     (Func::Add(1), MOST, -2147483648),
@@ -59,7 +59,7 @@ const NUMBERS: [(Func, Args, i32); 18] = [
 ];
 
 /// Functions with arguments, and what else they answer.
-const OTHERS: [(Func, Args, Answer); 16] = [
+static OTHERS: [(Func, Args, Answer); 16] = [
     (Func::Add(5), THROWN, Answer::Throw(9)),
     (Func::Mul(3), CANCELLED, Answer::Throw(0)),
     (Func::Div(0), SEVEN, Answer::Throw(0)),
@@ -207,22 +207,27 @@ fn blanks_read(
     (read, input.len())
 }
 
-#[test]
-fn as_many_bytes_are_read_as_there_may_be(rt: HostRuntime) {
-    let (read, left) = blanks_read(&rt, rt.alloc(), MAX_BYTES);
-    assert!(rt; read == Ok(MAX_BYTES) && left == 0);
-}
+/// How many blanks there are, how many are read, and how many are left: of one byte too many and two more, that one is read.
+static BLANKS: [(usize, Result<usize, ReadingFault>, usize); 2] = [
+    (MAX_BYTES, Ok(MAX_BYTES), 0),
+    (MAX_BYTES + 3, Err(ReadingFault::TooLong), 2),
+];
 
 #[test]
-fn one_byte_too_many_is_read(rt: HostRuntime) {
-    let (read, left) = blanks_read(&rt, rt.alloc(), MAX_BYTES + 3);
-    assert!(rt; read == Err(ReadingFault::TooLong) && left == 2);
+fn as_many_bytes_are_read_as_there_may_be(rt: HostRuntime) {
+    for (count, read, left) in &BLANKS {
+        holds(
+            &rt,
+            blanks_read(&rt, rt.alloc(), *count) == (*read, *left),
+            count,
+        );
+    }
 }
 
 const LIMIT: ReadingFault = ReadingFault::Shape(Part::Limit(0));
 
 /// Faults that no row of whole scripts has.
-const REFUSED: [(&[u8], ReadingFault); 15] = [
+static REFUSED: [(&[u8], ReadingFault); 15] = [
     (
         b"{\"cf\":1,\"stages\":[],\"\xff\":1}",
         ReadingFault::NotJson,
@@ -375,7 +380,7 @@ const CODED_PARTS: Parts = Parts {
     ],
 };
 
-const READ: [(&str, Parts); 2] = [(SCRIPT, PARTS), (CODED, CODED_PARTS)];
+static READ: [(&str, Parts); 2] = [(SCRIPT, PARTS), (CODED, CODED_PARTS)];
 
 #[test]
 fn reads_a_script(rt: HostRuntime) {

@@ -13,7 +13,7 @@ fn check<T: Display>(rt: &impl Abort, alloc: Global, rows: &[(T, &str)]) {
     }
 }
 
-const PARTS: [(Part, &str); 10] = [
+static PARTS: [(Part, &str); 10] = [
     (Part::Top, "top"),
     (Part::Version, "cf"),
     (Part::Room, "room"),
@@ -31,7 +31,7 @@ fn each_part_has_its_text(rt: HostRuntime) {
     check(&rt, rt.alloc(), &PARTS);
 }
 
-const FAULTS: [(ReadingFault, &str); 9] = [
+static FAULTS: [(ReadingFault, &str); 9] = [
     (ReadingFault::TooLong, "TooLong"),
     (ReadingFault::NotJson, "NotJson"),
     (ReadingFault::Shape(Part::Top), "Shape(top)"),

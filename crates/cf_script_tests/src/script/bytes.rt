@@ -14,7 +14,7 @@ struct Row {
     ended: Result<(), ScriptFault>,
 }
 
-const ROWS: [Row; 9] = [
+static ROWS: [Row; 9] = [
     Row {
         name: "an empty plan prints no byte",
         script: r#"{"cf":1,"stages":[]}"#,

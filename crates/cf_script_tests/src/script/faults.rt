@@ -1,7 +1,6 @@
 //! The line of each fault.
 use crate::checks::{holds, is_shown};
 use cf_script::{Part, PlanFault, ScriptFault};
-use std::process::Abort;
 
 type Row = (ScriptFault, &'static str);
 
@@ -81,23 +80,13 @@ const REFUSALS: [Row; 9] = [
     ),
 ];
 
-fn check_lines(rt: &(impl Abort + AllocGlobal), rows: &[Row]) {
-    for (fault, line) in rows {
-        holds(rt, is_shown(rt, rt.alloc(), fault, line), line);
-    }
-}
+static LINES: [&[Row]; 3] = [&LONGEST, &PARTS, &REFUSALS];
 
 #[test]
 fn each_fault_has_its_line(rt: HostRuntime) {
-    check_lines(&rt, &LONGEST);
-}
-
-#[test]
-fn each_part_has_its_line(rt: HostRuntime) {
-    check_lines(&rt, &PARTS);
-}
-
-#[test]
-fn each_refusal_has_its_number(rt: HostRuntime) {
-    check_lines(&rt, &REFUSALS);
+    for rows in &LINES {
+        for (fault, line) in *rows {
+            holds(&rt, is_shown(&rt, rt.alloc(), fault, line), line);
+        }
+    }
 }

@@ -11,7 +11,7 @@ use std::alloc::Global;
 use std::process::Abort;
 
 /// A worker loads, charges in vain, says sorry and attaches a stage, which another caller cancels.
-const WORDS: [u64; 9] = [
+static WORDS: [u64; 9] = [
     0x0401000000000000,
     0x0501000100000000,
     0x0401001000000000,
@@ -23,15 +23,15 @@ const WORDS: [u64; 9] = [
     0x0101003100000002,
 ];
 
-const NAMES: [&str; 3] = ["load", "charge", ""];
+static NAMES: [&str; 3] = ["load", "charge", ""];
 
-const LANES: [&str; 2] = ["request", "worker"];
+static LANES: [&str; 2] = ["request", "worker"];
 
-const VALUES: [&str; 2] = ["49 \"euros\"", "sorry,\n9.000 ms  nobody pays"];
+static VALUES: [&str; 2] = ["49 \"euros\"", "sorry,\n9.000 ms  nobody pays"];
 
-const ERRORS: [&str; 1] = ["card declined"];
+static ERRORS: [&str; 1] = ["card declined"];
 
-const TEXTS: [(Kind, &str); 5] = [
+static TEXTS: [(Kind, &str); 5] = [
     (Kind::Lines, LINES),
     (Kind::Line, LINE),
     (Kind::Report, REPORT),
@@ -82,7 +82,7 @@ const ACCOUNT: &str =
 "#;
 
 /// One caller times a stage out, another fails it with a bad answer in vain, and a limit fires, each with a code.
-const CODED_WORDS: [u64; 5] = [
+static CODED_WORDS: [u64; 5] = [
     0x0801001000000001,
     0x0802001100000007,
     0x0800000000000000,
@@ -90,9 +90,9 @@ const CODED_WORDS: [u64; 5] = [
     0x0802004100000001,
 ];
 
-const CODED_ERRORS: [&str; 2] = ["card declined", "late"];
+static CODED_ERRORS: [&str; 2] = ["card declined", "late"];
 
-const CODED_TEXTS: [(Kind, &str); 5] = [
+static CODED_TEXTS: [(Kind, &str); 5] = [
     (Kind::Lines, CODED_LINES),
     (Kind::Line, CODED_LINE),
     (Kind::Report, CODED_REPORT),
@@ -191,7 +191,7 @@ fn a_history_is_told_in_each_of_its_kinds(rt: HostRuntime) {
 }
 
 /// Limits of a source, of one more and of a third: of each kind, with a code and without one.
-const LIMITS: [Limit; 4] = [
+static LIMITS: [Limit; 4] = [
     Limit {
         stage: 2,
         at: 5,
