@@ -1,8 +1,8 @@
-"""Builds the C module of cf.service, which has the library within.
+"""Builds the C module of cf.service, which has the library within. One build is for CPython 3.8 and all later versions.
 
 The library is found in CF_LIBRARY_DIR, or by pkg-config. With libcf.a the module has the whole library within, and
 nothing else is needed where it runs; with libcf.so alone that is found where it was. CF_INCLUDE names the folder of
-cf.h, if that is elsewhere than here. With CF_NO_MODULE=1 there is no module, and the package calls libcf.so by ctypes.
+cf.h, if that is elsewhere than here.
 """
 import os
 import subprocess
@@ -15,11 +15,9 @@ from setuptools.errors import CompileError
 
 HEADERS = [os.environ.get("CF_INCLUDE", ""), str(Path(__file__).resolve().parents[2] / "crates/cf_c/include")]
 NO_LIBRARY = """no libcf.a or libcf.so is in CF_LIBRARY_DIR ({}), and pkg-config knows none.
-Name its folder:                 CF_LIBRARY_DIR=/folder/of/libcf.a pip install ..
-or do without the C module, and
-name the library where it runs:  CF_NO_MODULE=1 pip install .., and then CF_LIBRARY=/path/of/libcf.so"""
+Name its folder: CF_LIBRARY_DIR=/folder/of/libcf.a pip install .."""
 NO_COMPILER = """the C module can't be built: it takes a C compiler and Python's headers (on Debian gcc and python3-dev).
-Without them: CF_NO_MODULE=1 pip install .., and then CF_LIBRARY=/path/of/libcf.so where it runs. The compiler said: {}"""
+A wheel that was built elsewhere needs neither. The compiler said: {}"""
 
 
 def of_package(option: str) -> List[str]:
@@ -57,5 +55,5 @@ class Build(build_ext):
         raise SystemExit(f"setup.py: {NO_LIBRARY.format(given or 'which is empty')}")
 
 
-MODULE = Extension("cf._cf", ["native/_cf.c"], extra_compile_args=["-O2"])
-setup(ext_modules=[] if os.environ.get("CF_NO_MODULE") == "1" else [MODULE], cmdclass={"build_ext": Build})
+MODULE = Extension("cf._cf", ["native/_cf.c"], extra_compile_args=["-O2"], py_limited_api=True)
+setup(ext_modules=[MODULE], cmdclass={"build_ext": Build}, options={"bdist_wheel": {"py_limited_api": "cp38"}})

@@ -6,7 +6,7 @@ from types import SimpleNamespace
 from typing import Any, Callable, Dict, List, Sequence
 
 NO_FUNCTION = 0xFFFFFFFF
-VERSION = (1, 9)  # of the library that this module is written for
+VERSION = (2, 0)  # of the library that this module is written for
 
 # The kinds in the structures: of a value, an answer, an outcome, what a function is called with, and a record; and what
 # a record asked.
@@ -88,26 +88,6 @@ class CStep(c.Structure):
     _fields_ = [("who", c.c_uint8), ("first", c.c_uint16), ("place", c.c_size_t), ("finish", c.c_uint64), ("claim", c.c_uint64)]
 
 
-class CTold(c.Structure):
-    _fields_ = [("stage", c.c_uint16), ("outcome", COutcome)]
-
-
-class CRequestSizes(c.Structure):
-    _fields_ = [("room", c.c_uint16), ("lanes", c.c_uint8), ("own", c.c_uint8)]
-
-
-class CApplied(c.Structure):
-    _fields_ = [("reply", CReply), ("told", c.c_size_t)]
-
-
-class CGathering(c.Structure):
-    _fields_ = [("who", c.c_uint8), ("form", c.c_uint32), ("root", c.c_uint16), ("told", c.c_size_t)]
-
-
-class CRequestStep(c.Structure):
-    _fields_ = [("who", c.c_uint8), ("lane", c.c_uint8), ("told", c.c_size_t)]
-
-
 class CEvent(c.Structure):
     _fields_ = [
         ("call", c.c_uint32),
@@ -156,7 +136,6 @@ _U8, _U16, _U32, _U64, _SIZE = c.c_uint8, c.c_uint16, c.c_uint32, c.c_uint64, c.
 _U8_OUT, _U16_OUT, _U64_OUT = c.POINTER(c.c_uint8), c.POINTER(c.c_uint16), c.POINTER(c.c_uint64)
 _ANSWER = c.POINTER(CAnswer)
 _SIZE_OUT = c.POINTER(c.c_size_t)
-_TOLD = [c.POINTER(CTold), _SIZE]
 _OUTCOME, _NOW, _TEXT = c.POINTER(COutcome), c.POINTER(CNow), [c.c_char_p, _SIZE, c.POINTER(_SIZE)]
 
 # The arguments of each call that the module makes.
@@ -242,17 +221,6 @@ CALLS: Dict[str, List[Any]] = {
     "cf_row_abandon": [_H, _U64, _U16, _U32, _U64_OUT],
     "cf_row_finish": [_H, c.POINTER(CTask), _U64_OUT],
     "cf_row_next_claim": [_H, c.POINTER(CTask), _U16, _U16_OUT],
-    "cf_request_new": [_H, c.POINTER(CRequestSizes), _U8_OUT, _SIZE, _H],
-    "cf_request_apply": [_H, _U64, _U8, c.POINTER(CApplied), *_TOLD],
-    "cf_request_gather": [_H, c.POINTER(CGathering), _OF, _SIZE, *_TOLD],
-    "cf_request_next": [_H, c.POINTER(CRequestStep), c.POINTER(CTask), *_TOLD],
-    "cf_request_follow": [_H, _U16, _U16, *_TOLD, _SIZE_OUT],
-    "cf_request_deadline": [_H, _U16, _U64, _U32, _U32, CValue],
-    "cf_request_pass": [_H, _U64, *_TOLD, _SIZE_OUT],
-    "cf_request_refuse": [_H, _U8, _U32, *_TOLD, _SIZE_OUT],
-    "cf_request_told": [_H, *_TOLD, _SIZE_OUT],
-    "cf_request_ready": [_H, _U8, _U16_OUT],
-    "cf_request_grow": [_H],
     "cf_history_new": [_H, _U16, c.POINTER(_U64), _SIZE, _H],
     "cf_history_times": [_H, c.POINTER(_U64), _SIZE],
     "cf_history_say": [_H, _U32, c.c_char_p, _SIZE, _SIZE_OUT, _SIZE],
@@ -295,11 +263,6 @@ STRUCTURES = {
     "cf_task": CTask,
     "cf_step": CStep,
     "cf_given": CGiven,
-    "cf_told": CTold,
-    "cf_request_sizes": CRequestSizes,
-    "cf_applied": CApplied,
-    "cf_request_gathering": CGathering,
-    "cf_request_step": CRequestStep,
     "cf_entry": CEntry,
     "cf_row_opening": CRowOpening,
     "cf_row_claim": CRowClaim,

@@ -187,7 +187,7 @@ def _end(store: Store, at: argparse.Namespace) -> List[str]:
         raise Gone(at.name)
     if at.cancel:
         view = _view(store, at.name)
-        for stage in range(len(view.kinds)):
+        for stage in reversed(range(len(view.kinds))):  # so that no function is ready for what a cancelled source does
 
             def decide(view: RowView, stage: int = stage) -> Any:
                 return None if view.is_settled(stage) else [(CANCEL << 56 | view.caller_number << 48 | stage << 36, None)]

@@ -1,11 +1,13 @@
-/* The parts of cf.service where its time goes: what `cf/service/_plain.py` has in Python, with the same names and
- * the same answers. What isn't hot stands in Python, in `_machine.py` for both and in `_module.py` for this one.
+/* The parts of cf.service where its time goes. What isn't hot stands in Python, in `cf/service/_core.py`.
+ *
+ * It is written for the limited API of CPython 3.8, so that one build serves that version and all later ones.
  *
  * A request is a machine of the library (docs/REQUEST.md), and beside each of its words the time, beside each of its
  * stages the future and what was told of it. A call of the machine and the writing down of what came of it are one
  * step (`apply`, `note`). Nothing of Python's runs meanwhile: no object that is collected is made and none is freed, no
  * signal is handled, and the interpreter's lock isn't let go. That makes it one step for all threads, without a lock of
- * its own. Whatever may run anything is done behind it, by `tell`.
+ * its own. Whatever may run anything is done behind it, by `tell`. An attach behind open stages has nothing to tell
+ * (`may_wait`): its time is written down, and its word waits for the next call, which does it first.
  *
  * Each interpreter that imports this has a `State` of its own, with its own types. Objects hold the module, and so
  * outlive no State.
@@ -23,17 +25,27 @@
  *   - calls are made in a child of `fork` all the same: nobody forks within a call, so the handles are whole there,
  *     and so is the memory, by glibc's and musl's own care for a child. */
 #define PY_SSIZE_T_CLEAN
+#define Py_LIMITED_API 0x03080000
 #include <Python.h>
 #include <structmember.h>
+#include <stdlib.h>
 #include <string.h>
 #include <time.h>
 #include "cf.h"
+
+/* What later versions have: a flag of methods, which 3.8 knows and doesn't name, and a slot of modules, of 3.12. */
+#ifndef METH_FASTCALL
+enum { METH_FASTCALL = 0x0080 };
+#endif
+enum { MULTIPLE_INTERPRETERS = 3, OWN_GIL = 2 };
 
 enum { MOST = 4096, CALLERS = 64, NONE = 0xFFFF, THIS_THREAD = -1 };
 /* In whose name a machine itself settles stages: CLOCK of words.py. */
 enum { OWN = 1 };
 /* Calls of Python's beyond its limit for what has to be told, and how often that is tried. */
 enum { DEEPER = 200, TRIES = 100 };
+/* How many attaches wait for the next call of the machine at most. */
+enum { WAITING = 8 };
 /* How many machines of a plan are kept for its next requests: of requests of few stages, and of others, which have so many
  * stages at most. */
 enum { KEPT = 1024, FEW = 4, LARGE_KEPT = 32, MOST_KEPT = 256 };
@@ -49,17 +61,21 @@ enum { GIVING = 1, RAISING = 2, LINKING = 3 }; /* how a stage is finished: GIVES
 
 static _Thread_local int caller;  /* which caller this thread is */
 static const uint8_t lanes[MOST]; /* each stage is of the only lane */
+static bool visits_types;         /* whether an object visits its type; before 3.9 that is done by Python for it */
 
 /* Names that are looked for often, each by its place in a table. */
-enum { PUT, REFUSE, HAND_ON, SHOW, LOG, RELAY, LINK, CONDITION, RESULT, NAMES };
-static const char *const names[NAMES] = {
-    "put", "_refuse_ready", "_give_chosen_turns", "_show", "_log", "relay", "_link", "_new_condition", "_awaited_result"};
+enum { PUT, REFUSE, HAND_ON, SET_ALARM, STOP, SHOW, LOG, RELAY, LINK, CONDITION, RESULT, NAMES };
+static const char MODULE[] = "_module";
+static PyModuleDef definition;
+static const char *const names[NAMES] = {"put", "_refuse_ready", "_give_chosen_turns", "_set_alarm", "_stop", "_show", "_log", "relay",
+    "_link", "_new_condition", "_awaited_result"};
 
 /* What one interpreter has of this. */
 typedef struct {
-  PyObject *module; /* whose state it is, borrowed */
-  cf_told *told;    /* what the last call told: MOST of them */
-  uint32_t forks;   /* how many forks lie between the first process and this one */
+  PyObject *module;                   /* whose state it is, borrowed */
+  cf_told *told;                      /* what the last call told: MOST of them */
+  cf_request_call calls[WAITING + 1]; /* of a row of calls */
+  uint32_t forks;                     /* how many forks lie between the first process and this one */
   PyTypeObject *stage_core;
   PyObject *names[NAMES];
 } State;
@@ -80,21 +96,24 @@ typedef struct {
   cf_outcome told;
   uint16_t next_settled;
   uint8_t form;
-  bool running;
+  bool running, stops; /* whether its function runs, and whether it still did as the stage was told */
   PyObject *stage;
 } Row;
 
-/* The works are given the request once for each function that becomes ready. That is a turn: who has it runs whichever
- * function is the lowest ready one then. There are as many turns as ready functions, or more, and one for which none is
- * left does nothing. */
+/* The works are given the request once for each function that becomes ready. That is a turn, a job of `todo`: who has it
+ * runs whichever function is the lowest ready one then. There are as many turns as ready functions, or more, and one for
+ * which none is left does nothing. */
 typedef struct {
   PyObject_HEAD State *state;
   cf_handle *machine;
   Pool *pool;
-  uint32_t room, most, stages, events, event_room; /* `room` and `event_room` are of rows and times */
-  uint32_t turns, forks;                           /* forks as in a stage */
-  bool counts;  /* whether words are counted, as the machine may have done some by itself or by others' calls */
-  bool chooses; /* whether its class chooses who has a turn */
+  cf_todo todo;
+  uint64_t passed;                                        /* the moment up to which time has passed */
+  uint32_t room, most, stages, events, event_room, forks; /* `room` and `event_room` are of rows and times; forks as in a stage */
+  uint32_t waits;                                         /* so many words of attaches, which wait for the next call of the machine */
+  uint64_t waiting[WAITING];
+  bool counts, untold; /* whether words are counted, as the machine may do some by itself, and stages are left to be told */
+  bool chooses;        /* whether its class chooses who has a turn */
   Row *rows;
   int64_t *times; /* of each word, in nanoseconds */
   PyTypeObject *stage_class;
@@ -116,12 +135,18 @@ typedef struct {
   PyObject *given, *call, *args, *kwargs, *callbacks, *condition, *waiters;
 } Stage;
 
-/* The stages that calls settled, as a list through their rows, and whether functions may have become ready. */
+/* What came of calls: the stages with a future that they settled, as a list through their rows, whether a turn is to be
+ * given, and whether the next deadline is another one. */
 typedef struct {
   uint16_t settled, last_settled;
-  bool is_ready;
+  bool is_ready, is_other_moment;
 } News;
-static const News NO_NEWS = {NONE, NONE, false};
+static const News NO_NEWS = {NONE, NONE, false, false};
+
+static void *zeroed(size_t size) {
+  void *made = PyMem_Malloc(size);
+  return made ? memset(made, 0, size) : NULL;
+}
 
 /* Raises that a request has all the stages that it may have. */
 static PyObject *full(Request *self) {
@@ -142,7 +167,7 @@ static int kept(PyObject *list, PyObject *thing, uint32_t *number) {
     PyErr_SetString(PyExc_RuntimeError, "the request isn't opened");
     return -1;
   }
-  *number = (uint32_t)PyList_GET_SIZE(list);
+  *number = (uint32_t)PyList_Size(list);
   return PyList_Append(list, thing);
 }
 
@@ -155,14 +180,14 @@ static int value_in(Request *self, PyObject *value, uint64_t *low) {
 }
 
 static PyObject *item(PyObject *list, uint32_t number) {
-  PyObject *found = number < (size_t)PyList_GET_SIZE(list) ? PyList_GET_ITEM(list, number) : Py_None;
+  PyObject *found = number < (size_t)PyList_Size(list) ? PyList_GetItem(list, number) : Py_None;
   Py_INCREF(found);
   return found;
 }
 
 static PyObject *value_out(Request *self, cf_value value) { return item(self->values, value.kind ? (uint32_t)value.number : UINT32_MAX); }
 
-/* The exception that somebody gave for an outcome; None where nobody did. */
+/* The exception that somebody gave for an outcome, or the `Limit` that makes it; None where nobody did. */
 static PyObject *error_out(Request *self, cf_outcome outcome) {
   return item(self->errors, outcome.kind == CF_THROWN || outcome.code ? outcome.code : UINT32_MAX);
 }
@@ -200,43 +225,85 @@ static void stamp(Request *self, size_t words) {
   while (self->events < least) self->times[self->events++] = now.tv_sec * 1000000000LL + now.tv_nsec;
 }
 
-/* Writes down a call that did so many words, and told so many stages. */
-static void note(Request *self, size_t words, size_t n, News *news) {
+/* Writes down a call that did so many words, and what its `todo` says. */
+static void note(Request *self, size_t words, News *news) {
   stamp(self, words);
-  for (size_t k = 0; k < n; k++) {
+  for (size_t k = 0; k < self->todo.told; k++) {
     const cf_told *told = &self->state->told[k];
     Row *row = &self->rows[told->stage];
     row->told = told->outcome;
-    if (row->stage) publish(self, (Stage *)row->stage, row);
+    row->stops = told->stop != 0;
+    if (!row->stage) continue; /* (nobody has its future, so nobody is to be told) */
+    publish(self, (Stage *)row->stage, row);
     row->next_settled = NONE;
     if (news->last_settled == NONE) news->settled = told->stage;
     else self->rows[news->last_settled].next_settled = told->stage;
     news->last_settled = told->stage;
   }
-  news->is_ready |= n > 0;
+  news->is_ready |= (self->todo.news & CF_NEWS_READY) != 0;
+  news->is_other_moment |= (self->todo.news & CF_NEWS_MOMENT) != 0;
 }
 
-/* Does a word, and adds what it settled to the news. The code of the library. */
+/* What each call of the machine is given to write down what it tells. */
+#define TELLING self->state->told, MOST, &self->todo
+
+/* Does the attaches that wait, and behind them so many calls of the State's row, all in one. The code of the library: if one
+ * is refused, it waits on, and so do all behind it. */
+static uint32_t do_row(Request *self, size_t more, size_t room) {
+  cf_request_call *calls = self->state->calls;
+  size_t many = self->waits, at = 0, done;
+  uint32_t code;
+  for (size_t k = 0; k < many; k++) {
+    calls[k].call = CF_DO_APPLY;
+    calls[k].word = self->waiting[k];
+  }
+  do {
+    done = 0;
+    code = cf_request_do(self->machine, calls + at, many + more - at, &done, self->state->told, room, &self->todo);
+    at += done;
+  } while (code == CF_NO_ROOM && !(code = cf_request_grow(self->machine)));
+  self->waits = at < many ? (uint32_t)(many - at) : 0;
+  memmove(self->waiting, self->waiting + many - self->waits, self->waits * sizeof *self->waiting);
+  return code;
+}
+
+/* Does the attaches that wait. They settle nothing and make nothing ready, so there is nothing to tell. */
+static uint32_t flush(Request *self) { return self->waits ? do_row(self, 0, 0) : CF_OK; }
+
+/* Does a word behind the attaches that wait, and tells so many stages. The code of the library. */
+static uint32_t do_word(Request *self, uint64_t word, cf_reply *reply, size_t room) {
+  if (!self->waits) return cf_request_apply(self->machine, word, 0, reply, self->state->told, room, &self->todo);
+  cf_request_call *call = &self->state->calls[self->waits];
+  call->call = CF_DO_APPLY;
+  call->word = word;
+  uint32_t code = do_row(self, 1, room);
+  *reply = call->reply;
+  return code;
+}
+
+/* Finishes what the task holds and claims the lowest ready stage, behind the attaches that wait. The code of the library. */
+static uint32_t do_next(Request *self, int who, cf_task *task, size_t room) {
+  if (!self->waits) return cf_request_next(self->machine, (uint8_t)who, 0, task, self->state->told, room, &self->todo);
+  cf_request_call *call = &self->state->calls[self->waits];
+  call->call = CF_DO_NEXT;
+  call->who = (uint8_t)who;
+  call->task = *task;
+  uint32_t code = do_row(self, 1, room);
+  *task = call->task;
+  return code ? code : task->held ? CF_OK : CF_NOTHING;
+}
+
+/* Does a word, and adds what came of it to the news. The code of the library. */
 static uint32_t apply(Request *self, uint64_t word, cf_reply *reply, News *news) {
-  cf_applied applied;
-  uint32_t code = cf_request_apply(self->machine, word, 0, &applied, self->state->told, MOST);
-  if (code) return code;
-  note(self, 1, applied.told, news);
-  *reply = applied.reply;
-  return CF_OK;
+  uint32_t code = do_word(self, word, reply, MOST);
+  if (!code) note(self, 1, news);
+  return code;
 }
 
-/* Takes over what others' calls of the machine have left to be told. */
+/* Takes over what is left to be told. */
 static void take_told(Request *self, News *news) {
-  size_t n = 0;
-  cf_request_told(self->machine, self->state->told, MOST, &n);
-  note(self, 0, n, news);
-}
-
-static uint32_t ready(Request *self) {
-  uint16_t many = 0;
-  cf_request_ready(self->machine, 0, &many);
-  return many;
+  self->untold = false;
+  if (!cf_request_told(self->machine, TELLING)) note(self, 0, news);
 }
 
 /* ---- Stages ---- */
@@ -256,7 +323,7 @@ static Stage *new_stage(Request *request, uint16_t number) {
 
 /* The function of a planned stage, borrowed, or NULL. */
 static PyObject *planned(Request *self, uint16_t i) {
-  PyObject *call = i < self->pool->stages ? PyTuple_GET_ITEM(self->calls, i) : Py_None;
+  PyObject *call = i < self->pool->stages ? PyTuple_GetItem(self->calls, i) : Py_None;
   return call == Py_None ? NULL : call;
 }
 
@@ -353,10 +420,10 @@ static void show(Stage *stage, PyObject **first) {
 }
 
 static void call_back(Stage *stage, PyObject *call, PyObject **first) {
-  PyObject *none = PyObject_CallOneArg(call, (PyObject *)stage);
+  PyObject *none = PyObject_CallFunctionObjArgs(call, stage, NULL);
   if (!none && PyErr_ExceptionMatches(PyExc_Exception)) {
     PyObject *error = caught();
-    none = PyObject_CallMethodOneArg((PyObject *)stage, stage->state->names[LOG], error);
+    none = PyObject_CallMethodObjArgs((PyObject *)stage, stage->state->names[LOG], error, NULL);
     Py_XDECREF(error);
   }
   if (!none) keep(first);
@@ -367,8 +434,8 @@ static void call_back(Stage *stage, PyObject *call, PyObject **first) {
 static void let_go(Stage *stage, PyObject **first) {
   PyObject *callbacks = stage->callbacks;
   stage->callbacks = NULL;
-  for (Py_ssize_t k = 0; callbacks && k < PyList_GET_SIZE(callbacks); k++) {
-    PyObject *call = PyList_GET_ITEM(callbacks, k);
+  for (Py_ssize_t k = 0; callbacks && k < PyList_Size(callbacks); k++) {
+    PyObject *call = PyList_GetItem(callbacks, k);
     Py_INCREF(call); /* (it may take itself out of the list) */
     call_back(stage, call, first);
     Py_DECREF(call);
@@ -393,19 +460,20 @@ static int put(Request *self, PyObject **first) {
 /* Gives a turn for each function that is ready and has none. If nobody takes it, those that are ready fail. */
 static void hand_on(Request *self, PyObject **first) {
   int taken = 1;
-  while (taken > 0 && self->works && ready(self) > self->turns) { /* (a request that is collected has nobody) */
-    self->turns++;
+  while (taken > 0 && self->works && self->todo.ready[0]) { /* (a request that is collected has nobody) */
+    self->todo.ready[0]--;
+    self->todo.jobs[0]++;
     taken = put(self, first);
   }
   if (!taken) let((PyObject *)self, self->state->names[REFUSE], first);
   if (taken >= 0) return;
   keep(first);
-  if (self->turns) self->turns--; /* the next call gives this turn */
+  self->todo.jobs[0] -= self->todo.jobs[0] > 0; /* the next call gives this turn */
 }
 
 /* Tells what came of calls: first those who wait, then the threads, then the callbacks. */
 static int tell(Request *self, News news) {
-  if (news.settled == NONE && !news.is_ready) return 0;
+  if (news.settled == NONE && !news.is_ready && !news.is_other_moment) return 0;
   PyObject *first = NULL;
   uint16_t shown = NONE, next;
   Py_INCREF(self);
@@ -417,13 +485,16 @@ static int tell(Request *self, News news) {
       is_ready = false;
       if (self->chooses) let((PyObject *)self, self->state->names[HAND_ON], &first);
       else hand_on(self, &first);
-      if (self->counts) take_told(self, &news); /* of what nobody took a turn for */
+      if (self->untold) take_told(self, &news); /* of what nobody took a turn for */
     } else break;
   }
+  if (news.is_other_moment && self->works) let((PyObject *)self, self->state->names[SET_ALARM], &first);
   for (uint16_t i = news.settled; i != NONE; i = self->rows[i].next_settled) {
     Stage *stage = (Stage *)self->rows[i].stage;
     self->rows[i].stage = NULL;
     if (stage) {
+      if (self->rows[i].stops && self->works && truth(ask((PyObject *)self, self->state->names[STOP], (PyObject *)stage, &first)) < 0)
+        keep(&first);
       let_go(stage, &first);
       Py_DECREF(stage);
     }
@@ -434,36 +505,56 @@ static int tell(Request *self, News news) {
 
 /* Whether a function is ready that has no turn, which is the caller's then; or -1 and an error. */
 static int take_turn(Request *self) {
-  bool is_left = ready(self) > self->turns;
-  self->turns += is_left && !self->chooses;
-  return self->chooses ? truth(PyObject_CallMethod((PyObject *)self, "_take_turn", NULL)) : is_left;
+  if (self->chooses) return truth(PyObject_CallMethod((PyObject *)self, "_take_turn", NULL));
+  bool is_left = self->todo.ready[0] > 0;
+  self->todo.ready[0] -= is_left;
+  self->todo.jobs[0] += is_left;
+  return is_left;
 }
 
-/* In a child of `fork`, where no thread of the parent's is: what these were to run is the parent's. */
+/* Nobody has a turn any more. */
+static void take_turns_back(Request *self) { self->todo.jobs[0] = self->todo.ready[0] = 0; }
+
+/* In a child of `fork`, where no thread of the parent's is: what these were to run is the parent's, and is claimed for
+ * nobody. */
 static int leave_to_parent(Request *self) {
   if (self->forks == self->state->forks) return 0;
+  uint32_t code = flush(self);
+  if (code) {
+    refused(self, code);
+    return -1;
+  }
   self->forks = self->state->forks;
-  if (!self->works || !ready(self)) return 0;
-  return truth(PyObject_CallMethod((PyObject *)self, "_leave_to_parent", NULL)) < 0 ? -1 : 0;
+  uint16_t many = 0;
+  cf_request_ready(self->machine, 0, &many);
+  if (!self->works || !many) return 0;
+  int is_parents = truth(PyObject_GetAttrString(self->works, "belongs_to_parent"));
+  cf_task task = {0};
+  while (is_parents > 0 && !cf_request_next(self->machine, 0, 0, &task, self->state->told, 0, &self->todo)) task.held = 0;
+  if (is_parents > 0) self->counts = true;
+  take_turns_back(self);
+  return is_parents < 0 ? -1 : 0;
 }
 
 /* ---- Requests ---- */
 
-/* The State of a type that is, or is below, the core whose objects are freed by this. */
-static State *state_of(PyTypeObject *type, destructor dealloc) {
-  while (type->tp_dealloc != dealloc) type = type->tp_base;
-  return PyType_GetModuleState(type);
+/* The State of a type that is, or is below, a core, which knows its module by an attribute. */
+static State *state_of(PyTypeObject *type) {
+  PyObject *its = PyObject_GetAttrString((PyObject *)type, MODULE);
+  State *state = its && PyModule_Check(its) && PyModule_GetDef(its) == &definition ? PyModule_GetState(its) : NULL;
+  if (its && !state) PyErr_SetString(PyExc_TypeError, "no type of this module");
+  Py_XDECREF(its); /* (which the core has) */
+  return state;
 }
 
-static void Request_dealloc(Request *self);
-
 static PyObject *Request_new(PyTypeObject *type, PyObject *Py_UNUSED(args), PyObject *Py_UNUSED(kwargs)) {
-  State *state = state_of(type, (destructor)Request_dealloc);
-  Request *self = state ? (Request *)type->tp_alloc(type, 0) : NULL;
+  State *state = state_of(type);
+  Request *self = state ? (Request *)PyType_GenericAlloc(type, 0) : NULL;
   if (!self) return NULL;
   Py_INCREF(state->module);
   self->state = state;
   self->forks = state->forks;
+  self->todo.moment = CF_NEVER;
   return (PyObject *)self;
 }
 
@@ -475,7 +566,7 @@ static uint32_t open_machine(Request *self, uint16_t room) {
     return CF_OK;
   }
   cf_request_sizes sizes = {room, 1, OWN};
-  cf_handle *made = PyMem_Calloc(1, sizeof *made);
+  cf_handle *made = zeroed(sizeof *made);
   uint32_t code = made ? cf_request_new(pool->plan, &sizes, lanes, pool->stages, made) : CF_NO_MEMORY;
   if (code) PyMem_Free(made);
   else self->machine = made;
@@ -505,7 +596,7 @@ static int Request_init(Request *self, PyObject *args, PyObject *Py_UNUSED(kwarg
   if (!pool) return -1;
   uint32_t stages = pool->stages, most = pool->most;
   const char *wrong = self->kept                                                                ? "a request is opened once"
-                      : PyTuple_GET_SIZE(calls) != stages || PyList_GET_SIZE(names) != stages   ? "no plan"
+                      : PyTuple_Size(calls) != stages || PyList_Size(names) != stages           ? "no plan"
                       : !PyType_IsSubtype((PyTypeObject *)stage_class, self->state->stage_core) ? "no class of stages"
                                                                                                 : NULL;
   if (wrong) {
@@ -515,7 +606,7 @@ static int Request_init(Request *self, PyObject *args, PyObject *Py_UNUSED(kwarg
   if (!stages && !room) room = 1;
   if (room > most - stages) room = most - stages;
   PyObject *values = PyList_New(0), *errors = PyList_New(0);
-  Row *rows = PyMem_Calloc(stages + room + 1, sizeof *rows); /* (none would be no memory) */
+  Row *rows = zeroed((stages + room + 1) * sizeof *rows); /* (none would be no memory) */
   self->pool = pool;
   uint32_t code = values && errors && rows ? open_machine(self, (uint16_t)room) : CF_NO_MEMORY;
   if (code) {
@@ -548,7 +639,7 @@ static int Request_init(Request *self, PyObject *args, PyObject *Py_UNUSED(kwarg
 }
 
 static int Request_traverse(Request *self, visitproc visit, void *arg) {
-  Py_VISIT(Py_TYPE(self));
+  if (visits_types) Py_VISIT(Py_TYPE(self));
   Py_VISIT(self->state->module);
   for (uint32_t i = 0; i < self->stages; i++) Py_VISIT(self->rows[i].stage);
   Py_VISIT(self->works);
@@ -580,7 +671,7 @@ static void Request_dealloc(Request *self) {
   Py_CLEAR(self->kept);
   PyMem_Free(self->rows);
   PyMem_Free(self->times);
-  type->tp_free((PyObject *)self);
+  PyObject_GC_Del(self);
   Py_DECREF(state->module);
   Py_DECREF(type);
 }
@@ -638,19 +729,31 @@ static int stage_in(Request *self, PyObject *stage) {
   return -1;
 }
 
-/* Attaches the stages of such an `attach`, all or none, with room for them. How many are told. */
-static uint32_t attach_all(Request *self, long form, const uint16_t *of, size_t n, uint16_t function, size_t *told) {
+/* Whether an attach has nothing to tell, as all its sources are open, and no other call has left something to tell. */
+static bool may_wait(const Request *self, long form, const uint16_t *of, size_t n) {
+  bool is_open = (n || form == CF_SOURCE) && !composes(form) && !gathers(form);
+  for (size_t k = 0; is_open && k < n; k++) is_open = !self->rows[of[k]].told.kind;
+  return is_open && self->waits < WAITING && !self->counts && !self->untold && !self->chooses && !self->todo.ready[0];
+}
+
+/* Attaches the stages of such an `attach`, all or none, with room for them. */
+static uint32_t attach_all(Request *self, long form, const uint16_t *of, size_t n, uint16_t function) {
   cf_request_gathering gathering = {.who = (uint8_t)caller, .form = (uint32_t)form};
   cf_request_composing composing = {.who = (uint8_t)caller, .form = (uint32_t)form, .source = of[0], .function = function};
-  cf_applied applied = {.told = 0};
+  cf_reply reply;
   uint64_t word = KIND(ATTACH) | WHO(caller) | OF(of[0]) | (uint64_t)n << 32 | (uint64_t)form << 24 | (uint64_t)of[1] << 12 | function;
-  uint32_t code;
+  if (may_wait(self, form, of, n)) {
+    self->waiting[self->waits++] = word;
+    self->todo.told = self->todo.news = 0;
+    return CF_OK;
+  }
+  uint32_t code = gathers(form) || composes(form) ? flush(self) : CF_OK;
+  if (code) return code;
   do
-    code = gathers(form)    ? cf_request_gather(self->machine, &gathering, of, n, self->state->told, MOST)
-           : composes(form) ? cf_request_compose(self->machine, &composing, self->state->told, MOST)
-                            : cf_request_apply(self->machine, word, 0, &applied, self->state->told, MOST);
+    code = gathers(form)    ? cf_request_gather(self->machine, &gathering, of, n, TELLING)
+           : composes(form) ? cf_request_compose(self->machine, &composing, TELLING)
+                            : do_word(self, word, &reply, MOST);
   while (code == CF_NO_ROOM && !(code = cf_request_grow(self->machine)));
-  *told = gathering.told + composing.told + applied.told;
   return code;
 }
 
@@ -673,10 +776,9 @@ static PyObject *attach(Request *self, long form, const uint16_t *of, size_t n, 
   }
   /* From here on in one step. */
   uint32_t at = self->stages, last = at + many - 1;
-  size_t told = 0;
   uint32_t code = name_all(self, relays, self->state->names[RELAY]);
   if (!code) code = name_all(self, many - relays, name);
-  if (!code) code = attach_all(self, form, of, n, stage->call ? (uint16_t)last : 0, &told);
+  if (!code) code = attach_all(self, form, of, n, stage->call ? (uint16_t)last : 0);
   if (code) {
     name_all(self, 0, NULL);
     Py_DECREF(stage);
@@ -689,8 +791,7 @@ static PyObject *attach(Request *self, long form, const uint16_t *of, size_t n, 
   self->rows[last].stage = (PyObject *)stage; /* (which has a count, beside the caller's) */
   Py_INCREF(stage);
   News news = NO_NEWS;
-  note(self, many, told, &news);
-  news.is_ready |= stage->call != NULL;
+  note(self, many, &news);
   if (tell(self, news)) Py_CLEAR(stage);
   return (PyObject *)stage;
 }
@@ -717,8 +818,8 @@ static PyObject *Request_attach(Request *self, PyObject *const *args, Py_ssize_t
 static PyObject *Request_attach_all(Request *self, PyObject *const *args, Py_ssize_t n) {
   if (n != 3 || !PyBytes_Check(args[1]) || !PyUnicode_Check(args[2])) return PyErr_Format(PyExc_TypeError, "_attach_all takes 3");
   long form = number_below(args[0], CF_ANY_OF + 1, "form");
-  size_t many = (size_t)PyBytes_GET_SIZE(args[1]) / sizeof(uint16_t);
-  const uint16_t *of = (const uint16_t *)PyBytes_AS_STRING(args[1]), few[2] = {many ? of[0] : 0, 0};
+  size_t many = (size_t)PyBytes_Size(args[1]) / sizeof(uint16_t);
+  const uint16_t *of = (const uint16_t *)PyBytes_AsString(args[1]), few[2] = {many ? of[0] : 0, 0};
   if (form < 0) return NULL;
   if (!gathers(form)) return PyErr_Format(PyExc_ValueError, "form %ld gathers nothing", form);
   return many > MOST ? full(self) : attach(self, form, many < 2 ? few : of, many, NULL, args[2]);
@@ -738,7 +839,7 @@ static PyObject *Request_change(Request *self, PyObject *const *args, Py_ssize_t
   cf_reply reply;
   if (who < 0 || (kind == COMPLETE && value_in(self, args[3], &low))) return NULL;
   if (kind == FAIL || kind >= FAIL_AS) {
-    bool is_first = kind >= FAIL_AS && !PyList_GET_SIZE(self->errors); /* 0 is the code of those that have none */
+    bool is_first = kind >= FAIL_AS && !PyList_Size(self->errors); /* 0 is the code of those that have none */
     if ((is_first && kept(self->errors, Py_None, &number)) || kept(self->errors, args[3], &number)) return NULL;
     low = number;
   }
@@ -765,20 +866,35 @@ static PyObject *Request_keep(Request *self, PyObject *value) { return number_of
 /* The exception that a function is told which takes one: None where there is a value. */
 static PyObject *error_told(Request *self, cf_outcome got) {
   PyObject *given = error_out(self, got);
-  if (given != Py_None || got.kind == CF_VALUE) return given;
+  if (got.kind == CF_VALUE || PyExceptionInstance_Check(given)) return given;
+  PyObject *made = PyObject_CallMethod((PyObject *)self, "_made_error", "OI", given, got.kind);
   Py_DECREF(given);
-  return PyObject_CallMethod((PyObject *)self, "_default_error", "I", got.kind);
+  return made;
 }
 
-/* What a granted claim lets be called. */
+/* What a granted claim lets be called: with its own arguments, or else with those that are given, at most two. */
 typedef struct {
-  PyObject *call, *args, *kwargs;
+  PyObject *call, *args, *kwargs, *given[2];
 } Called;
 
 static void called_clear(Called *it) {
   Py_CLEAR(it->call);
   Py_CLEAR(it->args);
   Py_CLEAR(it->kwargs);
+  Py_CLEAR(it->given[0]);
+  Py_CLEAR(it->given[1]);
+}
+
+/* The arguments as a tuple. */
+static PyObject *args_of(Called *it) {
+  if (!it->args) it->args = PyTuple_Pack((it->given[0] != NULL) + (it->given[1] != NULL), it->given[0], it->given[1]);
+  return it->args;
+}
+
+/* Calls the function. Without a tuple that costs less. */
+static PyObject *called(Called *it) {
+  if (!it->args && !it->kwargs) return PyObject_CallFunctionObjArgs(it->call, it->given[0], it->given[1], NULL);
+  return args_of(it) ? PyObject_Call(it->call, it->args, it->kwargs) : NULL;
 }
 
 /* What a stage that is claimed lets be called, with its own arguments or with what it waited for; nothing and an error
@@ -787,65 +903,69 @@ static Called to_call(Request *self, uint16_t i, const cf_args *args) {
   Stage *stage = (Stage *)self->rows[i].stage;
   uint8_t form = self->rows[i].form;
   cf_outcome got = args->outcome;
-  PyObject *given[2] = {NULL, NULL};
-  Py_ssize_t many = 0;
-  Called it = {stage ? stage->call : planned(self, i), stage ? stage->args : NULL, stage ? stage->kwargs : NULL};
+  int many = 0;
+  Called it = {stage ? stage->call : planned(self, i), stage ? stage->args : NULL, stage ? stage->kwargs : NULL, {NULL, NULL}};
   Py_XINCREF(it.call);
   Py_XINCREF(it.args);
   Py_XINCREF(it.kwargs);
-  if (args->kind == CF_ONE || args->kind == CF_TWO) given[many++] = value_out(self, args->first);
-  if (args->kind == CF_TWO) given[many++] = value_out(self, args->second);
+  if (args->kind == CF_ONE || args->kind == CF_TWO) it.given[many++] = value_out(self, args->first);
+  if (args->kind == CF_TWO) it.given[many++] = value_out(self, args->second);
   if (args->kind == CF_GOT && form != CF_EXCEPTIONALLY && form != CF_EXCEPTIONALLY_COMPOSE)
-    given[many++] = value_out(self, got.kind == CF_VALUE ? got.value : (cf_value){0});
-  if (args->kind == CF_GOT) given[many++] = error_told(self, got);
-  if (!it.args && (!many || given[many - 1])) it.args = PyTuple_Pack(many, given[0], given[1]);
-  Py_XDECREF(given[0]);
-  Py_XDECREF(given[1]);
+    it.given[many++] = value_out(self, got.kind == CF_VALUE ? got.value : (cf_value){0});
+  if (args->kind == CF_GOT) it.given[many++] = error_told(self, got);
   if (!it.call) PyErr_SetString(PyExc_RuntimeError, "the request is collected");
-  if (!it.call || !it.args) called_clear(&it);
+  if (!it.call || (many && !it.given[many - 1])) called_clear(&it);
   return it;
 }
 
-/* Claims this stage, or the lowest that is ready, by a turn: 1 where its function is to be called, 0 where none is. */
-static int begin(Request *self, Stage *wanted, int who, uint16_t *i, Called *it) {
-  News news = NO_NEWS;
-  cf_reply reply = {0};
-  cf_task task = {0};
-  cf_request_step step = {(uint8_t)who, 0, 0};
-  uint32_t code;
-  if (leave_to_parent(self)) return -1;
-  self->turns -= self->turns > 0;
-  if (wanted) code = apply(self, KIND(CLAIM) | WHO(who) | OF(wanted->number), &reply, &news);
-  else /* (it settles nothing, and what a limit has settled is left for the clock's thread to tell) */
-    code = cf_request_next(self->machine, &step, &task, self->state->told, 0);
-  if (code == CF_NOTHING || (!code && wanted && reply.answer != CF_GRANTED)) return 0;
-  if (code) {
-    refused(self, code);
-    return -1;
-  }
-  if (!wanted) note(self, 1, 0, &news);
-  *i = wanted ? wanted->number : task.stage;
-  self->rows[*i].running = true;
-  if (self->rows[*i].stage) ((Stage *)self->rows[*i].stage)->running = true;
-  *it = to_call(self, *i, wanted ? &reply.args : &task.args);
-  return 1;
+/* Lets a stage be called that is claimed. */
+static Called begun(Request *self, uint16_t i, const cf_args *args) {
+  self->rows[i].running = true;
+  if (self->rows[i].stage) ((Stage *)self->rows[i].stage)->running = true;
+  return to_call(self, i, args);
 }
 
-/* Finishes a stage with a value, an exception or a lower stage, and tells what came of it. `turn` says whether a further
- * turn is the caller's. */
-static int end(Request *self, uint16_t i, int who, long kind, PyObject *given, int *turn) {
+/* What a function's end says: a value, an exception or a lower stage. */
+static int answer_of(Request *self, long kind, PyObject *given, cf_answer *answer) {
+  uint32_t number = 0;
+  if (kind == GIVING && given != Py_None && kept(self->values, given, &number)) return -1;
+  if (kind == RAISING && kept(self->errors, given, &number)) return -1;
+  *answer = (cf_answer){.kind = (uint32_t)kind - GIVING};
+  if (kind == GIVING && given != Py_None) answer->value = (cf_value){CF_INT, (int32_t)number};
+  if (kind == RAISING) answer->code = number;
+  if (kind == LINKING) answer->stage = ((Stage *)given)->number;
+  return 0;
+}
+
+/* One call of the machine for a caller who is in a turn: finishes the stage that the task holds, if it holds one, and
+ * claims the lowest that is ready. 1 where one is claimed, with what it lets be called or else the exception why it can't
+ * be; 0 where none is ready, and -1 where nothing is done. What came of it is told, and what went wrong is kept. */
+static int step(Request *self, int who, cf_task *task, Called *it, PyObject **error, PyObject **first) {
+  News news = NO_NEWS;
+  bool ends = task->held;
+  uint32_t code = do_next(self, who, task, MOST);
+  if (code && code != CF_NOTHING) {
+    refused(self, code);
+    keep(first);
+    return -1;
+  }
+  note(self, ends + !code, &news);
+  if (!code) {
+    *it = begun(self, task->stage, &task->args);
+    *error = it->call ? NULL : caught();
+  }
+  if (tell(self, news)) keep(first);
+  return !code;
+}
+
+/* Finishes a stage, and tells what came of it. `turn` says whether a further turn is the caller's. */
+static int end(Request *self, uint16_t i, int who, const cf_answer *answer, int *turn) {
   News news = NO_NEWS;
   cf_reply reply;
   PyObject *first = NULL;
-  uint64_t low = 0;
-  uint32_t number;
-  if (leave_to_parent(self)) return -1;
-  if (kind == GIVING && value_in(self, given, &low)) return -1;
-  if (kind == RAISING) {
-    if (kept(self->errors, given, &number)) return -1;
-    low = THROWS | number;
-  }
-  if (kind == LINKING) low = LINKS | ((Stage *)given)->number;
+  uint64_t low = answer->kind == CF_GIVE    ? answer->value.kind ? GIVES | (uint32_t)answer->value.number : 0
+                 : answer->kind == CF_THROW ? THROWS | answer->code
+                                            : LINKS | answer->stage;
   uint32_t code = apply(self, KIND(FINISH) | WHO(who) | OF(i) | low, &reply, &news);
   if (code) {
     refused(self, code);
@@ -855,47 +975,50 @@ static int end(Request *self, uint16_t i, int who, long kind, PyObject *given, i
     keep(&first);
     *turn = 0;
   }
-  news.is_ready &= *turn || self->chooses; /* none is left to others where none was for the caller */
   if (tell(self, news)) keep(&first);
   return raise_kept(first);
 }
 
-/* Finishes a stage with what its function gave, or with what it raised where that is NULL; a composing one by the
- * request's `_link`. */
-static int answer(Request *self, uint16_t i, int who, PyObject *given, int *turn) {
-  if (given && composes(self->rows[i].form)) {
-    Stage *stage = stage_at(self, i);
-    PyObject *number = stage ? PyLong_FromLong(who) : NULL,
-             *goes_on = number ? PyObject_CallMethodObjArgs((PyObject *)self, self->state->names[LINK], stage, number, given, NULL) : NULL;
-    *turn = goes_on == Py_True;
-    Py_XDECREF(stage);
-    Py_XDECREF(number);
-    Py_XDECREF(goes_on);
-    return goes_on ? 0 : -1;
-  }
-  PyObject *error = given ? NULL : caught();
-  int failed = end(self, i, who, given ? GIVING : RAISING, given ? given : error, turn);
-  Py_XDECREF(error);
-  return failed;
+/* Has the request's `_link` finish a composing stage with the future that its function gave. */
+static int link_to(Request *self, uint16_t i, int who, PyObject *given, int *turn) {
+  Stage *stage = stage_at(self, i);
+  PyObject *number = stage ? PyLong_FromLong(who) : NULL,
+           *goes_on = number ? PyObject_CallMethodObjArgs((PyObject *)self, self->state->names[LINK], stage, number, given, NULL) : NULL;
+  *turn = goes_on == Py_True;
+  Py_XDECREF(stage);
+  Py_XDECREF(number);
+  Py_XDECREF(goes_on);
+  return goes_on ? 0 : -1;
 }
 
-/* Runs functions, each of which is claimed, called and finished: by a turn, and by one more as long as a function became
- * ready by that; or all that is ready. */
+/* Runs functions: by a turn, and by one more as long as a function became ready by that; or all that is ready. Where no
+ * other turn is on its way, a finish and the next claim are one call. */
 static PyObject *run(Request *self, PyObject *number, bool all) {
   PyObject *first = NULL;
-  int who = caller_in(number), turn = 1;
-  if (who < 0) return NULL;
-  while (turn || all) {
-    Called it;
-    uint16_t i;
-    turn = 0;
-    int is_granted = begin(self, NULL, who, &i, &it);
-    if (is_granted < 0) keep(&first);
-    if (is_granted <= 0) break;
-    PyObject *given = it.call ? PyObject_Call(it.call, it.args, it.kwargs) : NULL;
+  cf_task task = {0};
+  Called it;
+  PyObject *error;
+  int who = caller_in(number), turn = 1, is_claimed = -1;
+  if (who < 0 || leave_to_parent(self)) return NULL;
+  while (is_claimed && (is_claimed > 0 || turn || all)) {
+    if (is_claimed < 0) {
+      task.held = 0;
+      self->todo.jobs[0] -= turn && self->todo.jobs[0];
+      turn = 0;
+      if ((is_claimed = step(self, who, &task, &it, &error, &first)) <= 0) break;
+    }
+    uint16_t i = task.stage;
+    PyObject *given = it.call ? called(&it) : NULL, *raised = it.call && !given ? caught() : error;
     called_clear(&it);
-    if (answer(self, i, who, given, &turn)) keep(&first);
+    is_claimed = -1;
+    if (leave_to_parent(self)) keep(&first);
+    if (given && composes(self->rows[i].form)) {
+      if (link_to(self, i, who, given, &turn)) keep(&first);
+    } else if (answer_of(self, given ? GIVING : RAISING, given ? given : raised, &task.answer)) keep(&first);
+    else if (all || !self->todo.jobs[0]) is_claimed = step(self, who, &task, &it, &error, &first);
+    else if (end(self, i, who, &task.answer, &turn)) keep(&first);
     Py_XDECREF(given);
+    Py_XDECREF(raised);
   }
   if (raise_kept(first)) return NULL;
   Py_RETURN_NONE;
@@ -905,20 +1028,32 @@ static PyObject *run(Request *self, PyObject *number, bool all) {
 static PyObject *Request_run(Request *self, PyObject *who) { return run(self, who, false); }
 static PyObject *Request_work(Request *self, PyObject *who) { return run(self, who, true); }
 
-/* _begin(who, stage=None): claims this stage, or the lowest that is ready. The stage, and its function with positional
- * and other arguments; None where nobody is to call one. */
+/* _begin(who, stage=None): claims this stage, or the lowest that is ready, by a turn. The stage, and its function with
+ * positional and other arguments; None where nobody is to call one. */
 static PyObject *Request_begin(Request *self, PyObject *const *args, Py_ssize_t n) {
   if (n < 1 || n > 2) return PyErr_Format(PyExc_TypeError, "_begin takes 1 or 2");
   PyObject *wanted = n == 2 && args[1] != Py_None ? args[1] : NULL, *told = NULL;
   int who = wanted && !is_own(self, wanted) ? -1 : caller_in(args[0]);
-  Called it;
-  uint16_t i;
-  int is_granted = who < 0 ? -1 : begin(self, (Stage *)wanted, who, &i, &it);
-  if (is_granted < 0 || (is_granted && !it.call)) return NULL;
-  if (!is_granted) Py_RETURN_NONE;
-  Stage *stage = stage_at(self, i);
+  if (who < 0 || leave_to_parent(self)) return NULL;
+  cf_reply reply = {0};
+  cf_task task = {0};
+  uint32_t code;
+  self->todo.jobs[0] -= self->todo.jobs[0] > 0;
+  if (wanted) {
+    task.stage = ((Stage *)wanted)->number;
+    code = do_word(self, KIND(CLAIM) | WHO(who) | OF(task.stage), &reply, 0);
+    task.args = reply.args;
+  } else code = do_next(self, who, &task, 0);
+  /* (a claim settles nothing, and what another call has left to be told or given a turn is left to the next one) */
+  if (!code) stamp(self, 1);
+  if (!code && wanted && reply.answer != CF_GRANTED) code = CF_NOTHING;
+  if (code == CF_NOTHING) Py_RETURN_NONE;
+  if (code) return refused(self, code);
+  Called it = begun(self, task.stage, &task.args);
+  if (!it.call) return NULL;
+  Stage *stage = stage_at(self, task.stage);
   if (!it.kwargs) it.kwargs = PyDict_New();
-  if (stage && it.kwargs) told = PyTuple_Pack(4, stage, it.call, it.args, it.kwargs);
+  if (stage && it.kwargs && args_of(&it)) told = PyTuple_Pack(4, stage, it.call, it.args, it.kwargs);
   Py_XDECREF(stage);
   called_clear(&it);
   return told;
@@ -930,8 +1065,10 @@ static PyObject *Request_end(Request *self, PyObject *const *args, Py_ssize_t n)
   if (n != 4) return PyErr_Format(PyExc_TypeError, "_end takes 4");
   int who = is_own(self, args[0]) ? caller_in(args[1]) : -1, turn = 0;
   long kind = who < 0 ? -1 : number_below(args[2], LINKING + 1, "way to end");
-  if (kind < 0 || (kind == LINKING && !is_own(self, args[3]))) return NULL;
-  if (!end(self, ((Stage *)args[0])->number, who, kind, args[3], &turn)) return PyBool_FromLong(turn);
+  cf_answer answer;
+  if (kind < 0 || (kind == LINKING && !is_own(self, args[3])) || leave_to_parent(self) || answer_of(self, kind, args[3], &answer))
+    return NULL;
+  if (!end(self, ((Stage *)args[0])->number, who, &answer, &turn)) return PyBool_FromLong(turn);
   if (turn) { /* nobody else will */
     PyObject *first = caught();
     if (put(self, &first) < 0) keep(&first);
@@ -940,13 +1077,175 @@ static PyObject *Request_end(Request *self, PyObject *const *args, Py_ssize_t n)
   return NULL;
 }
 
-/* _announce_settled(): tells what others' calls of the machine have left to be told, and hands on what is ready. */
+/* Tells what came of a call of the machine, or raises what the library says. */
+static PyObject *told_or_refused(Request *self, uint32_t code, News news) {
+  if (code) return refused(self, code);
+  if (tell(self, news)) return NULL;
+  Py_RETURN_NONE;
+}
+
+/* _announce_settled(): tells what is left to be told, and hands on what is ready. */
 static PyObject *Request_take_told(Request *self, PyObject *Py_UNUSED(none)) {
   News news = NO_NEWS;
   take_told(self, &news);
-  news.is_ready = true;
-  if (tell(self, news)) return NULL;
+  return told_or_refused(self, CF_OK, news);
+}
+
+/* _open(): gives turns to the stages of a plan that are ready from the start. */
+static PyObject *Request_open(Request *self, PyObject *Py_UNUSED(none)) {
+  News news = NO_NEWS;
+  news.is_ready = self->todo.ready[0] > 0;
+  return told_or_refused(self, CF_OK, news);
+}
+
+/* _fail_ready(error): fails all ready stages, which are told by the next call. */
+static PyObject *Request_fail_ready(Request *self, PyObject *error) {
+  uint32_t number;
+  if (kept(self->errors, error, &number)) return NULL;
+  self->counts = self->untold = true;
+  uint32_t code = flush(self);
+  if (!code) code = cf_request_refuse(self->machine, 0, number, self->state->told, 0, &self->todo);
+  take_turns_back(self);
+  return told_or_refused(self, code, NO_NEWS);
+}
+
+static PyObject *Request_take_turns_back(Request *self, PyObject *Py_UNUSED(none)) {
+  take_turns_back(self);
   Py_RETURN_NONE;
+}
+
+/* _follow_within(relay, stage): lets a stage end as another one of this request does, by their numbers. */
+static PyObject *Request_follow(Request *self, PyObject *const *args, Py_ssize_t n) {
+  if (n != 2) return PyErr_Format(PyExc_TypeError, "_follow_within takes 2");
+  int relay = stage_in(self, args[0]), stage = relay < 0 ? -1 : stage_in(self, args[1]);
+  if (stage < 0 || leave_to_parent(self)) return NULL;
+  News news = NO_NEWS;
+  self->counts = true;
+  uint32_t code = flush(self);
+  if (!code) code = cf_request_follow(self->machine, (uint16_t)relay, (uint16_t)stage, TELLING);
+  if (!code) note(self, 0, &news);
+  return told_or_refused(self, code, news);
+}
+
+/* _deadline(stage, moment, is_value, number): by this moment the stage gets the value of this number, or fails with the
+ * exception of this one; below 0 it gets None. */
+static PyObject *Request_deadline(Request *self, PyObject *const *args, Py_ssize_t n) {
+  if (n != 4) return PyErr_Format(PyExc_TypeError, "_deadline takes 4");
+  int stage = stage_in(self, args[0]);
+  unsigned long long moment = stage < 0 ? 0 : PyLong_AsUnsignedLongLong(args[1]);
+  long number = PyErr_Occurred() ? -1 : PyLong_AsLong(args[3]);
+  if (PyErr_Occurred() || leave_to_parent(self)) return NULL;
+  bool is_value = args[2] == Py_True;
+  cf_value value = is_value && number >= 0 ? (cf_value){CF_INT, (int32_t)number} : (cf_value){0};
+  News news = NO_NEWS;
+  uint32_t code = flush(self);
+  if (!code)
+    code = cf_request_deadline(self->machine, (uint16_t)stage, moment, is_value, is_value ? 0 : (uint32_t)number, value, &self->todo);
+  news.is_ready = !code && self->todo.news & CF_NEWS_READY;
+  news.is_other_moment = !code && self->todo.news & CF_NEWS_MOMENT;
+  return told_or_refused(self, code, news);
+}
+
+/* _pass(moment): lets time pass up to a moment, or not at all if it has passed. */
+static PyObject *Request_pass(Request *self, PyObject *until) {
+  unsigned long long moment = PyLong_AsUnsignedLongLong(until);
+  if (PyErr_Occurred() || leave_to_parent(self)) return NULL;
+  News news = NO_NEWS;
+  if (self->passed < moment) self->passed = moment;
+  self->counts = true;
+  uint32_t code = flush(self);
+  if (!code) code = cf_request_pass(self->machine, self->passed, TELLING);
+  if (!code) note(self, 0, &news);
+  return told_or_refused(self, code, news);
+}
+
+/* _words(): all words, as bytes. */
+static PyObject *Request_words(Request *self, PyObject *Py_UNUSED(none)) {
+  size_t many = 0;
+  uint32_t code = flush(self);
+  if (!code) code = cf_ledger_words(self->machine, 0, NULL, 0, &many);
+  uint64_t *words = code ? NULL : PyMem_Malloc((many + 1) * sizeof *words);
+  if (!code && !words) return PyErr_NoMemory();
+  if (!code) code = cf_ledger_words(self->machine, 0, words, many, &many);
+  PyObject *told = code ? refused(self, code) : PyBytes_FromStringAndSize((char *)words, (Py_ssize_t)(many * sizeof *words));
+  PyMem_Free(words);
+  return told;
+}
+
+/* _next_ready(first): the lowest stage from this number on whose function is ready, or None. */
+static PyObject *Request_next_ready(Request *self, PyObject *from) {
+  uint16_t found;
+  long first = number_below(from, MOST + 1, "stage");
+  if (first < 0 || leave_to_parent(self)) return NULL;
+  uint32_t code = flush(self);
+  if (!code) code = cf_ledger_ready(self->machine, (uint16_t)first, &found);
+  if (code == CF_NOTHING) Py_RETURN_NONE;
+  return code ? refused(self, code) : PyLong_FromLong(found);
+}
+
+/* What is told of a stage that is open or whose function runs. `last` is the word that attached it or changed it last, from 1 on,
+ * or 0. */
+typedef struct {
+  bool is_told;
+  uint8_t kind, who;
+  uint32_t last;
+} Look;
+
+/* Writes down that a word changed a stage, and answers whether the stage is told and no later word did. */
+static bool is_last_of(size_t place, Look *look) {
+  bool is_last = look->is_told && !look->last;
+  if (is_last) look->last = (uint32_t)place;
+  return is_last;
+}
+
+/* Finds the words that changed so many stages last, by the news of each word, from the last one on. Those of a word that
+ * attaches a stage don't tell of it if it is pending. */
+static uint32_t find_last(Request *self, Look *looks, uint32_t left) {
+  uint16_t changed[MOST];
+  uint32_t attached = self->stages;
+  uint64_t word;
+  size_t place, n;
+  uint32_t code = cf_ledger_words(self->machine, 0, NULL, 0, &place);
+  for (; !code && place && left; place--) {
+    code = cf_ledger_news(self->machine, place - 1, changed, MOST, &n);
+    for (size_t k = 0; !code && k < n; k++) left -= is_last_of(place, &looks[changed[k]]);
+    if (!code) code = cf_ledger_words(self->machine, place - 1, &word, 1, &n);
+    if (!code && word >> 56 == ATTACH) left -= is_last_of(place, &looks[--attached]);
+  }
+  return code;
+}
+
+/* Whether a stage is the relay of a composing stage that isn't linked to it: then nobody waits for it. */
+static bool is_idle_relay(Request *self, uint32_t i) {
+  cf_stage above;
+  if (i + 1 >= self->stages || !composes(self->rows[i + 1].form)) return false;
+  return cf_ledger_stage(self->machine, (uint16_t)(i + 1), &above) || above.kind != CF_IS_LINKED || above.target != i;
+}
+
+/* _open_stages(): of each stage that is open or whose function runs its number, kind, form, who has its claim (CALLERS where
+ * nobody has), and which word attached it or changed it last, from 1 on, or 0. Idle relays aren't told. */
+static PyObject *Request_open_stages(Request *self, PyObject *Py_UNUSED(none)) {
+  if (leave_to_parent(self)) return NULL;
+  uint32_t many = self->stages, left = 0, code = flush(self);
+  Look *looks = zeroed((many + 1) * sizeof *looks);
+  if (!looks) return PyErr_NoMemory();
+  for (uint32_t i = 0; i < many && !code; i++) {
+    cf_stage now;
+    code = cf_ledger_stage(self->machine, (uint16_t)i, &now);
+    if (code || (now.kind == CF_IS_SETTLED && now.who == CF_NOBODY) || is_idle_relay(self, i)) continue;
+    looks[i] = (Look){true, (uint8_t)now.kind, now.who == CF_NOBODY ? CALLERS : (uint8_t)now.who, 0};
+    left++;
+  }
+  if (!code) code = find_last(self, looks, left);
+  PyObject *told = code ? refused(self, code) : PyList_New(0);
+  for (uint32_t i = 0; told && i < many; i++) {
+    if (!looks[i].is_told) continue;
+    PyObject *one = Py_BuildValue("(IiiiI)", i, looks[i].kind, self->rows[i].form, looks[i].who, looks[i].last);
+    if (!one || PyList_Append(told, one)) Py_CLEAR(told);
+    Py_XDECREF(one);
+  }
+  PyMem_Free(looks);
+  return told;
 }
 
 /* _stage(number): the future of a stage that may have none yet. */
@@ -960,11 +1259,6 @@ static PyObject *Request_times(Request *self, void *Py_UNUSED(which)) {
   return PyBytes_FromStringAndSize((char *)self->times, self->events * (Py_ssize_t)sizeof *self->times);
 }
 
-/* (By this calls by ctypes may make functions ready, which are this process's own.) */
-static PyObject *Request_at(Request *self, void *Py_UNUSED(which)) {
-  return leave_to_parent(self) ? NULL : PyLong_FromVoidPtr(self->machine);
-}
-
 #define FAST(function) (PyCFunction)(void (*)(void)) function
 static PyMethodDef request_methods[] = {{"_attach", FAST(Request_attach), METH_FASTCALL, "Attaches a stage."},
     {"_attach_all", FAST(Request_attach_all), METH_FASTCALL, "Attaches stages that wait for all of some, or for one."},
@@ -974,27 +1268,28 @@ static PyMethodDef request_methods[] = {{"_attach", FAST(Request_attach), METH_F
     {"_work", (PyCFunction)Request_work, METH_O, "Runs all that is ready."},
     {"_begin", FAST(Request_begin), METH_FASTCALL, "Claims a stage."}, {"_end", FAST(Request_end), METH_FASTCALL, "Finishes a stage."},
     {"_announce_settled", (PyCFunction)Request_take_told, METH_NOARGS, "Tells what is left to be told."},
+    {"_open", (PyCFunction)Request_open, METH_NOARGS, "Gives turns to what is ready from the start."},
+    {"_fail_ready", (PyCFunction)Request_fail_ready, METH_O, "Fails all ready stages."},
+    {"_take_turns_back", (PyCFunction)Request_take_turns_back, METH_NOARGS, "Takes all turns back."},
+    {"_follow_within", FAST(Request_follow), METH_FASTCALL, "Lets a stage end as another does."},
+    {"_deadline", FAST(Request_deadline), METH_FASTCALL, "Sets a deadline."},
+    {"_pass", (PyCFunction)Request_pass, METH_O, "Lets time pass."}, {"_words", (PyCFunction)Request_words, METH_NOARGS, "All words."},
+    {"_next_ready", (PyCFunction)Request_next_ready, METH_O, "The lowest ready stage from a number on."},
+    {"_open_stages", (PyCFunction)Request_open_stages, METH_NOARGS, "What is open, and since when."},
     {"_stage", (PyCFunction)Request_stage, METH_O, "The future of a stage."}, {NULL}};
 static PyMemberDef request_members[] = {{"_works", T_OBJECT, offsetof(Request, works), READONLY, NULL},
     {"_names", T_OBJECT, offsetof(Request, names), READONLY, NULL}, {"_values", T_OBJECT, offsetof(Request, values), READONLY, NULL},
     {"_errors", T_OBJECT, offsetof(Request, errors), READONLY, NULL}, {"_stages", T_UINT, offsetof(Request, stages), READONLY, NULL},
     {"_events", T_UINT, offsetof(Request, events), READONLY, NULL}, {"_most", T_UINT, offsetof(Request, most), READONLY, NULL},
-    {"_turns", T_UINT, offsetof(Request, turns), 0, NULL}, {"_counts", T_BOOL, offsetof(Request, counts), 0, NULL},
-    {"_chooses", T_BOOL, offsetof(Request, chooses), 0, NULL}, {NULL}};
-static PyGetSetDef request_getters[] = {
-    {"_at", (getter)Request_at, NULL, NULL, NULL}, {"_times", (getter)Request_times, NULL, NULL, NULL}, {NULL}};
-#ifdef Py_TPFLAGS_IMMUTABLETYPE
-enum { FIXED = Py_TPFLAGS_IMMUTABLETYPE, NOT_CALLED = Py_TPFLAGS_DISALLOW_INSTANTIATION };
-#else
-enum { FIXED = 0, NOT_CALLED = 0 };
-#endif
+    {"_moment", T_ULONGLONG, offsetof(Request, todo.moment), READONLY, NULL}, {"_chooses", T_BOOL, offsetof(Request, chooses), 0, NULL},
+    {NULL}};
+static PyGetSetDef request_getters[] = {{"_times", (getter)Request_times, NULL, NULL, NULL}, {NULL}};
+/* (The second flag is one that Python has by itself from 3.10 on.) */
+enum { FLAGS = Py_TPFLAGS_DEFAULT | Py_TPFLAGS_HAVE_VERSION_TAG | Py_TPFLAGS_BASETYPE | Py_TPFLAGS_HAVE_GC };
 static PyType_Slot request_slots[] = {{Py_tp_new, Request_new}, {Py_tp_init, Request_init}, {Py_tp_traverse, Request_traverse},
     {Py_tp_clear, Request_clear}, {Py_tp_dealloc, Request_dealloc}, {Py_tp_methods, request_methods}, {Py_tp_members, request_members},
     {Py_tp_getset, request_getters}, {0, NULL}};
-static PyType_Spec request_spec = {.name = "cf._cf.RequestCore",
-    .basicsize = sizeof(Request),
-    .slots = request_slots,
-    .flags = Py_TPFLAGS_DEFAULT | Py_TPFLAGS_BASETYPE | Py_TPFLAGS_HAVE_GC | FIXED};
+static PyType_Spec request_spec = {.name = "cf._cf.RequestCore", .basicsize = sizeof(Request), .slots = request_slots, .flags = FLAGS};
 
 /* ---- Futures ---- */
 
@@ -1010,8 +1305,12 @@ static PyType_Spec request_spec = {.name = "cf._cf.RequestCore",
     DO(self->waiters);                                                                                                                     \
   } while (0)
 
+static PyObject *Stage_new(PyTypeObject *Py_UNUSED(type), PyObject *Py_UNUSED(args), PyObject *Py_UNUSED(kwargs)) {
+  return PyErr_Format(PyExc_TypeError, "a request makes its stages");
+}
+
 static int Stage_traverse(Stage *self, visitproc visit, void *arg) {
-  Py_VISIT(Py_TYPE(self));
+  if (visits_types) Py_VISIT(Py_TYPE(self));
   Py_VISIT(self->state->module);
   OF_STAGE(Py_VISIT);
   return 0;
@@ -1028,7 +1327,7 @@ static void Stage_dealloc(Stage *self) {
   State *state = self->state;
   PyObject_GC_UnTrack(self);
   Stage_clear(self);
-  type->tp_free((PyObject *)self);
+  PyObject_GC_Del(self);
   Py_DECREF(state->module);
   Py_DECREF(type);
 }
@@ -1039,7 +1338,7 @@ static PyObject *Stage_cancelled(Stage *self, PyObject *Py_UNUSED(none)) { retur
 
 /* result(timeout=None): its value, where it is there. Else the class's `_awaited_result` waits for it, or raises. */
 static PyObject *Stage_result(Stage *self, PyObject *args, PyObject *kwargs) {
-  if (self->ended == CF_VALUE && !kwargs && PyTuple_GET_SIZE(args) < 2) {
+  if (self->ended == CF_VALUE && !kwargs && PyTuple_Size(args) < 2) {
     Py_INCREF(self->given);
     return self->given;
   }
@@ -1072,7 +1371,7 @@ static PyObject *Stage_waited(Stage *self, void *is_condition) {
   be_here(self);
   PyObject **place = is_condition ? &self->condition : &self->waiters;
   if (!*place) {
-    PyObject *made = is_condition ? PyObject_CallMethodNoArgs((PyObject *)self, self->state->names[CONDITION]) : PyList_New(0);
+    PyObject *made = is_condition ? PyObject_CallMethodObjArgs((PyObject *)self, self->state->names[CONDITION], NULL) : PyList_New(0);
     if (!made) return NULL;
     if (!*place) *place = made;
     else Py_DECREF(made); /* (what runs meanwhile may have made one) */
@@ -1093,12 +1392,10 @@ static PyMemberDef stage_members[] = {{"request", T_OBJECT, offsetof(Stage, requ
     {"_told", T_UINT, offsetof(Stage, told), 0, NULL}, {"_runs", T_BOOL, offsetof(Stage, running), 0, NULL}, {NULL}};
 static PyGetSetDef stage_getters[] = {
     {"_condition", (getter)Stage_waited, NULL, NULL, "one"}, {"_waiters", (getter)Stage_waited, NULL, NULL, NULL}, {NULL}};
-static PyType_Slot stage_slots[] = {{Py_tp_traverse, Stage_traverse}, {Py_tp_clear, Stage_clear}, {Py_tp_dealloc, Stage_dealloc},
-    {Py_tp_methods, stage_methods}, {Py_tp_members, stage_members}, {Py_tp_getset, stage_getters}, {0, NULL}};
-static PyType_Spec stage_spec = {.name = "cf._cf.StageCore",
-    .basicsize = sizeof(Stage),
-    .slots = stage_slots,
-    .flags = Py_TPFLAGS_DEFAULT | Py_TPFLAGS_BASETYPE | Py_TPFLAGS_HAVE_GC | FIXED | NOT_CALLED};
+static PyType_Slot stage_slots[] = {{Py_tp_new, Stage_new}, {Py_tp_traverse, Stage_traverse}, {Py_tp_clear, Stage_clear},
+    {Py_tp_dealloc, Stage_dealloc}, {Py_tp_methods, stage_methods}, {Py_tp_members, stage_members}, {Py_tp_getset, stage_getters},
+    {0, NULL}};
+static PyType_Spec stage_spec = {.name = "cf._cf.StageCore", .basicsize = sizeof(Stage), .slots = stage_slots, .flags = FLAGS};
 
 /* ---- The module ---- */
 
@@ -1125,7 +1422,7 @@ static PyObject *pool_of(PyObject *Py_UNUSED(module), PyObject *args) {
   bool is_right = plan && most <= MOST && stages <= (Py_ssize_t)most;
   for (Py_ssize_t i = 0; is_right && i < stages; i++) is_right = (uint8_t)forms[i] <= CF_EXCEPTIONALLY_COMPOSE;
   if (!is_right) return PyErr_Occurred() ? NULL : PyErr_Format(PyExc_TypeError, "no plan");
-  Pool *pool = PyMem_Calloc(1, sizeof *pool + (size_t)stages);
+  Pool *pool = zeroed(sizeof *pool + (size_t)stages);
   if (!pool) return PyErr_NoMemory();
   PyObject *made = PyCapsule_New(pool, POOL, empty_pool);
   if (!made) {
@@ -1159,9 +1456,10 @@ static PyMethodDef module_methods[] = {{"pool", (PyCFunction)pool_of, METH_VARAR
 
 /* A type of the module, which has it by its name, too. */
 static PyTypeObject *type_of(PyObject *module, PyType_Spec *spec) {
-  PyTypeObject *type = (PyTypeObject *)PyType_FromModuleAndSpec(module, spec, NULL);
-  if (type && PyModule_AddType(module, type)) Py_CLEAR(type);
-  return type;
+  PyObject *type = PyType_FromSpec(spec);
+  if (type && (PyObject_SetAttrString(type, MODULE, module) || PyObject_SetAttrString(module, strrchr(spec->name, '.') + 1, type)))
+    Py_CLEAR(type);
+  return (PyTypeObject *)type;
 }
 
 /* Makes what an interpreter has of the module. */
@@ -1172,18 +1470,17 @@ static int fill(PyObject *module) {
     PyErr_Format(PyExc_ImportError, "the library has version %s", cf_version());
     return -1;
   }
-  if (cf_layout("cf_applied") != sizeof(cf_applied) || cf_layout("cf_told") != sizeof(cf_told)) {
+  if (cf_layout("cf_todo") != sizeof(cf_todo) || cf_layout("cf_told") != sizeof(cf_told)) {
     PyErr_SetString(PyExc_ImportError, "the structures of the library are others");
     return -1;
   }
-  if (!(it->told = PyMem_RawMalloc(MOST * sizeof *it->told))) {
+  if (!(it->told = PyMem_Malloc(MOST * sizeof *it->told))) {
     PyErr_NoMemory();
     return -1;
   }
   PyTypeObject *request_core = type_of(module, &request_spec);
   Py_XDECREF(request_core); /* (which the module has) */
   if (!request_core || !(it->stage_core = type_of(module, &stage_spec))) return -1;
-  it->stage_core->tp_new = NULL; /* a request makes its stages (Python 3.9 has no flag for it) */
   for (int k = 0; k < NAMES; k++)
     if (!(it->names[k] = PyUnicode_InternFromString(names[k]))) return -1;
   return 0;
@@ -1199,15 +1496,17 @@ static void module_free(void *module) {
   State *it = PyModule_GetState((PyObject *)module);
   Py_CLEAR(it->stage_core);
   for (int k = 0; k < NAMES; k++) Py_CLEAR(it->names[k]);
-  PyMem_RawFree(it->told);
+  PyMem_Free(it->told);
 }
 
-static PyModuleDef_Slot module_slots[] = {{Py_mod_exec, fill},
-#ifdef Py_MOD_PER_INTERPRETER_GIL_SUPPORTED
-    {Py_mod_multiple_interpreters, Py_MOD_PER_INTERPRETER_GIL_SUPPORTED},
-#endif
-    {0, NULL}};
-static PyModuleDef module = {PyModuleDef_HEAD_INIT, .m_name = "_cf", .m_doc = "Requests and stages over the proved machine of a request.",
-    .m_size = sizeof(State), .m_methods = module_methods, .m_slots = module_slots, .m_traverse = module_traverse, .m_free = module_free};
+static PyModuleDef_Slot module_slots[] = {{Py_mod_exec, fill}, {0, NULL}, {0, NULL}};
+static PyModuleDef definition = {PyModuleDef_HEAD_INIT, .m_name = "_cf",
+    .m_doc = "Requests and stages over the proved machine of a request.", .m_size = sizeof(State), .m_methods = module_methods,
+    .m_slots = module_slots, .m_traverse = module_traverse, .m_free = module_free};
 
-PyMODINIT_FUNC PyInit__cf(void) { return PyModuleDef_Init(&module); }
+PyMODINIT_FUNC PyInit__cf(void) {
+  long minor = strtol(Py_GetVersion() + strlen("3."), NULL, 10);
+  visits_types = minor >= 9;
+  if (minor >= 12) module_slots[1] = (PyModuleDef_Slot){MULTIPLE_INTERPRETERS, (void *)OWN_GIL};
+  return PyModuleDef_Init(&definition);
+}

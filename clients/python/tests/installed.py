@@ -6,7 +6,7 @@ tests. Nothing is fetched.
 
 It is made in FOLDER, which has the environment then, in `venv`, or in a temporary one. The wheel has the C module, with
 the library within, so nothing else is needed where it is installed; CF_LIBRARY is not set there. Tests run over the
-module, the first program also by ctypes. Status 1 where something isn't as it should be.
+module. Status 1 where something isn't as it should be.
 """
 import os
 import shutil
@@ -59,14 +59,10 @@ def main(made):
     told(made, sys.executable, "-m", "venv", made / "venv")
     python = made / "venv/bin/python"
     told(made, python, "-m", "pip", "install", "--no-index", "--force-reinstall", wheel)
-    way = told(made, python, "-c", "from cf.service._core import IS_MODULE; print(IS_MODULE)").strip()
-    if way != "True":
-        raise SystemExit("installed.py: the wheel has no C module")
+    if not wheel.name.startswith("cf-1.0.0-cp38-abi3-"):
+        raise SystemExit(f"installed.py: {wheel.name} isn't for all versions of Python from 3.8 on")
     told(made, python, "-c", "from cf.store.web.server import Page; Page()")  # (page.html is there, too)
-    first = CLIENT / "examples/first.py"
-    wanted = told(made, python, first)
-    if told(made, python, first, CF_NO_MODULE="1") != wanted:
-        raise SystemExit("installed.py: by ctypes the first program prints otherwise")
+    told(made, python, CLIENT / "examples/first.py")
     for tests in ("tests/service", "tests/testing", "tests"):
         told(made, python, "-m", "unittest", "discover", "-s", CLIENT / tests, CF_INSTALLED="1")
     print(wheel.name, "is installed and runs")

@@ -21,6 +21,8 @@ if TYPE_CHECKING:
         Flow,
         History,
         LoopService,
+        Meter,
+        OpenRequest,
         Request,
         RequestFull,
         Service,
@@ -28,6 +30,7 @@ if TYPE_CHECKING:
         SpanFile,
         Spans,
         Stage,
+        Wait,
         describe_nothing,
         describe_types,
         spans_of,
@@ -140,6 +143,16 @@ if TYPE_CHECKING:
         Service(on_end=SpanFile)  # type: ignore[arg-type]
         Service(on_end="spans")  # type: ignore[arg-type]
         print(services, spans)
+
+    def watched(service: Service, on_loop: LoopService) -> None:
+        meter = Meter(buckets=(0.1, 1.0))
+        Service(on_end=meter)
+        text: str = meter.text(service, on_loop) + meter.CONTENT_TYPE
+        opened: List[OpenRequest] = service.open_requests() + on_loop.open_requests()
+        waits: List[Wait] = opened[0].waits + opened[0].request.waits()
+        waits[0].seconds.is_integer()  # type: ignore[union-attr]
+        meter.text(opened[0].request)  # type: ignore[arg-type]
+        print(text, waits)
 
     def ledgers(plan: cf.Plan) -> None:
         typed_ledger = cf.Ledger(plan, room=2)

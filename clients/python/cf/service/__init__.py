@@ -28,6 +28,8 @@ Java's names:
 from .flow import Flow, Step
 from .history import History, describe_all, describe_nothing, describe_types
 from .loop import LoopService
+from .meter import Meter
+from .opened import OpenRequest, Wait
 from .request import Request
 from .service import Service
 from .spans import Span, SpanFile, Spans, spans_of, spans_to
@@ -39,6 +41,8 @@ __all__ = [
     "Flow",
     "History",
     "LoopService",
+    "Meter",
+    "OpenRequest",
     "Request",
     "RequestFull",
     "Service",
@@ -47,6 +51,7 @@ __all__ = [
     "Spans",
     "Stage",
     "Step",
+    "Wait",
     "Watch",
     "describe_all",
     "describe_nothing",

@@ -10,11 +10,12 @@ import logging
 import os
 import weakref
 from functools import partial
-from typing import Any, Callable, Dict
+from typing import Any, Callable, Dict, List, Optional
 
 from .contexts import ContextRequest
 from .history import History
 from .waits import Aside
+from .words import IS_SETTLED
 
 LOGGER = logging.getLogger("concurrent.futures")
 MOST = 2048  # histories that wait for a hook
@@ -53,12 +54,14 @@ class Ends:
     def __del__(self) -> None:
         self._aside.close()
 
+    def left(self) -> "List[EndingRequest]":
+        """The requests of which nobody was told yet."""
+        return [request for request in [known() for known in list(self.requests.values())] if request is not None]
+
     def end_all(self) -> None:
         """Ends all requests as they are, and waits until the hook was told."""
-        for known in list(self.requests.values()):
-            request = known()
-            if request is not None:
-                request._tell_end()
+        for request in self.left():
+            request._tell_end()
         if not self._aside.wait(SECONDS):
             LOGGER.warning("the hook of %s takes longer than %d s", self._name, SECONDS)
 
@@ -75,12 +78,12 @@ class EndingRequest(ContextRequest):
 
     @property
     def _ends(self) -> Ends:
-        ends = self._works.ends
+        ends: Optional[Ends] = self._works.ends
         assert ends is not None, "a service with a hook makes these"
         return ends
 
     def end(self) -> None:
-        left = [stage for stage in map(self._stage, range(self._stages)) if not stage.done()]
+        left = [self._stage(number) for number, kind, *_ in self._open_stages() if kind != IS_SETTLED]
         count = itertools.count(len(left) - 1, -1)
         for stage in left:
             stage.add_done_callback(lambda _: None if next(count) else self._tell_end())
@@ -90,7 +93,6 @@ class EndingRequest(ContextRequest):
     def __del__(self) -> None:
         if hasattr(self, "_context"):
             self._tell_end()
-        self._let_go()
 
     def _tell_end(self) -> None:
         """Has the hook told, if it wasn't yet. It raises nothing."""

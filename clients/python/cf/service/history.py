@@ -43,7 +43,8 @@ class HistoryEntry(NamedTuple):
         word: Its word of 64 bits.
         event: The same as a class of `cf.events`.
         reply: The numbers of the reply, at the places of words.py.
-        told: Which stages it settled, and with what."""
+        told: Which stages it settled, and with what.
+        changed: The stages that it made ready, or that it claimed, linked or settled."""
 
     place: int
     at: float
@@ -51,6 +52,12 @@ class HistoryEntry(NamedTuple):
     event: Event
     reply: Tuple[int, ...]
     told: List[Tuple[int, OutcomeNumbers]]
+    changed: List[int]
+
+
+def caller_name(who: int) -> str:
+    """The name of a caller, by its number."""
+    return CALLERS.get(who, f"worker {who - FIRST_WORKER}")
 
 
 def describe_all(value: object) -> str:
@@ -151,8 +158,8 @@ class History:
         if self._entries is None:
             first = self._times[0] if self._times else 0
             self._entries = [
-                HistoryEntry(k + 1, (self._times[k] - first) / 1e9, word, event_of(word), reply, told)
-                for k, (word, (reply, told)) in enumerate(zip(self.words, self._replayed()))
+                HistoryEntry(k + 1, (self._times[k] - first) / 1e9, word, event_of(word), *done)
+                for k, (word, done) in enumerate(zip(self.words, self._replayed()))
             ]
         return self._entries
 
@@ -164,8 +171,8 @@ class History:
             self._start = [(number, _outcome(it)) for number, it in stages if it.kind == IS_SETTLED]
         return self._start
 
-    def _replayed(self) -> Iterator[Tuple[Tuple[int, ...], List[Tuple[int, OutcomeNumbers]]]]:
-        """Of each word what it was answered, and which stages it settled."""
+    def _replayed(self) -> Iterator[Tuple[Tuple[int, ...], List[Tuple[int, OutcomeNumbers]], List[int]]]:
+        """Of each word what it was answered, which stages it settled, and which it changed."""
         reply, count, many = CReply(), c.c_size_t(), len(self.names)
         numbers, news = (c.c_uint32 * REPLY_NUMBERS).from_buffer(reply), (CNews * max(many, 1))()
         settled = {number for number, _ in self.settled_at_start()}
@@ -174,7 +181,7 @@ class History:
                 ledger._call("cf_ledger_apply", word, c.byref(reply), news, many, c.byref(count))
                 told = [(it.stage, _outcome(it.now)) for it in news[: count.value] if it.now.kind == IS_SETTLED and it.stage not in settled]
                 settled.update(number for number, _ in told)
-                yield tuple(numbers), told
+                yield tuple(numbers), told, [it.stage for it in news[: count.value]]
 
     # As texts, which the library tells.
 
@@ -251,7 +258,7 @@ class History:
 
     def caller_name(self, who: int) -> str:
         """The name of a caller, by its number."""
-        return CALLERS.get(who, f"worker {who - FIRST_WORKER}")
+        return caller_name(who)
 
     def error_text(self, code: int) -> str:
         """The text of an exception, by its code."""

@@ -4,12 +4,13 @@ import asyncio
 import inspect
 import itertools
 from types import CoroutineType
-from typing import TYPE_CHECKING, Any, Awaitable, Callable, Optional, Set, Type, TypeVar, cast
+from typing import TYPE_CHECKING, Any, Awaitable, Callable, List, Optional, Set, Type, TypeVar, cast
 
 from .contexts import ContextRequest, finish_stage, Within
 from .ending import EndingRequest, Ends, Hook
 from .flow import Flow
 from .history import Describe, describe_all
+from .opened import OpenRequest, open_requests
 from .request import Request
 from .service import ROOM
 from .stage import Stage
@@ -81,6 +82,10 @@ class LoopService:
         may call it."""
         return self._kind(self._works, "", 1, self).supply(fn, *args, **kwargs)
 
+    def open_requests(self) -> List[OpenRequest]:
+        """As `Service.open_requests`. Any thread may call it."""
+        return open_requests(self._works)
+
 
 class _WatchedRequest(WatchedRequest, ContextRequest):
     """One that tells a watch what is done to it."""
@@ -133,9 +138,14 @@ class _LoopWorks(LoopWaker):
 
     def _await(self, stage: "Stage[Any]", given: Awaitable[Any]) -> None:
         """Lets a coroutine go on, in a copy of this context. The stage keeps its task."""
-        running = _Running(self)
-        running.task = self._loop.create_task(self._awaited(stage, given, running), name=stage.name)
-        stage.add_done_callback(running)
+        stage._task = self._loop.create_task(self._awaited(stage, given), name=stage.name)
+        if stage._ended:  # another thread settled it meanwhile
+            self.stop(stage)
+
+    def stop(self, stage: "Stage[Any]") -> None:
+        task = stage.__dict__.pop("_task", None)
+        if task is not None:
+            self._soon(self._cancel, task)
 
     def _cancel(self, task: "asyncio.Task[None]") -> None:
         """Cancels a task that the stage keeps no longer."""
@@ -143,33 +153,18 @@ class _LoopWorks(LoopWaker):
         task.add_done_callback(self._tasks.discard)
         task.cancel()
 
-    async def _awaited(self, stage: "Stage[Any]", given: Awaitable[Any], running: "_Running") -> None:
+    async def _awaited(self, stage: "Stage[Any]", given: Awaitable[Any]) -> None:
         try:
             value = await given
         except BaseException as error:
-            running.task = None
+            stage.__dict__.pop("_task", None)
             goes_on = self._raised(stage, error)
         else:
-            running.task = None
+            stage.__dict__.pop("_task", None)
             request = stage.request
             goes_on = request._link(stage, FIRST_WORKER, value) if stage._form in COMPOSE_FORMS else request._end(stage, FIRST_WORKER, GIVES, value)
         if goes_on:
             self.use(stage.request)
-
-
-class _Running:
-    """The task of a coroutine, until that ends by itself. It is called once the coroutine's stage is settled, and has
-    the task cancelled if there is still one."""
-
-    __slots__ = ("works", "task")
-    task: "Optional[asyncio.Task[None]]"
-
-    def __init__(self, works: _LoopWorks) -> None:
-        self.works, self.task = works, None
-
-    def __call__(self, _stage: object) -> None:
-        if self.task is not None:
-            self.works._soon(self.works._cancel, self.task)
 
 
 class _WatchedLoopWorks(_LoopWorks):

@@ -10,7 +10,7 @@ import weakref
 from collections import deque
 from typing import TYPE_CHECKING, Any, Callable, Deque, Dict, List, Optional, Tuple
 
-from ._machine import Limit
+from ._core import LimitValue
 from .words import BAD_ANSWER, CANCEL, COMPLETE, FAIL, FAIL_AS, FAIL_BADLY, RELAY, TIMED_OUT, VALUE
 
 if TYPE_CHECKING:
@@ -104,8 +104,8 @@ def is_relay(call: object) -> bool:
 
 
 def is_release(call: object) -> bool:
-    """Whether a callback only lets go of a relay or a limit."""
-    return getattr(call, "__func__", None) in (_KeptRelay.release, Limit.release)
+    """Whether a callback only lets go of a relay or of a limit's value."""
+    return getattr(call, "__func__", None) in (_KeptRelay.release, LimitValue.release)
 
 
 class _Handing(threading.local):

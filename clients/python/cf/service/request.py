@@ -8,13 +8,11 @@ follows from a settled stage. The code here is its host: it hands words in, and 
 objects.
 
 What is kept where
-    - `RequestCore` and `StageCore` are written twice, with the same names and answers: in C (`native/_cf.c`, with
-      `_module.py` for what isn't hot of it) and in Python over ctypes (`_plain.py`). `_core.py` chooses. A core has the
-      machine; for each word its time; for each stage a row with form, future and outcome; and the lists of
-      names, values and exceptions. A word names a value or an exception by its index in these lists. The future of a
-      stage is in its row until the stage is settled, and has the function with its arguments until then.
-    - Cold code that both cores share is in `_machine.py`: plans and machines, names, relays within a request, time
-      limits, refusals, words.
+    - `RequestCore` and `StageCore` are written in C (`native/_cf.c`), and what of them isn't hot in Python (`_core.py`):
+      plans, names, relays within a request, time limits, refusals, words. A core has the machine; for each word its
+      time; for each stage a row with form, future and outcome; and the lists of names, values and exceptions. A word
+      names a value or an exception by its index in these lists. The future of a stage is in its row until the stage is
+      settled, and has the function with its arguments until then.
     - `Request` and `Stage` inherit from the cores. They have the methods that users call, and relays of futures from
       outside the request.
     - Waiting and waking is in waits.py: threads, a clock, the waiters of a stage, the wake-up of a loop. `Works`
@@ -22,22 +20,16 @@ What is kept where
       `LoopService`. A request sees both as the protocol `Works` below.
 
 What guards what
-    - In Python each request has a lock. It guards machine, rows and lists. Only the conditions of stages are taken under
-      it, with the locks of the waiters of `wait` and `as_completed`. No request's lock is taken under these. No thread
-      has the locks of two requests.
-    - In C there is no such lock. A call of the machine and its bookkeeping run no Python code and keep the
-      interpreter's lock, so other threads see them as one step.
-    - Either way no function and no callback of a user runs within that step.
-    - `Threads._lock` is taken to start and to end threads. Nothing calls back under it, and no request's lock is held
-      meanwhile.
+    - A request has no lock. A call of the machine and its bookkeeping run no Python code and keep the interpreter's lock,
+      so other threads see them as one step. No function and no callback of a user runs within that step.
+    - `Threads._lock` is taken to start and to end threads. Nothing calls back under it.
     - Relays (relays.py) need no lock: the thread that takes a relay out of its row settles it.
 
 What happens at a change (`_change`: complete, fail, cancel; also `_attach`, `_gather` and `_end`)
     1. The machine does one word, and names the stages that the word settled.
     2. Their outcomes are written into rows. So a thread that sees an outcome sees the outcomes of all earlier words.
-    3. Wake the waiters of the settled stages, and those of `wait` and `as_completed`. (In Python this comes
-       within step 2, under the lock, in C right after it.)
-    4. If more functions are ready than there are turns, give the works further turns (`_give_turns`). If nobody takes
+    3. Wake the waiters of the settled stages, and those of `wait` and `as_completed`.
+    4. If more functions are ready than there are turns, give the works further turns (`hand_on`). If nobody takes
        one, all ready stages fail with `Works.refusal`.
     5. Call the callbacks of the settled stages, in the thread that made the change. If one raises, the others are still
        called. An `Exception` is logged; the first of anything else is raised at the end.
@@ -45,7 +37,7 @@ What happens at a change (`_change`: complete, fail, cancel; also `_attach`, `_g
 A function from ready to finished
     A turn is the request itself, handed to the works by `Works.put`. It stands for one ready function, and doesn't say
     which. The thread or the loop that takes it calls `_run`. The machine claims the lowest ready stage and returns its
-    function and arguments. The function is called without a lock, and the finish is one more word. If that makes a
+    function and arguments. The function is called, and the finish is one more word. If that makes a
     function ready that has no turn, the same thread goes on with it. There are at least as many turns as ready
     functions. If a ready stage is settled by somebody else, one turn is too many, and does nothing. A late finish
     changes nothing. A flow that one thread runs (`flow.run`) needs no turns: it goes on while the machine has a
@@ -61,11 +53,11 @@ Relays
     the machine lets the relay follow it (`_follow_within`), and else `follow_future` does (`_follow`).
 
 Time limits
-    Each is a deadline of the machine (`_limit`), at a moment of the works' clock that no other limit of the request has.
-    The request asks that clock for one alarm at a time, at its first limit. When the alarm rings (`_ring`), the machine
-    lets time pass up to then, and settles the stages that are due, in the name of CLOCK. A deadline names its value or
-    its exception by a number, and the `Limit` puts that there just before. A callback releases the limit once the stage
-    is settled; the last one takes the alarm along.
+    Each is a deadline of the machine (`_limit`), which tells the moment of the next one with each call, where that has
+    changed. The request asks the works' clock for one alarm at a time, for that moment or before. When the alarm rings
+    (`_ring`), the machine lets time pass up to then, and settles the stages that are due, in the name of CLOCK. A
+    deadline names its value by a number. It names its exception by the code in whose place a `Limit` stands, which
+    makes the exception once somebody asks for it.
 
 Room
     A request has at most 4,096 stages, and 16,384 mentions of sources, two of which are set aside for each stage that
@@ -88,11 +80,14 @@ Which methods call a user's code
 import concurrent.futures
 import functools
 import math
+import time
+from array import array
 from typing import TYPE_CHECKING, Any, Callable, List, Optional, Sequence, Tuple, TypeVar
 
 from ..values import Form
 from ._core import RequestCore
 from .history import Describe, History
+from .opened import Wait, waits_of
 from .relays import Hold, follow_future
 from .stage import Stage
 from .words import FAIL, LINKS, RELAY, THROWS, name_of
@@ -112,11 +107,9 @@ if TYPE_CHECKING:
         def now(self, request: "Request") -> int:
             ...
 
-        def ask_for_alarm(self, request: "Request", moment: int) -> None:
-            """Rings a request that has limits at this moment, or before."""
-
-        def drop_alarm(self, request: "Request") -> None:
-            """Drops the alarm of a request that has no limits."""
+        def ask_for_alarm(self, request: "Request", moment: Optional[int] = None) -> None:
+            """Rings a request at this moment, or before. Without one it is that of its next limit (`_moment`), and an
+            alarm that isn't needed is dropped."""
 
     class Works(Protocol):
         """Runs stages that are ready: threads or an event loop."""
@@ -142,6 +135,9 @@ if TYPE_CHECKING:
 
         def put(self, request: "Request") -> bool:
             ...
+
+        def stop(self, stage: "Stage[Any]") -> None:
+            """A stage was settled while its function still runs."""
 
         @property
         def belongs_to_parent(self) -> bool:
@@ -171,8 +167,9 @@ class Request(RequestCore):
         RuntimeError: The stage has a function, and the service is shut down. Nothing is changed."""
 
     _stage_class = Stage
-    __slots__ = ("_describe", "_limits", "_traces")  # (`_describe` where that isn't what the service chose)
+    __slots__ = ("_describe", "_alarm", "_traces")  # (`_describe` where that isn't what the service chose)
     _describe: Describe
+    _alarm: Tuple[int, int]  # its moment and number, on a clock
 
     @property
     def name(self) -> str:
@@ -283,6 +280,18 @@ class Request(RequestCore):
     def history(self) -> History:
         """All that happened until now, as a `History` that stays as it is. It takes about a microsecond an event."""
         return History(self.name, self._plan, self._facts())._with_descriptions(getattr(self, "_describe", self._works.describe))
+
+    def waits(self) -> List[Wait]:
+        """Why it isn't over, the longest-lasting first: functions that run, or that no thread has taken, and promises that
+        nobody has settled. A stage that waits for these isn't told. It takes about 20 µs for 10 stages, and longer for more
+        events.
+
+            log.warning("order 17 hangs: %s", "; ".join(map(str, request.waits())))"""
+        return waits_of(self)
+
+    def _look(self) -> "Tuple[List[Tuple[int, int, int, int, int]], array[int], int]":
+        """What is open, the moments of the events, and the time by their clock, in nanoseconds."""
+        return self._open_stages(), array("q", self._times), time.monotonic_ns()
 
     def cancel(self) -> None:
         """Cancels all stages that aren't settled, as `abandon` does: also those whose functions run. It begins with the last

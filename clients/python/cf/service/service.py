@@ -3,12 +3,13 @@ import concurrent.futures
 import itertools
 import os
 import weakref
-from typing import TYPE_CHECKING, Any, Callable, Optional, Tuple, Type, TypeVar, Union
+from typing import TYPE_CHECKING, Any, Callable, List, Optional, Tuple, Type, TypeVar, Union
 
 from .contexts import ContextRequest
 from .ending import EndingRequest, Ends, Hook
 from .flow import Flow
 from .history import Describe, describe_all
+from .opened import OpenRequest, open_requests
 from .request import Request
 from .stage import Stage
 from .watch import Watch, WatchedRequest, WatchedWorks
@@ -149,6 +150,16 @@ class Service(concurrent.futures.Executor):
         request = self._kind(works, "", 1)
         stage: Stage[T] = request._attach(Form.SUPPLY, None, None, fn, args or None, kwargs or None, name_of(fn))
         return stage
+
+    def open_requests(self) -> List[OpenRequest]:
+        """The requests that aren't over, the longest-lasting first, and why each waits. Those of `submit` are among them. A line
+        for each:
+
+            print(*service.open_requests(), sep="\n")
+
+        A service with `on_end` lists those that it hasn't told yet. Any other one looks through all objects of the process,
+        during which no other thread runs: about 0.1 s for a million. Each request then takes about 20 µs."""
+        return open_requests(self._works)
 
     def shutdown(self, wait: bool = True, *, cancel_futures: bool = False) -> None:
         """Takes no more functions. Those that were handed in are still called, and so are those of stages that become

@@ -57,6 +57,7 @@ class _Reading:
         self.history = history
         self.moments = [history._since + at for at in history._times]
         self.shapes: Dict[int, Tuple[int, Sequence[int]]] = {number: (form, of) for number, (form, of, _) in enumerate(history.planned)}
+        self.attached: Dict[int, HistoryEntry] = {}
         self.claims: Dict[int, HistoryEntry] = {}
         self.finishes: Dict[int, HistoryEntry] = {}
         self.ends: Dict[int, OutcomeNumbers] = dict(history.settled_at_start())
@@ -70,7 +71,7 @@ class _Reading:
     def _read(self, entry: HistoryEntry) -> None:
         event, reply = entry.event, entry.reply
         if isinstance(event, Attach) and not reply[ANSWER]:
-            self.shapes[reply[NUMBER]] = int(event.form), event.of
+            self.shapes[reply[NUMBER]], self.attached[reply[NUMBER]] = (int(event.form), event.of), entry
             if event.who >= FIRST_WORKER:
                 self.inner.add(reply[NUMBER])
         elif isinstance(event, Claim) and not reply[ANSWER]:

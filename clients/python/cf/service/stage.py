@@ -7,7 +7,6 @@ from typing import TYPE_CHECKING, Any, Callable, Dict, Generator, Generic, Optio
 
 from ..values import Form
 from ._core import StageCore
-from .history import escaped
 from .waits import AwaitedFuture
 from .words import CANCEL, COMPLETE, FAIL, THIS_THREAD
 
@@ -306,10 +305,7 @@ class Stage(_Future[T]):
 
     # For what stands below.
 
-    def _timed_out(self, seconds: float) -> TimeoutError:
-        """The exception of its time limit."""
-        return TimeoutError(f"{escaped(self.name)} took longer than {seconds} s")
-
+    _task: "Optional[asyncio.Task[None]]"  # of its coroutine, on an event loop
     _relays: Optional[object] = None  # of other requests, that end as it does
 
     def _log(self, error: BaseException) -> None:

@@ -19,12 +19,13 @@ from collections import deque
 from queue import Empty, SimpleQueue
 from typing import TYPE_CHECKING, Any, Callable, Deque, Dict, Generator, List, Optional, Sequence, Set, Tuple
 
-from .words import VALUE
+from .words import NEVER, VALUE
 
 if TYPE_CHECKING:
     from .request import Request
 
 LOGGER = logging.getLogger("concurrent.futures")
+NO_ALARM = 0, -1  # of a request that had none yet
 
 
 class Primitives:
@@ -267,35 +268,29 @@ class Clock(_OnDemandThread):
         """In nanoseconds."""
         return primitives.now()
 
-    def ask_for_alarm(self, request: "Request", moment: int) -> None:
-        """Rings a request that has limits at this moment, or before."""
-        limits = request._limits
-        at, number = limits.alarm
-        if at <= moment and number in self._wanted:  # (who drops an alarm, or rings it, looks for limits behind that)
+    def ask_for_alarm(self, request: "Request", moment: Optional[int] = None) -> None:
+        """Rings a request at this moment, or before. Without one it is that of its next limit, or none."""
+        at, number = getattr(request, "_alarm", NO_ALARM)
+        if at <= (request._moment if moment is None else moment) < NEVER and number in self._wanted:
             return
         with self._changed:
-            at, number = limits.alarm
+            at, number = getattr(request, "_alarm", NO_ALARM)
             is_wanted = number in self._wanted
-            if not limits or self._is_over or (is_wanted and at <= moment):
-                return
-            self._begin()
-            if is_wanted:
+            wanted = request._moment if moment is None else moment
+            if wanted == NEVER:
                 self._forget(number)
-            number = next(self._numbers)
-            limits.alarm = alarm = moment, number
-            self._wanted[number] = request
-            heapq.heappush(self._due, alarm)
-            if self._due[0] is alarm:
-                self._changed.notify()
-
-    def drop_alarm(self, request: "Request") -> None:
-        """Doesn't ring a request that has no limits."""
-        limits = request._limits
-        with self._changed:
-            if not limits:
-                self._forget(limits.alarm[1])
-        if limits:
-            self.ask_for_alarm(request, min(list(limits), default=0))
+            elif not self._is_over and not (is_wanted and at <= wanted):
+                self._begin()
+                if is_wanted:
+                    self._forget(number)
+                number = next(self._numbers)
+                request._alarm = alarm = wanted, number
+                self._wanted[number] = request
+                heapq.heappush(self._due, alarm)
+                if self._due[0] is alarm:
+                    self._changed.notify()
+        if wanted == NEVER and request._moment < NEVER:  # who set that limit may have seen the alarm that is dropped now
+            self.ask_for_alarm(request)
 
     def end(self) -> None:
         """Drops all alarms for good, and joins the thread: a subinterpreter can't end while it runs."""
@@ -539,23 +534,22 @@ class LoopWaker:
         """In nanoseconds."""
         return int(self._loop.time() * 1e9)
 
-    def ask_for_alarm(self, request: "Request", moment: int) -> None:
-        """Has the loop ring a request that has limits at this moment, or before."""
-        self._call(self._ask, request, moment)
+    def ask_for_alarm(self, request: "Request", moment: Optional[int] = None) -> None:
+        """Has the loop ring a request at this moment, or before. Without one it is that of its next limit, or none."""
+        if asyncio._get_running_loop() is self._loop:
+            self._ask(request, moment)
+        elif moment is None:
+            self._soon(self._ask, request, None)
+        else:
+            self._call(self._ask, request, moment)
 
-    def drop_alarm(self, request: "Request") -> None:
-        """Doesn't ring a request that has no limits."""
-        self._soon(self._drop, request)
-
-    def _ask(self, request: "Request", moment: int) -> None:
-        alarm = self._alarms.get(request)
-        if request._limits and (alarm is None or moment / 1e9 < alarm.when()):
+    def _ask(self, request: "Request", moment: Optional[int]) -> None:
+        alarm, wanted = self._alarms.get(request), request._moment if moment is None else moment
+        if wanted == NEVER:
             self._forget(request)
-            self._alarms[request] = self._loop.call_at(moment / 1e9, self._ring, request, moment)
-
-    def _drop(self, request: "Request") -> None:
-        if not request._limits:
+        elif alarm is None or wanted / 1e9 < alarm.when():
             self._forget(request)
+            self._alarms[request] = self._loop.call_at(wanted / 1e9, self._ring, request, wanted)
 
     def _forget(self, request: "Request") -> None:
         alarm = self._alarms.pop(request, None)

@@ -144,11 +144,8 @@ class WatchedWorks:
         """In nanoseconds."""
         return int(self.watch.now(request) * 1e9)
 
-    def ask_for_alarm(self, request: Request, moment: int) -> None:
+    def ask_for_alarm(self, request: Request, moment: Optional[int] = None) -> None:
         """The watch knows each limit, and rings by itself."""
-
-    def drop_alarm(self, request: Request) -> None:
-        """The watch looks whether a stage is settled."""
 
     def refusal(self) -> RuntimeError:
         return RuntimeError("cannot schedule new futures after shutdown")
@@ -158,6 +155,9 @@ class WatchedWorks:
             return False
         self.watch.on_ready(cast(WatchedRequest, request)._task())
         return True
+
+    def stop(self, stage: "Stage[Any]") -> None:
+        """(The watch calls the function.)"""
 
     def close(self) -> None:
         self.closed = True
@@ -179,6 +179,7 @@ class WatchedRequest(Request):
         self._moments = array("q")
         self._told_ready: Set[int] = set()
         self._own = 0  # of these the one whose turn is the caller's
+        self._limits: Dict[int, Stage[Any]] = {}  # stages with limits that haven't come, by their moments
         works.watch.on_opened(self)
 
     @property
@@ -198,6 +199,11 @@ class WatchedRequest(Request):
         self._date()
         words, _, *others = super()._facts()
         return (words, self._moments[:], *others)
+
+    def _look(self) -> "Tuple[List[Tuple[int, int, int, int, int]], array[int], int]":
+        self.watch.on_history_read(self)
+        self._date()
+        return self._open_stages(), self._moments[:], int(self.watch.now(self) * 1e9)
 
     def _date(self) -> None:
         """Those events that have no time yet were done now."""
@@ -308,11 +314,19 @@ class WatchedRequest(Request):
 
     def _limit(self, stage: "Stage[Any]", seconds: float, gives: Any, is_value: bool) -> int:
         moment = super()._limit(stage, seconds, gives, is_value)
+        self._limits[moment] = stage
         if not self._is_on_loop:
-            self.watch.on_limit(stage, seconds, lambda: self._pass(stage, moment))
+            self.watch.on_limit(stage, seconds, lambda: self._let_pass(stage, moment))
         return moment
 
-    def _pass(self, stage: "Stage[Any]", moment: int) -> None:
+    def _moment_after(self, seconds: float) -> int:
+        """A moment that no other limit has: each passes by itself."""
+        moment = super()._moment_after(seconds)
+        while moment in self._limits:
+            moment += 1
+        return moment
+
+    def _let_pass(self, stage: "Stage[Any]", moment: int) -> None:
         """The limit of a stage passes, which may be settled by now."""
         if is_settled(stage):
             self.watch.on_changed(stage, False)
@@ -320,7 +334,7 @@ class WatchedRequest(Request):
             self._ring(moment)
 
     def _ring(self, now: int) -> None:
-        due = [limit.stage for moment, limit in sorted(self._limits.items()) if moment <= now]
+        due = [self._limits.pop(moment) for moment in sorted(self._limits) if moment <= now]
         still_open = [stage for stage in due if not is_settled(stage)]
         super()._ring(now)
         self._date()

@@ -23,6 +23,7 @@ OUTCOME = slice(7, 12)
 REPLY_NUMBERS = 12
 
 MOST_STAGES, MOST_EDGES = 4096, 16384
+NEVER = 2**64 - 1  # the moment of the next deadline where there is none
 
 # The callers in a history (docs/FORMATS.md, "Callers"). THIS_THREAD is whichever this thread is.
 THIS_THREAD, CLIENT, CLOCK, RELAY, FIRST_WORKER, MOST_CALLERS = -1, 0, 1, 2, 3, 64

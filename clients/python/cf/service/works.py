@@ -65,6 +65,9 @@ class Works(Threads):
         except BaseException:  # a callback's, such as SystemExit
             LOGGER.critical("Exception in worker", exc_info=True)
 
+    def stop(self, stage: "Stage[Any]") -> None:
+        """(A function on a thread can't be stopped.)"""
+
     def refuse(self, turns: "Sequence[Request]") -> None:
         _do_to_all(lambda request: request._refuse(self.refusal()), dict.fromkeys(turns))
 
@@ -86,8 +89,7 @@ def _caller_number_of(number: int) -> int:
 
 
 def _cancel_ready(request: "Request") -> None:
-    with request._lock:
-        request._take_turns_back()
+    request._take_turns_back()
     _do_to_all(Stage.cancel, [request._stage(number) for number in request._ready_stages()])
 
 
@@ -122,6 +124,9 @@ class Here:
 
     def put(self, request: "Request") -> bool:
         return True
+
+    def stop(self, stage: "Stage[Any]") -> None:
+        """(It runs on this thread.)"""
 
 
 _open_works: "weakref.WeakSet[Works]" = weakref.WeakSet()

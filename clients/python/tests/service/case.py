@@ -1,7 +1,7 @@
 """What the tests of cf.service stand on: functions that raise or leave, things that are watched, programs of their own.
 
-They are of the package beside this folder, or with CF_INSTALLED=1 of the one that is installed; over the C module where
-it was built, and by ctypes with CF_NO_MODULE=1. All of them:
+They are of the package beside this folder, where the C module was built, or with CF_INSTALLED=1 of the one that is
+installed. All of them:
 
     CF_LIBRARY=/path/to/libcf.so python3 -m unittest discover -s clients/python/tests/service
 

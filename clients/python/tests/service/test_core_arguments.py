@@ -8,19 +8,15 @@ import concurrent.futures
 import copy
 import functools
 import pickle
-import sys
 import types
 import unittest
 from array import array
 
 from case import Case, CoreCase, program
-from cf import Refused
 from cf.service import _core, Flow, Request, RequestFull, Stage
-from cf.service._core import IS_MODULE
 from cf.service.words import COMPLETE
 
 
-@unittest.skipUnless(IS_MODULE, "in Python an odd call raises what Python does")
 class CoreArguments(CoreCase):
     ODD = (TypeError, ValueError, IndexError, RuntimeError, OverflowError, AttributeError)
 
@@ -53,8 +49,8 @@ class CoreArguments(CoreCase):
                 lambda: made._attach(3, core_stage, None, str, None, None, "x"),
             )
             self.assertIsNone(made._open())
-            self.assertEqual((made._at, made._times), (0, b""))
-            self.refused(made._facts, made._ready_stages, kinds=(IndexError, Refused))
+            self.assertEqual(made._times, b"")
+            self.refused(made._facts, made._open_stages, made._ready_stages, lambda: made._pass(1), lambda: made._deadline(0, 1, True, -1))
 
     def test_an_opening_that_fails(self):
         opened = Request.__new__(Request)
@@ -200,19 +196,16 @@ class CoreArguments(CoreCase):
             for call in (lambda: module.StageCore(), lambda: object.__new__(module.StageCore),
                          lambda: type("X", (module.StageCore,), {})(),
                          lambda: module.RequestCore(None, "", 1),
-                         lambda: module.RequestCore.__new__(module.RequestCore)._attach_all(16, b"", "x"),
-                         lambda: setattr(module.StageCore, "done", 1)):
+                         lambda: module.RequestCore.__new__(module.RequestCore)._attach_all(16, b"", "x")):
                 try:
                     call()
                     print("done")
                 except (TypeError, RuntimeError, AttributeError):
                     print("refused")
-        """
-            if sys.version_info >= (3, 10)
-            else "print('refused\\n' * 6, end='')",
+        """,
             head="import sys\n",
         )
-        self.assertEqual((out, status), ("refused\n" * 6, 0), err)
+        self.assertEqual((out, status), ("refused\n" * 5, 0), err)
 
     def test_copies_and_classes(self):
         core_stage = self.request.promise()

@@ -5,7 +5,6 @@
 """
 import asyncio
 import contextvars
-import functools
 import gc
 import logging
 import threading
@@ -14,7 +13,6 @@ import unittest.mock
 
 from case import fails, inc, no_thread, program, starting, until, Wild
 from cf.service import describe_types, ending, Flow, LoopService, Service, waits
-from cf.service._core import IS_MODULE
 
 tenant = contextvars.ContextVar("tenant", default="-")
 
@@ -52,6 +50,24 @@ class Ends(unittest.TestCase):
         self.names("a")
         self.assertEqual(str(self.told[0]).count("ends: 1"), 3)
 
+    def test_a_composing_function_that_is_not_called_holds_nothing_up(self):
+        """Its relay stays open. One whose function was called waits for what that gave."""
+        with self.service.request("failed") as failed:
+            promise = failed.promise()
+            promise.compose(fails)
+            promise.fail(OSError())
+        with self.service.request("cancelled") as cancelled:
+            self.assertTrue(cancelled.promise().compose(fails).abandon())
+            cancelled._stage(0).complete(1)
+        other = self.service.request("other").promise()
+        with self.service.request("linked") as linked:
+            linked.supply(inc, 1).compose(lambda _: other)
+        self.assertTrue(until(lambda: len(self.told) == 2))
+        self.assertEqual(sorted(history.name for history in self.told), ["cancelled", "failed"])
+        self.assertFalse(until_soon(lambda: len(self.told) > 2))
+        other.complete(1)
+        self.assertTrue(until(lambda: [history.name for history in self.told][2:] == ["linked"]))
+
     def test_one_that_nobody_has_is_told(self):
         request = self.service.request("a")
         request.promise()
@@ -63,17 +79,6 @@ class Ends(unittest.TestCase):
         self.service.start(flow, name="of a flow")
         self.assertTrue(until(lambda: gc.collect() >= 0 and len(self.told) == 3))
         self.assertEqual(sorted(history.name for history in self.told), ["a", "inc", "of a flow"])
-
-    @unittest.skipIf(IS_MODULE, "of ctypes")
-    def test_one_is_told_whose_machine_is_collected_with_it(self):
-        """In whatever order the collector goes through a cycle: here a machine comes before the request that has it."""
-        requests = [self.service.request(name) for name in "ab"]
-        requests[0]._machine, requests[1]._machine = requests[1]._machine, requests[0]._machine
-        for request in requests:
-            request.promise().add_done_callback(functools.partial(id, request))
-        del requests, request
-        self.assertTrue(until(lambda: gc.collect() >= 0 and len(self.told) == 2))
-        self.names("a", "b")
 
     def test_shutdown_tells_what_is_open(self):
         kept = [self.service.request(str(k)) for k in range(3)]

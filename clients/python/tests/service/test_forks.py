@@ -7,7 +7,6 @@ import os
 import unittest
 
 from case import program
-from cf.service._core import IS_MODULE
 
 
 @unittest.skipUnless(hasattr(os, "fork"), "no fork")
@@ -226,44 +225,6 @@ class Forks(unittest.TestCase):
         """
         )
         self.assertEqual((out, status), ("1 1 False\n0 2 False\n", 0), err)
-
-    @unittest.skipIf(IS_MODULE or not hasattr(os, "fork"), "the module has no lock")
-    def test_fork_while_a_thread_changes_a_request(self):
-        """The fork waits for it; where that takes too long, the request is the parent's."""
-        out, err, status = program(
-            """
-            import signal
-            from cf.service import _plain
-            service = Service(1)
-            request, other = service.request(), service.request()
-            promise, goes_on = request.promise(), threading.Event()
-
-            def hold(seconds):
-                with request._lock:
-                    goes_on.set()
-                    time.sleep(seconds)
-            for seconds, most in ((0.3, 10), (2, 0.1)):
-                _plain._forks.SECONDS = most
-                goes_on.clear()
-                thread = threading.Thread(target=hold, args=[seconds])
-                thread.start()
-                goes_on.wait(5)
-                pid = os.fork()
-                if not pid:
-                    signal.alarm(10)
-                    try:
-                        print(promise.complete(1), flush=True)
-                    except RuntimeError as error:
-                        print(error, flush=True)
-                    print(other.promise().complete(3), flush=True)
-                    os._exit(0)
-                print(os.waitpid(pid, 0)[1], flush=True)
-                thread.join()
-            print(promise.complete(2), promise.result(5))
-        """
-        )
-        told = "this request was being changed as its process forked: it is the parent's alone"
-        self.assertEqual((out, status), (f"True\nTrue\n0\n{told}\nTrue\n0\nTrue 2\n", 0), err)
 
     @unittest.skipUnless(hasattr(os, "fork"), "no fork")
     def test_fork_while_a_plan_is_built(self):

@@ -20,7 +20,7 @@ from pathlib import Path
 
 from case import Case, CoreCase, fails, inc, Oops, program, Thing, until
 from cf.service import Flow, LoopService, RequestFull, Service, Stage
-from cf.service._core import IS_MODULE, PlanCore
+from cf.service._core import PlanCore
 from cf.service.words import MOST_STAGES
 from cf.values import Form
 
@@ -425,7 +425,6 @@ class Memory(unittest.TestCase):
         self.flat(lambda: self.service.start(flow, 1)[end].result())
         self.flat(lambda: flow.run(1))
 
-    @unittest.skipUnless(IS_MODULE, "by ctypes a plan keeps no machines")
     def test_plans(self):
         """A plan is dropped with the machines that it has kept."""
 

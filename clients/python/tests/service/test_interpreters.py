@@ -8,7 +8,6 @@ import textwrap
 import unittest
 
 from case import program
-from cf.service._core import IS_MODULE
 
 
 def interpreters():
@@ -34,7 +33,7 @@ class Interpreters(unittest.TestCase):
             if sys.version_info >= (3, 13):
                 made = interpreters.create("legacy")
             else:
-                made = interpreters.create(isolated=False)
+                made = interpreters.create(**({"isolated": False} if sys.version_info >= (3, 9) else {}))
             told = interpreters.run_string(made, f"import sys; sys.path[:0] = {sys.path!r}" + chr(10) + text)
             if told is not None:
                 raise RuntimeError(told)
@@ -77,7 +76,6 @@ class Interpreters(unittest.TestCase):
     def test_several_in_turn_and_at_once(self):
         text = """
 from cf.service import Flow, RequestFull, Service
-from cf.service._core import IS_MODULE
 flow = Flow()
 end = flow.promise().then(lambda x: x + 1).handle(lambda value, error: (value, type(error).__name__))
 for k in range(50):
@@ -90,7 +88,7 @@ try:
     for k in range(5000):
         full.promise()
 except RequestFull:
-    print(IS_MODULE, flush=True)
+    print("full", flush=True)
 """
         self.assertEqual(
             self.told(
@@ -107,7 +105,7 @@ except RequestFull:
             print(set(right))
         """
             ),
-            f"{IS_MODULE}\n" * 6 + "{True}\n",
+            "full\n" * 6 + "{True}\n",
         )
 
     def test_one_that_ends_with_requests_open(self):
@@ -149,7 +147,6 @@ service.request().promise().or_timeout(1000)
             "True\n",
         )
 
-    @unittest.skipUnless(IS_MODULE, "of the module")
     def test_nothing_is_left_of_one_that_ended(self):
         """The types and what they hold go with the interpreter, as the module does with its last object."""
         out, err, status = program(

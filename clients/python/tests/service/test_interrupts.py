@@ -9,8 +9,7 @@ import sys
 import unittest
 
 from case import Case, CoreCase, leaves, program, Wild
-from cf.service import _machine, Request
-from cf.service._core import IS_MODULE
+from cf.service import Request
 
 
 class Interrupts(Case):
@@ -45,7 +44,6 @@ class Interrupts(Case):
         )
         self.assertEqual((out, status), ("interrupted False\n2\n", 0), err)
 
-    @unittest.skipUnless(IS_MODULE, "by ctypes an interrupt may come between an event and its showing, as within concurrent.futures")
     def test_interrupts_lose_nothing(self):
         """The main thread is interrupted at any point while it attaches and completes; each stage that it was given
         is settled."""
@@ -150,16 +148,18 @@ class InterruptsOfCores(CoreCase):
         self.assertEqual(failing.taken, 2)
 
     def test_a_callback_that_leaves_takes_no_turn_with_it(self):
-        """A composing stage ends just behind a limit that nobody was told of, so its thread has the turn of what that made
-        ready; and a callback of the stage leaves."""
+        """A composing stage ends just behind a change whose turn couldn't be given, so its thread has that turn; and a
+        callback of the stage leaves."""
 
         class Taking:
-            closed, clock = False, None
+            closed, clock, fails = False, None, False
 
             def __init__(self):
                 self.taken = []
 
             def put(self, request):
+                if self.fails:
+                    raise MemoryError
                 self.taken.append(request)
                 return True
 
@@ -167,13 +167,14 @@ class InterruptsOfCores(CoreCase):
         request = Request(taking, "r", 8)
         late = request.promise()
         behind = late.then(str)
-        _machine._deadline(request._at, late.number, 5, True, 0, _machine._NIL)
 
         def composes(_):
             made = request.promise()
             made.complete(1)
-            request._counts = True
-            _machine._pass(request._at, 5, _machine._untold, 0, _machine._many)
+            taking.fails = True
+            with self.assertRaises(MemoryError):
+                late.complete(None)
+            taking.fails = False
             return made
 
         composed = request.supply(str).compose(composes)
@@ -185,7 +186,6 @@ class InterruptsOfCores(CoreCase):
         taking.taken.pop()._run(3)
         self.assertEqual(behind.result(0), "None")
 
-    @unittest.skipUnless(IS_MODULE, "by ctypes the stage stays claimed")
     def test_a_function_whose_arguments_raise(self):
         """Its stage ends with that, as with what the function itself raises."""
 
@@ -199,7 +199,6 @@ class InterruptsOfCores(CoreCase):
         before_interrupt.cancel()
         self.assertIsInstance(behind.exception(20), KeyboardInterrupt)
 
-    @unittest.skipUnless(IS_MODULE, "by ctypes the stack may end between an event and its showing, as within concurrent.futures")
     def test_at_the_end_of_the_stack(self):
         """A stage is settled where Python's stack has no room left: who waits for it wakes, and what is behind it
         runs."""

@@ -20,12 +20,12 @@ import unittest
 import unittest.mock
 
 from case import Oops, Wild
-from cf.service import _core, _machine, flow as flows, Flow, LoopService, waits
+from cf.service import flow as flows, Flow, LoopService, waits
 from cf.service.contexts import ContextRequest
 from cf.service.ending import EndingRequest, Ends
 from cf.service.history import describe_all
 from cf.service.request import Request
-from cf.service.words import FIRST_WORKER
+from cf.service.words import FIRST_WORKER, NEVER
 
 SEEDS = range(*map(int, os.environ.get("CF_SEEDS", "0 60").split()))
 STEPS = 40  # of a program
@@ -99,11 +99,14 @@ class Works:
     def now(self, _request=None):
         return self.moment
 
-    def ask_for_alarm(self, request, moment):
+    def ask_for_alarm(self, request, moment=None):
+        moment = request._moment if moment is None else moment
         self.alarms[request] = min(moment, self.alarms.get(request, moment))
+        if moment == NEVER:
+            del self.alarms[request]
 
-    def drop_alarm(self, request):
-        self.alarms.pop(request, None)
+    def stop(self, stage):
+        """(A function on a thread can't be stopped.)"""
 
 
 class Loop(asyncio.SelectorEventLoop):
@@ -136,10 +139,7 @@ class Program:
 
     def enter(self, what):
         """Code of a user's begins, under no lock."""
-        for request in self.requests:
-            if not _core.IS_MODULE and request._lock.locked():
-                self.why.append(f"{what} begins under the lock of {request.name}")
-        held = {"a limit": _machine._first, "flows": flows._begins, "a hook": self.works.ends._aside._changed}
+        held = {"flows": flows._begins, "a hook": self.works.ends._aside._changed}
         self.why += [f"{what} begins under the lock of {name}" for name, lock in held.items() if lock._is_owned()]
 
     def hook(self, history):

@@ -12,12 +12,10 @@ import time
 import unittest
 
 from case import Case, CoreCase, Wild
-from cf.service._core import IS_MODULE
 from cf.service.words import COMPLETE, FAIL, THIS_THREAD
 
 
 class Reentrant(CoreCase):
-    @unittest.skipUnless(IS_MODULE, "by ctypes a collected object that calls the very request waits for itself")
     def test_what_is_collected_as_a_first_value_is_kept(self):
         class Last:
             def __init__(self, *kept):

@@ -6,10 +6,8 @@
 import unittest
 
 from case import program
-from cf.service._core import IS_MODULE
 
 
-@unittest.skipUnless(IS_MODULE, "of the module")
 class RefusedMemory(unittest.TestCase):
     def test_refused_memory(self):
         """Each allocation of the module's calls in turn is refused: what raises changed nothing or all, and the
@@ -38,7 +36,7 @@ class RefusedMemory(unittest.TestCase):
                          lambda: r._attach(16, first, first, None, None, None, "x"),
                          lambda: planned._change(1, -1, 0, -5), lambda: planned._stage(1), lambda: planned._work(3),
                          lambda: planned._stage(1).result(0), lambda: first.add_done_callback(id),
-                         lambda: first._waiters, lambda: r._change(1, -1, first, -5),
+                         lambda: first._waiters, r._open_stages, lambda: r._change(1, -1, first, -5),
                          lambda: r._change(2, -1, 2, error), lambda: first.exception(0),
                          lambda: first.add_done_callback(id), lambda: r._times, lambda: r._run(3),
                          lambda: seen.result(0), lambda: _core.PlanCore(rows), lambda: _core.RequestCore(works, "s", 3),

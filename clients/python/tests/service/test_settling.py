@@ -12,7 +12,6 @@ import unittest
 from concurrent.futures import InvalidStateError
 
 from case import Case, CoreCase, fails, inc, leaves, Oops
-from cf.service._core import IS_MODULE
 from cf.testing import orders
 
 
@@ -139,11 +138,9 @@ class Settling(Case):
         self.assertFalse(stopped.set_running_or_notify_cancel())
 
 
-class SettlingUnderTheLock(CoreCase):
-    @unittest.skipIf(IS_MODULE, "the module has no lock")
+class SettlingInOneStep(CoreCase):
     def test_who_is_told_that_a_stage_is_settled_finds_it_so(self):
-        """An event and what it settles are shown under one lock: here the first of two stages is long in being
-        shown."""
+        """An event and what it settles are one step: here the first of two stages is long in waking its waiters."""
         r, begun, goes_on, told = self.request, threading.Event(), threading.Event(), []
 
         class Slow:
@@ -153,7 +150,8 @@ class SettlingUnderTheLock(CoreCase):
 
         first = r.promise()
         second = r.all_of(first)
-        first._waiters.append(Slow())
+        with first._condition:
+            first._waiters.append(Slow())
         threads = [
             threading.Thread(target=first.complete, args=[1]),
             threading.Thread(target=lambda: told.append((second.complete(2), second.done()))),
@@ -166,27 +164,6 @@ class SettlingUnderTheLock(CoreCase):
         for thread in threads:
             thread.join(30)
         self.assertEqual(told, [(False, True)])
-
-    @unittest.skipIf(IS_MODULE, "the module has no lock")
-    def test_a_cancel_looks_under_the_lock(self):
-        """Another thread begins the stage's function just before the lock is taken."""
-        r = self.request
-        settling, lock = r.promise(), r._lock
-
-        class Before:
-            def __enter__(self):
-                lock.acquire()
-                r._show_running(r._rows[settling.number])
-
-            def __exit__(self, *_cause):
-                lock.release()
-
-        r._lock = Before()
-        try:
-            self.assertFalse(settling.cancel())
-        finally:
-            r._lock = lock
-        self.assertFalse(settling.done())
 
 
 if __name__ == "__main__":

@@ -16,8 +16,10 @@ import unittest.mock
 
 from case import Case, fails, inc, leaves, no_thread, starting, until
 import cf
-from cf.service import _machine, Flow, Service, waits
-from cf.service.words import CLIENT, CLOCK, FAIL, FAIL_AS, FAIL_BADLY
+from cf.service import Flow, Service, waits
+from cf.service.words import CLIENT, CLOCK, FAIL, FAIL_AS, FAIL_BADLY, NEVER
+
+LATER = time.monotonic_ns() + 10**15  # than all limits
 
 
 class Limits(Case):
@@ -51,28 +53,14 @@ class Limits(Case):
                     limited.complete_on_timeout(1, seconds)
         self.assertEqual(timed.promise().complete_on_timeout(7, 0.01).result(20), 7)
 
-    def test_a_worker_that_asks_between_the_steps_of_a_limit(self):
-        """It finds nothing to run, and leaves what the limit has settled to the clock's thread, which shows it."""
-        kind, real = type(self.request), type(self.request)._announce_settled
-
-        def take_told(request):
-            request._begin(CLIENT)
-            real(request)
-
-        with unittest.mock.patch.object(kind, "_announce_settled", take_told):
-            late = self.request.promise().or_timeout(0.01)
-            self.assertIsInstance(late.exception(5), TimeoutError)
-
     def test_time_never_goes_back(self):
-        """An earlier moment may be rung later. A limit that is set then comes behind the latest one."""
+        """An earlier moment may be rung later. A limit that is set for it then is due."""
         timed = self.request
         timed.promise().or_timeout(1000)
         ahead = timed._works.clock.now(timed) + 500 * 10**9
         timed._ring(ahead), timed._ring(ahead - 1)
         limited = timed.promise().complete_on_timeout(7, 1)
-        timed._ring(ahead)
-        self.assertFalse(limited.done())
-        timed._ring(ahead + 1)
+        timed._ring(ahead - 1)
         self.assertEqual(limited.result(0), 7)
 
     def test_an_earlier_limit_wakes_the_clock(self):
@@ -109,22 +97,21 @@ class Limits(Case):
     def test_a_limit_that_is_due_at_just_this_moment(self):
         """A loop may ring a request at the very nanosecond."""
         late, given = self.request.promise().or_timeout(1000), self.request.promise().complete_on_timeout("x", 2000)
-        for moment in sorted(self.request._limits):
-            self.request._ring(moment)
+        while self.request._moment != NEVER:
+            self.request._ring(self.request._moment)
         self.assertIn("took longer than 1000 s", str(late.exception(0)))
         self.assertEqual(given.result(0), "x")
 
-    def test_a_limit_that_is_set_while_time_passes(self):
-        """It gets a moment that hasn't passed: what it gives isn't at hand by now."""
+    def test_a_limit_for_a_moment_that_has_passed(self):
+        """It is due at once."""
+        self.request._ring(LATER)
+        self.assertIsInstance(self.request.promise().or_timeout(0.01).exception(20), TimeoutError)
 
-        class Passing(_machine.Limits):
-            def setdefault(it, moment, given):
-                it.passed = max(it.passed, 7)
-                return super().setdefault(moment, given)
-
-        limits, limit = Passing(), _machine.Limit(self.request.promise(), 1, True, 0)
-        limits.add(limit, 5)
-        self.assertEqual((limit.moment, limits), (8, {8: limit}))
+    def test_an_alarm_for_a_limit_that_is_not_needed(self):
+        """Behind it the next limit is asked for."""
+        first, second = self.request.promise().or_timeout(0.02), self.request.promise().complete_on_timeout(7, 0.1)
+        first.complete(1)
+        self.assertEqual(second.result(20), 7)
 
     def test_one_alarm_for_all_limits_of_a_request(self):
         clock = self.service._works.clock
@@ -168,7 +155,7 @@ class Limits(Case):
         first.add_done_callback(leaves)
         with self.assertLogs("concurrent.futures", "CRITICAL"):
             first.or_timeout(0.01), second.or_timeout(0.1)
-            self.assertIsInstance(second.exception(20), concurrent.futures.TimeoutError)
+            self.assertIsInstance(second.exception(20), TimeoutError)
 
     def test_what_a_timer_held_may_use_the_clock(self):
         """A value that a timer lets go of is freed where no lock is held."""
@@ -213,45 +200,28 @@ class Limits(Case):
         refused = self.request.promise()
         with starting(no_thread), self.assertRaises(RuntimeError):
             refused.or_timeout(0.01)
-        self.assertEqual(self.request._limits, {})
+        self.assertEqual(self.request._moment, NEVER)
         self.assertEqual(self.request.promise().complete_on_timeout(1, 0.05).result(20), 1)
         self.assertFalse(refused.done())
 
-    def test_limits_that_never_come_take_no_room(self):
-        """The number of an exception that is never made is the next limit's. Those of limits that are open differ."""
+    def test_each_limit_has_its_exception(self):
+        """Its text has the name that the stage has then."""
         timed = self.request
-        for _ in range(100):
-            timed.promise().or_timeout(1000).complete(1)
-        late, early = timed.promise("late").or_timeout(2000), timed.promise("early").or_timeout(1000)
-        self.assertEqual(len(timed._errors), 3)
-        timed._ring(max(timed._limits))
+        late, early = timed.promise().or_timeout(2000), timed.promise("early").or_timeout(1000)
+        late.named("late")
+        timed._ring(LATER)
         texts = ["late took longer than 2000 s", "early took longer than 1000 s"]
         self.assertEqual([str(stage.exception(0)) for stage in (late, early)], texts)
-        next_one = timed.promise("next").or_timeout(1)
-        timed._ring(max(timed._limits))
-        self.assertEqual(str(next_one.exception(0)), "next took longer than 1 s")
         self.assertEqual([str(stage.then(inc).exception(20)) for stage in (late, early)], texts)
 
     def test_a_limit_that_comes_once_more_before_it_is_let_go(self):
         """Its stage has been told, and those behind it have the same exception."""
         timed = self.request
         late = timed.promise()
-        late.add_done_callback(lambda _: timed._ring(max(timed._limits)))
+        late.add_done_callback(lambda _: timed._ring(LATER))
         late.or_timeout(1000)
-        timed._ring(max(timed._limits))
+        timed._ring(LATER)
         self.assertIs(late.then(inc).exception(20), late.exception(0))
-
-    def test_a_limit_that_an_interrupt_forgot(self):
-        """Its stage times out all the same, without a text, and no other limit gets its number."""
-        timed = self.request
-        late = timed.promise().or_timeout(1000)
-        (limit,) = timed._limits.values()
-        limit.release()
-        next_one = timed.promise("next").or_timeout(2000)
-        timed._ring(max(timed._limits))
-        self.assertEqual([str(stage.exception(0)) for stage in (late, next_one)], ["", "next took longer than 2000 s"])
-        self.assertEqual([type(stage.exception(0)) for stage in (late, late.then(inc))], [TimeoutError] * 2)
-        self.assertEqual([type(error) for error in timed.history().errors], [type(None), type(None), TimeoutError])
 
     def test_an_alarm_that_is_set_as_those_that_are_left_are_taken_out(self):
         """As what is collected meanwhile may do."""
@@ -299,8 +269,7 @@ class Causes(Case):
     def test_a_timeout_that_comes_too_late_changes_no_exception(self):
         """Of a stage whose limit is over, before that was told."""
         late = self.request.promise("late").or_timeout(1000)
-        with unittest.mock.patch.object(type(self.request), "_announce_settled", lambda _: None):
-            self.request._ring(time.monotonic_ns() + 10**15)
+        self.request._ring(LATER)
         self.assertFalse(self.request._change(FAIL_AS, CLIENT, late, TimeoutError("another")))
         self.assertIn("took longer than 1000", str(late.exception(20)))
 
@@ -310,7 +279,7 @@ class Causes(Case):
         source = timed.promise()
         behind = source.then(inc)
         handled = behind.handle(lambda _, error: error)
-        behind.add_done_callback(lambda _: timed._ring(time.monotonic_ns() + 10**15))
+        behind.add_done_callback(lambda _: timed._ring(LATER))
         behind.or_timeout(1000)
         self.assertTrue(source.cancel())
         self.assertIsInstance(behind.exception(20), concurrent.futures.CancelledError)
@@ -338,7 +307,7 @@ class Causes(Case):
     def test_of_two_that_are_over_by_now_the_earlier_one_is_told(self):
         late, early = self.request.promise().or_timeout(2000), self.request.promise().or_timeout(1000)
         first = self.request.first_of(late, early)
-        self.request._ring(max(self.request._limits))
+        self.request._ring(LATER)
         self.assertIs(first.exception(0), early.exception(0))
 
     def test_a_slow_function_behind_a_limit_holds_up_no_other_limit(self):
@@ -380,7 +349,7 @@ class Causes(Case):
         timed = self.service.request(describe=describe)
         timed.promise().or_timeout(1000)
         self.assertEqual(timed.history().errors, [None, None])
-        timed._ring(max(timed._limits))
+        timed._ring(LATER)
         self.assertEqual((timed.history().errors, [type(it) for it in described]), ([None, "so"], [TimeoutError]))
 
     def test_a_bad_answer_is_told_as_one(self):

@@ -12,7 +12,6 @@ import unittest
 
 from case import Case, CoreCase, Oops, until
 from cf.service import Service
-from cf.service._core import IS_MODULE
 from cf.service.waits import AwaitedFuture
 from cf.service.watch import Watch
 from cf.service.words import VALUE
@@ -133,8 +132,6 @@ class WaitersThatRaise(CoreCase):
                 if self.error is not None and self.told == 1:
                     raise self.error
 
-        if not IS_MODULE:
-            self.skipTest("by ctypes an interrupt may lose a waiter, as within concurrent.futures")
         awaited, got = self.request.promise(), []
         waits = threading.Thread(target=lambda: got.append(awaited.result(60)), daemon=True)
         waits.start()

@@ -62,6 +62,13 @@ class Commands(Case):
         with self.assertRaises(SystemExit):
             self.run_it("what")
 
+    def test_a_request_is_cancelled_from_its_last_stage_on(self):
+        service = self.service()
+        service.request("order 19").promise("answer").recover(f.text)
+        self.assertEqual(self.run_it("end", "order 19", "--cancel")[1], "order 19 is closed, 2 stages were cancelled\n")
+        told = [it for it in self.run_it("show", "order 19")[1].splitlines() if "cancels" in it]
+        self.assertEqual([it.split("cancels")[1] for it in told], [" 1 text", " 0 answer"])
+
     def test_names_forge_no_lines(self):
         service = self.service()
         for name in ("order 1\norder 2  5 s  9 words  0 of 3 stages wait", "\x1b[31mred\x1b[0m \x1b]0;title\x07", "\u202eevil"):

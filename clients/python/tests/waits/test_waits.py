@@ -6,6 +6,7 @@
 With CF_STATES=1 each world's states and ends are printed.
 """
 import asyncio
+import contextlib
 import logging
 import os
 import sys
@@ -308,8 +309,6 @@ class TurnsOfThreads(Case):
 class Limits(dict):
     """Others may come as soon as somebody has looked whether there are any."""
 
-    alarm = -1, -1
-
     def __bool__(self):
         are_some = len(self) > 0
         look("limits")
@@ -322,21 +321,25 @@ class Limited:
     def __init__(self, clock):
         self.clock, self._limits, self.rung = clock, Limits(), []
 
+    @property
+    def _moment(self):
+        return min(self._limits, default=waits.NEVER) if self._limits else waits.NEVER
+
     def limit(self, moment):
-        self._limits[moment] = True
         self.clock.ask_for_alarm(self, moment)
+        self._limits[moment] = True
+        self.clock.ask_for_alarm(self)
 
     def settle(self, moment):
-        if self._limits.pop(moment, None) and not self._limits:
-            self.clock.drop_alarm(self)
+        if self._limits.pop(moment, None):
+            self.clock.ask_for_alarm(self)
 
     def _ring(self, now):
         for moment in sorted(self._limits):
             if moment <= now:
                 del self._limits[moment]
                 self.rung.append(moment)
-        if self._limits:
-            self.clock.ask_for_alarm(self, min(self._limits))
+        self.clock.ask_for_alarm(self)
 
 
 class LedClock(waits.Clock):
@@ -355,11 +358,20 @@ class Times(Case):
     def test_of_two_limits_each_comes(self):
         def world(led):
             clock = LedClock()
-            request, other = Limited(clock), Limited(clock)
+            request = Limited(clock)
             led.plays(lambda: request.limit(20))
             led.plays(lambda: request.limit(10))
+            led.at_end(lambda: self.assertEqual(sorted(request.rung), [10, 20]))
+
+        self.in_every_order(world)
+
+    def test_of_two_requests_each_limit_comes(self):
+        def world(led):
+            clock = LedClock()
+            request, other = Limited(clock), Limited(clock)
+            led.plays(lambda: request.limit(20))
             led.plays(lambda: other.limit(15))
-            led.at_end(lambda: self.assertEqual((sorted(request.rung), other.rung), ([10, 20], [15])))
+            led.at_end(lambda: self.assertEqual((request.rung, other.rung), ([20], [15])))
 
         self.in_every_order(world)
 
@@ -389,7 +401,7 @@ class Times(Case):
 
             led.plays(settled)
             led.plays(lambda: request.limit(20))
-            led.at_end(lambda: self.assertEqual((request.rung in ([20], [10, 20]), dict(request._limits)), (True, {})))
+            led.at_end(lambda: self.assertEqual((sorted(request.rung) in ([20], [10, 20]), dict(request._limits)), (True, {})))
 
         self.in_every_order(world)
 
@@ -406,7 +418,7 @@ class Times(Case):
             led.plays(lambda: (request.limit(20), request.limit(30)))
 
             def ended():
-                moment, number = request._limits.alarm
+                moment, number = request._alarm
                 self.assertEqual((moment, number in clock._wanted, set(request._limits)), (20, True, {20, 30}))
 
             led.at_end(ended)
@@ -420,11 +432,12 @@ class Times(Case):
 
             def limits():
                 for one, moment in ((request, 10), (other, 20)):
-                    try:
+                    with contextlib.suppress(RuntimeError):
                         one.limit(moment)
-                    except RuntimeError:
-                        one._limits.clear()
-                other.limit(30)
+                try:
+                    other.limit(30)
+                except RuntimeError:
+                    other.limit(30)
 
             led.plays(limits)
             led.at_end(lambda: self.assertEqual((request._limits, other._limits, 30 in other.rung), ({}, {}, True)))
@@ -444,7 +457,7 @@ class Times(Case):
                 surely(lambda: other.limit(20))
 
             led.plays(limits)
-            led.at_end(lambda: self.assertEqual((request._limits, other.rung), ({}, [20])))
+            led.at_end(lambda: self.assertEqual((request._limits, set(other.rung)), ({}, {20})))
 
         self.in_every_order(world, interrupts=1)
 
@@ -734,7 +747,7 @@ class Loops(Case):
             led.plays(lambda: (request.limit(1500), request.settle(1500)))
 
             def ended():
-                self.assertEqual((request.rung in ([3000], [1500, 3000]), dict(request._limits), loop.timers), (True, {}, []))
+                self.assertEqual((sorted(request.rung) in ([3000], [1500, 3000]), dict(request._limits), loop.timers), (True, {}, []))
 
             led.at_end(ended)
 

@@ -106,7 +106,7 @@ class Actions:
         many = 0
 
         def decide(view: RowView) -> Any:
-            left = [stage for stage in range(len(view.kinds)) if not view.is_settled(stage)][:MOST_AT_ONCE]
+            left = [stage for stage in reversed(range(len(view.kinds))) if not view.is_settled(stage)][:MOST_AT_ONCE]
             return [_cancel(view, stage) for stage in left]
 
         while True:

@@ -16,6 +16,7 @@ from pathlib import Path
 from typing import Any, Callable, Dict, List, Mapping, Optional, Tuple
 from urllib.parse import parse_qs, urlsplit
 
+from ...service.exposition import CONTENT_TYPE
 from ..rows import Broken, Gone, Store, StoreError, Unknown
 from . import lists, metrics
 from .actions import Actions, Misused
@@ -270,7 +271,7 @@ class Handler(BaseHTTPRequestHandler):
             "/live": lambda: self._live(given),
             "/payload": lambda: self._json(200, server.details.payload(given.get("name", ""), _number(given, "number"), _number(given, "place"))),
             "/picture": lambda: self._picture(given),
-            "/metrics": lambda: self._send(200, "text/plain; version=0.0.4", metrics.text_of(server.board).encode()),
+            "/metrics": lambda: self._send(200, CONTENT_TYPE, metrics.text_of(server.board).encode()),
         }
         answer = pages.get(path)
         if answer is None:
