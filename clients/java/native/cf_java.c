@@ -1,6 +1,6 @@
 /* The library's requests as native methods of cf.service.Machine, and its plans and histories as those of cf.internal.Native.
  *
- * A core is a request of the library (docs/REQUEST.md) with a block of memory that Java reads and writes by a direct buffer, so that one
+ * A core is a request of the library (docs/REQUEST.md) with a block of memory (block.h) that Java reads and writes by a direct buffer, so that one
  * crossing does some words and brings back the reply, the stages that were settled, and those whose functions are to be called. Its caller
  * has it alone: that is a request's lock. A core whose request is closed keeps what it has, and starts again for the next one of its plan.
  *
@@ -17,7 +17,7 @@
  * Each class loader has a library of its own with variables of its own, and cores of its own: what is left of them when the loader goes,
  * JNI_OnUnload frees. An asynchronous exception (Thread.stop) comes once a call has returned. No JNI function is called with one pending. */
 #define _GNU_SOURCE
-#include "cf.h"
+#include "block.h"
 #include <jni.h>
 #include <pthread.h>
 #include <stddef.h>
@@ -29,41 +29,7 @@
 #include <x86intrin.h>
 #endif
 
-enum { WORDS = 64, MOST = 4096, TOLD = 128, CLAIMED = 32, READY = 64, FEW = 12 };
-
-/* Lanes: a stage's function is called by the thread that made the stage ready, or by an executor. */
-enum { HERE = 0, BY_EXECUTOR = 1, LANES = 2 };
-
-/* In whose name a machine itself settles stages: CLOCK of Request.java. */
-enum { OWN = 1 };
-
-/* The lowest bit of each field of a reply; Machine.java has the widths, too. */
-enum REPLY { REPLY_ANSWER = 8, REPLY_SETTLED = 12, REPLY_CLAIMED = 20, REPLY_READY = 26, REPLY_MORE = 33, REPLY_WORDS = 34 };
-
-/* What Java reads and writes, in the machine's order of bytes; Machine.java has the places. */
-struct block {
-  int32_t done;     /* how many of the words that waited were done */
-  int32_t number;   /* of the reply */
-  int32_t events;   /* how many words were done */
-  int32_t moments;  /* how many moments are kept */
-  int32_t args[10]; /* of a reply that nobody claims behind: those of cf_args */
-  int64_t due;      /* the moment of the next deadline */
-  uint64_t words[WORDS];
-  uint8_t lanes[WORDS];
-  struct {
-    uint32_t what;
-    int32_t number;
-  } told[TOLD];
-  struct {
-    uint32_t stage, kind;
-    int32_t first, second;
-  } claimed[CLAIMED];
-  uint16_t ready[READY]; /* stages whose functions executors call */
-};
-_Static_assert(offsetof(struct block, args) == 16 && offsetof(struct block, due) == 56 && offsetof(struct block, words) == 64 &&
-                   offsetof(struct block, lanes) == 576 && offsetof(struct block, told) == 640 && offsetof(struct block, claimed) == 1664 &&
-                   offsetof(struct block, ready) == 2176,
-    "the places in Machine.java");
+enum { FEW = 12 };
 
 /* Of all cores, and of all plans, that aren't freed. It stands first in each. */
 struct link {
@@ -95,14 +61,6 @@ struct plan {
 };
 
 static struct plan empty; /* without stages */
-
-/* What one crossing is told. */
-struct crossing {
-  struct core *core;
-  cf_told told[TOLD];
-  size_t n, claimed, ready;
-  bool more; /* whether something had no place */
-};
 
 #define CORE(at) ((struct core *)(intptr_t)(at))
 #define PLAN(at) ((at) ? (struct plan *)(intptr_t)(at) : &empty)
@@ -208,159 +166,144 @@ METHOD(jboolean, hasStack)(JNIEnv *env, jclass class) {
   return (char *)__builtin_frame_address(0) > least;
 }
 
-/* So many stages were to be told: they stand in the row as far as there is room. */
-INLINE void take(struct crossing *it, size_t told) {
-  size_t room = TOLD - it->n;
-  it->more |= told > room;
-  it->n += told < room ? told : room;
+/* Where a call tells stages that are settled, and for how many there is room. */
+#define ROW(core) (core)->block.settled + (core)->block.settled_count, (size_t)(TOLD - (core)->block.settled_count)
+
+/* The last call had stages to tell, which stand in the row as far as there was room. */
+INLINE void take(struct core *core) {
+  struct block *block = &core->block;
+  size_t told = block->todo.told, room = (size_t)(TOLD - block->settled_count);
+  block->has_more |= told > room;
+  block->settled_count += (int32_t)(told < room ? told : room);
 }
 
+/* Whether a word is of this call (docs/FORMATS.md). */
+INLINE bool is_call(uint64_t word, uint32_t call) { return word >> 56 == call + 1; }
+
 /* One word, with room for its stage. */
-INLINE uint32_t do_word(struct crossing *it, uint64_t word, uint8_t lane, cf_applied *applied) {
-  struct core *core = it->core;
-  uint32_t code = cf_request_apply(&core->request, word, lane, applied, it->told + it->n, TOLD - it->n);
+INLINE uint32_t do_word(struct core *core, uint64_t word, uint8_t lane, cf_reply *reply) {
+  uint32_t code = cf_request_apply(&core->request, word, lane, reply, ROW(core), &core->block.todo);
   if (code == CF_NO_ROOM) {
     code = cf_request_grow(&core->request);
-    if (code == CF_OK) code = cf_request_apply(&core->request, word, lane, applied, it->told + it->n, TOLD - it->n);
+    if (code == CF_OK) code = cf_request_apply(&core->request, word, lane, reply, ROW(core), &core->block.todo);
   }
   if (code != CF_OK) return code;
-  take(it, applied->told);
+  take(core);
   core->block.events++;
   core->has_executors |= lane == BY_EXECUTOR;
   return CF_OK;
 }
 
 /* The words that waited: of stages that nothing can be told of yet. A stage that is ready by its own word was handed over as it was attached. */
-INLINE uint32_t do_waiting(struct crossing *it, jint waiting) {
-  struct block *block = &it->core->block;
-  bool heard = it->core->heard == (size_t)block->events;
+INLINE uint32_t do_waiting(struct core *core, jint waiting) {
+  struct block *block = &core->block;
+  bool heard = core->heard == (size_t)block->events;
   uint32_t code = CF_OK;
-  cf_applied did;
+  cf_reply did;
   block->done = 0;
   if (waiting < 0 || waiting > WORDS) return CF_NO_WORD;
   while (code == CF_OK && block->done < waiting) {
-    code = do_word(it, block->words[block->done], block->lanes[block->done], &did);
+    code = do_word(core, block->words[block->done], block->lanes[block->done], &did);
     if (code == CF_OK) block->done++;
   }
-  if (waiting > 0) time_events(it->core, it->core->since);
-  if (heard) it->core->heard = (size_t)block->events;
+  if (waiting > 0) time_events(core, core->since);
+  if (heard) core->heard = (size_t)block->events;
   return code;
 }
 
-/* A function to be called, with the numbers of its values, or -1 for none; or the kind of its outcome, with a value or a code. */
-INLINE void write_claim(struct crossing *it, uint32_t stage, const cf_args *args) {
-  struct block *block = &it->core->block;
-  uint32_t kind = args->kind;
-  int32_t first = args->first.kind == CF_NIL ? -1 : args->first.number, second = args->second.kind == CF_NIL ? -1 : args->second.number;
-  if (kind == CF_GOT) {
-    const cf_outcome *outcome = &args->outcome;
-    kind |= outcome->kind << 4 | outcome->wrapped << 8;
-    first = outcome->kind != CF_VALUE ? (int32_t)outcome->code : outcome->value.kind == CF_NIL ? -1 : outcome->value.number;
+/* The number of a value, or -1 for null. */
+INLINE int32_t number_of(cf_value value) { return value.kind == CF_NIL ? -1 : value.number; }
+
+INLINE void write_claim(struct core *core, uint16_t stage, const cf_args *args) {
+  const cf_outcome *outcome = &args->outcome;
+  struct claimed it = {.stage = stage, .kind = (uint8_t)args->kind, .first = number_of(args->first), .second = number_of(args->second)};
+  if (args->kind == CF_GOT) {
+    it.outcome = (uint8_t)outcome->kind, it.is_wrapped = (uint8_t)outcome->wrapped;
+    it.first = outcome->kind == CF_VALUE ? number_of(outcome->value) : (int32_t)outcome->code;
   }
-  block->claimed[it->claimed].stage = stage, block->claimed[it->claimed].kind = kind;
-  block->claimed[it->claimed].first = first, block->claimed[it->claimed].second = second;
-  it->claimed++;
+  core->block.claimed[core->block.claimed_count++] = it;
 }
 
 /* One step of a caller: finishes what the task holds, if it does, and claims the lowest stage whose function the caller calls itself. */
-INLINE uint32_t step(struct crossing *it, uint8_t who, cf_task *task) {
-  cf_request_step step = {who, HERE, 0};
-  uint32_t held = task->held, code = cf_request_next(&it->core->request, &step, task, it->told + it->n, TOLD - it->n);
+INLINE uint32_t step(struct core *core, uint8_t who, cf_task *task) {
+  uint32_t held = task->held, code = cf_request_next(&core->request, who, HERE, task, ROW(core), &core->block.todo);
   if (code != CF_OK && code != CF_NOTHING) return code;
-  take(it, step.told);
-  it->core->block.events += (int32_t)held + (code == CF_OK);
-  if (code == CF_OK) write_claim(it, task->stage, &task->args);
+  take(core);
+  core->block.events += (int32_t)held + (code == CF_OK);
+  if (code == CF_OK) write_claim(core, task->stage, &task->args);
   return CF_OK;
 }
 
 /* Claims all other stages whose functions the caller calls itself. What has no place or fails here is done by whoever asks for more. */
-INLINE uint32_t claim_all(struct crossing *it, jint who) {
-  uint16_t left = 0;
+INLINE uint32_t claim_all(struct core *core, jint who) {
+  const uint16_t *left = &core->block.todo.ready[HERE];
   uint32_t code = CF_OK;
-  if (who >= 0) cf_request_ready(&it->core->request, HERE, &left);
-  for (; left > 0 && code == CF_OK && it->claimed < CLAIMED; left--) {
+  while (who >= 0 && *left > 0 && code == CF_OK && core->block.claimed_count < CLAIMED) {
     cf_task task = {0};
-    code = step(it, (uint8_t)who, &task);
+    code = step(core, (uint8_t)who, &task);
   }
-  it->more |= left > 0 || code != CF_OK;
+  core->block.has_more |= who >= 0 && (*left > 0 || code != CF_OK);
   return code;
 }
 
 /* Which stages became ready whose functions executors call, by the events that weren't looked at. What is ready is of no other lane, once all
  * that was ready for the thread that calls is claimed. */
-static void hear(struct crossing *it) {
-  struct core *core = it->core;
+static void hear(struct core *core) {
   struct block *block = &core->block;
-  uint16_t ready = 0, here = 0, stages[MOST];
-  cf_request_ready(&core->request, BY_EXECUTOR, &ready);
-  if (ready > 0) cf_request_ready(&core->request, HERE, &here);
-  if (here > 0) return;
-  for (; ready > 0 && core->heard < (size_t)block->events; core->heard++, core->within = 0) {
+  const uint16_t *ready = block->todo.ready;
+  uint16_t stages[MOST];
+  if (ready[BY_EXECUTOR] > 0 && ready[HERE] > 0) return;
+  for (; ready[BY_EXECUTOR] > 0 && core->heard < (size_t)block->events; core->heard++, core->within = 0) {
     size_t n = 0;
     cf_ledger_news(&core->request, core->heard, stages, MOST, &n);
     for (; core->within < n; core->within++) {
       uint16_t stage = stages[core->within];
       cf_stage now;
       if (cf_ledger_stage(&core->request, stage, &now) != CF_OK || now.kind != CF_IS_READY) continue;
-      if (it->ready == READY) {
-        it->more = true;
+      if (block->ready_count == READY) {
+        block->has_more = true;
         return;
       }
-      block->ready[it->ready++] = stage;
+      block->ready[block->ready_count++] = stage;
     }
   }
   core->heard = (size_t)block->events, core->within = 0;
 }
 
-/* 12 bits of the stage; from 16 on the outcome's kind, whether it is wrapped, whether its value is a number. */
-INLINE void write_told(struct block *block, size_t k, uint32_t stage, const cf_outcome *outcome) {
-  block->told[k].what = stage | outcome->kind << 16 | outcome->wrapped << 20 | (uint32_t)(outcome->value.kind != CF_NIL) << 21;
-  block->told[k].number = outcome->kind == CF_VALUE ? outcome->value.number : (int32_t)outcome->code;
+/* The beginning of a crossing: nothing is brought yet. */
+INLINE struct core *begin(jlong at) {
+  struct block *block = &CORE(at)->block;
+  block->answer = block->settled_count = block->claimed_count = block->ready_count = block->has_more = block->has_words = 0;
+  return CORE(at);
 }
 
-/* The end of a crossing: the reply. Its lowest bits are the code. */
-INLINE jlong end(struct crossing *it, uint32_t code, uint32_t answer) {
-  struct core *core = it->core;
+/* The end of a crossing, which gives its code. */
+INLINE jint end(struct core *core, uint32_t code) {
+  struct block *block = &core->block;
   size_t left;
-  if (core->settles && cf_ledger_words(&core->request, (size_t)core->block.events, NULL, 0, &left) == CF_OK)
-    core->block.events += (int32_t)left;
-  if (core->has_executors) hear(it);
-  else core->heard = (size_t)core->block.events;
+  if (core->settles && cf_ledger_words(&core->request, (size_t)block->events, NULL, 0, &left) == CF_OK) block->events += (int32_t)left;
+  if (core->has_executors) hear(core);
+  else core->heard = (size_t)block->events;
   time_events(core, ticks());
-  for (size_t k = 0; k < it->n; k++) write_told(&core->block, k, it->told[k].stage, &it->told[k].outcome);
-  return (jlong)((uint64_t)code | (uint64_t)answer << REPLY_ANSWER | (uint64_t)it->n << REPLY_SETTLED |
-                 (uint64_t)it->claimed << REPLY_CLAIMED | (uint64_t)it->ready << REPLY_READY | (uint64_t)it->more << REPLY_MORE);
-}
-
-INLINE void begin(struct crossing *it, jlong at) { it->core = CORE(at), it->n = it->claimed = it->ready = 0, it->more = false; }
-
-static void write_args(int32_t *to, const cf_args *args) {
-  const cf_outcome *outcome = &args->outcome;
-  to[0] = (int32_t)args->kind;
-  to[1] = (int32_t)args->first.kind, to[2] = args->first.number;
-  to[3] = (int32_t)args->second.kind, to[4] = args->second.number;
-  to[5] = (int32_t)outcome->kind, to[6] = (int32_t)outcome->wrapped, to[7] = (int32_t)outcome->code;
-  to[8] = (int32_t)outcome->value.kind, to[9] = outcome->value.number;
+  return (jint)code;
 }
 
 /* Does the words that wait, and then this one, if it isn't 0. Where `who` isn't negative, it claims for that caller: the stage that the word
  * claims, or else all that are ready for whoever made them ready. */
-INLINE jlong apply(jlong at, jint waiting, jlong word, jint lane, jint who) {
-  struct crossing it;
-  cf_applied did = {0};
-  begin(&it, at);
-  uint32_t code = do_waiting(&it, waiting);
-  if (code == CF_OK && word != 0) code = do_word(&it, (uint64_t)word, (uint8_t)lane, &did);
+INLINE jint apply(jlong at, jint waiting, jlong word, jint lane, jint who) {
+  struct core *core = begin(at);
+  cf_reply *reply = &core->block.reply;
+  uint32_t code = do_waiting(core, waiting);
+  if (code == CF_OK && word != 0) code = do_word(core, (uint64_t)word, (uint8_t)lane, reply);
   if (code == CF_OK && word != 0) {
-    it.core->block.number = (int32_t)did.reply.number;
-    if (who < 0) write_args(it.core->block.args, &did.reply.args);
-    else if ((uint64_t)word >> 56 != 4) claim_all(&it, who);
-    else if (did.reply.answer == CF_GRANTED) write_claim(&it, (uint32_t)(word >> 36 & 0xfff), &did.reply.args);
+    core->block.answer = (int32_t)reply->answer;
+    if (!is_call((uint64_t)word, CF_CALL_CLAIM)) claim_all(core, who);
+    else if (who >= 0 && reply->answer == CF_GRANTED) write_claim(core, (uint16_t)(word >> 36 & 0xfff), &reply->args);
   }
-  return end(&it, code, did.reply.answer);
+  return end(core, code);
 }
 
-CALL(jlong, apply)(JNIEnv *env, jobject machine, jlong at, jint waiting, jlong word, jint lane, jint who) {
+CALL(jint, apply)(JNIEnv *env, jobject machine, jlong at, jint waiting, jlong word, jint lane, jint who) {
   (void)env, (void)machine;
   return apply(at, waiting, word, lane, who);
 }
@@ -375,127 +318,115 @@ INLINE bool write_words(struct core *core) {
 }
 
 /* The finish of a stage that somebody else has settled: its word says so. */
-static uint32_t finish_late(struct crossing *it, uint8_t who, cf_task *task) {
-  const cf_answer *answer = &task->answer;
-  uint64_t tag = answer->kind == CF_THROW ? 2 : answer->value.kind == CF_INT ? 1 : 0;
-  uint32_t given = tag == 2 ? answer->code : (uint32_t)answer->value.number;
-  cf_applied did = {0};
-  uint32_t code =
-      do_word(it, (uint64_t)5 << 56 | (uint64_t)(who & 63) << 48 | (uint64_t)(task->stage & 0xfff) << 36 | tag << 32 | given, HERE, &did);
-  task->finished = did.reply.answer;
-  return code;
+static uint32_t finish_late(struct core *core, uint8_t who, const cf_task *task, cf_reply *reply) {
+  cf_event event = {.call = CF_CALL_FINISH, .who = who, .stage = task->stage, .answer = task->answer};
+  uint64_t word;
+  uint32_t code = cf_word_of_event(&event, &word);
+  return code == CF_OK ? do_word(core, word, HERE, reply) : code;
 }
 
 /* Finishes a stage that the caller has claimed, by a value's number, -1 for null, or by an exception's code. Then it claims as `apply` does.
- * Where this is the last finish, it also brings the words, if they are few: REPLY_WORDS says so. */
-CALL(jlong, finish)
+ * Where this is the last finish, it also brings the words, if they are few. */
+CALL(jint, finish)
 (JNIEnv *env, jobject machine, jlong at, jint waiting, jint stage, jboolean throws, jint number, jint who, jboolean last) {
   (void)env, (void)machine;
-  struct crossing it;
-  begin(&it, at);
+  struct core *core = begin(at);
   cf_task task = {.held = 1, .stage = (uint16_t)stage};
   task.answer.kind = throws ? CF_THROW : CF_GIVE, task.answer.code = (uint32_t)number;
   task.answer.value.kind = number < 0 ? CF_NIL : CF_INT, task.answer.value.number = number < 0 ? 0 : number;
-  uint32_t code = do_waiting(&it, waiting);
-  if (code == CF_OK) code = step(&it, (uint8_t)who, &task);
-  if (code == CF_NOT_HELD) code = finish_late(&it, (uint8_t)who, &task);
-  if (code == CF_OK && task.held) claim_all(&it, who);
-  jlong reply = end(&it, code, task.finished);
-  return last && code == CF_OK && write_words(it.core) ? reply | (jlong)1 << REPLY_WORDS : reply;
+  uint32_t code = do_waiting(core, waiting);
+  if (code == CF_OK) code = step(core, (uint8_t)who, &task);
+  core->block.answer = (int32_t)task.finished;
+  if (code == CF_NOT_HELD) {
+    cf_reply did = {0};
+    code = finish_late(core, (uint8_t)who, &task, &did);
+    core->block.answer = (int32_t)did.answer;
+  }
+  if (code == CF_OK && task.held) claim_all(core, who);
+  code = (uint32_t)end(core, code);
+  core->block.has_words = last && code == CF_OK && write_words(core);
+  return (jint)code;
 }
 
 /* Finishes a stage by this word, which links it to a relay, unless it is 0. If that was in time, the relay follows a stage from now on. */
-CALL(jlong, link)(JNIEnv *env, jobject machine, jlong at, jint waiting, jlong word, jint relay, jint stage, jint who) {
+CALL(jint, link)(JNIEnv *env, jobject machine, jlong at, jint waiting, jlong word, jint relay, jint stage, jint who) {
   (void)env, (void)machine;
-  struct crossing it;
-  cf_applied did = {0};
-  size_t told = 0;
-  begin(&it, at);
-  uint32_t code = do_waiting(&it, waiting);
-  if (code == CF_OK && word != 0) code = do_word(&it, (uint64_t)word, HERE, &did);
-  if (code != CF_OK) return end(&it, code, 0);
-  if (did.reply.answer == CF_WON && relay >= 0) {
-    it.core->settles = true;
-    code = cf_request_follow(&it.core->request, (uint16_t)relay, (uint16_t)stage, it.told + it.n, TOLD - it.n, &told);
-    take(&it, told);
+  cf_reply did = {0};
+  struct core *core = begin(at);
+  uint32_t code = do_waiting(core, waiting);
+  if (code == CF_OK && word != 0) code = do_word(core, (uint64_t)word, HERE, &did);
+  if (code != CF_OK) return end(core, code);
+  core->block.answer = (int32_t)did.answer;
+  if (did.answer == CF_WON && relay >= 0) {
+    core->settles = true;
+    code = cf_request_follow(&core->request, (uint16_t)relay, (uint16_t)stage, ROW(core), &core->block.todo);
+    if (code == CF_OK) take(core);
   }
-  claim_all(&it, who);
-  return end(&it, code, did.reply.answer);
+  claim_all(core, who);
+  return end(core, code);
 }
 
 /* Does the words that wait, and attaches stages of this form that wait for all of these stages, or for one of them: no function is ready then. */
-CALL(jlong, gather)(JNIEnv *env, jobject machine, jlong at, jint waiting, jint form, jshortArray sources, jint who) {
+CALL(jint, gather)(JNIEnv *env, jobject machine, jlong at, jint waiting, jint form, jshortArray sources, jint who) {
   (void)machine;
-  struct crossing it;
   cf_request_gathering step = {.who = (uint8_t)who, .form = (uint32_t)form};
-  begin(&it, at);
-  uint32_t code = do_waiting(&it, waiting);
-  if (code != CF_OK) return end(&it, code, 0);
-  cf_handle *request = &it.core->request;
-  bool heard = it.core->heard == (size_t)it.core->block.events;
+  struct core *core = begin(at);
+  uint32_t code = do_waiting(core, waiting);
+  if (code != CF_OK) return end(core, code);
+  bool heard = core->heard == (size_t)core->block.events;
   jsize n = (*env)->GetArrayLength(env, sources);
   jshort *of = (*env)->GetShortArrayElements(env, sources, NULL);
-  if (!of) return end(&it, CF_NO_MEMORY, 0);
-  do code = cf_request_gather(request, &step, (const uint16_t *)of, (size_t)n, it.told + it.n, TOLD - it.n);
-  while (code == CF_NO_ROOM && (code = cf_request_grow(request)) == CF_OK);
+  if (!of) return end(core, CF_NO_MEMORY);
+  do code = cf_request_gather(&core->request, &step, (const uint16_t *)of, (size_t)n, ROW(core), &core->block.todo);
+  while (code == CF_NO_ROOM && (code = cf_request_grow(&core->request)) == CF_OK);
   (*env)->ReleaseShortArrayElements(env, sources, of, JNI_ABORT);
-  if (code != CF_OK) return end(&it, code, 0);
-  take(&it, step.told);
-  it.core->block.events += n > 2 ? n - 1 : 1;
-  if (heard) it.core->heard = (size_t)it.core->block.events;
-  return end(&it, code, 0);
+  if (code != CF_OK) return end(core, code);
+  take(core);
+  core->block.events += n > 2 ? n - 1 : 1;
+  if (heard) core->heard = (size_t)core->block.events;
+  return end(core, code);
 }
 
 /* Does the words that wait, and sets a deadline of a stage: it times out then with this number as its code, or gets the value of this number, -1 for
  * null. */
-CALL(jlong, setDeadline)(JNIEnv *env, jobject machine, jlong at, jint waiting, jint stage, jlong moment, jboolean gives, jint number) {
+CALL(jint, setDeadline)(JNIEnv *env, jobject machine, jlong at, jint waiting, jint stage, jlong moment, jboolean gives, jint number) {
   (void)env, (void)machine;
-  struct crossing it;
+  struct core *core = begin(at);
   cf_value value = {number < 0 ? CF_NIL : CF_INT, number < 0 ? 0 : number};
-  begin(&it, at);
-  it.core->settles = true;
-  uint32_t code = do_waiting(&it, waiting), kind = gives ? CF_GIVE_VALUE : CF_TIMEOUT;
-  if (code == CF_OK) code = cf_request_deadline(&it.core->request, (uint16_t)stage, (uint64_t)moment, kind, (uint32_t)number, value);
-  return end(&it, code, 0);
+  core->settles = true;
+  uint32_t code = do_waiting(core, waiting), kind = gives ? CF_GIVE_VALUE : CF_TIMEOUT;
+  if (code == CF_OK)
+    code = cf_request_deadline(&core->request, (uint16_t)stage, (uint64_t)moment, kind, (uint32_t)number, value, &core->block.todo);
+  return end(core, code);
 }
 
-/* Lets time pass up to a moment, and tells that of the next deadline. */
-CALL(jlong, passTimeTo)(JNIEnv *env, jobject machine, jlong at, jint waiting, jlong moment, jint who) {
+/* Lets time pass up to a moment. */
+CALL(jint, passTimeTo)(JNIEnv *env, jobject machine, jlong at, jint waiting, jlong moment, jint who) {
   (void)env, (void)machine;
-  struct crossing it;
-  size_t told = 0;
-  cf_deadline next;
-  begin(&it, at);
-  uint32_t code = do_waiting(&it, waiting);
-  if (code == CF_OK) code = cf_request_pass(&it.core->request, (uint64_t)moment, it.told, TOLD, &told);
-  take(&it, code == CF_OK ? told : 0);
-  if (code == CF_OK) claim_all(&it, who);
-  code = code == CF_PAST_MOMENT ? CF_OK : code;
-  it.core->block.due = INT64_MAX;
-  if (cf_request_next_deadline(&it.core->request, &next) == CF_OK) it.core->block.due = (int64_t)next.moment;
-  return end(&it, code, 0);
+  struct core *core = begin(at);
+  uint32_t code = do_waiting(core, waiting);
+  if (code == CF_OK) code = cf_request_pass(&core->request, (uint64_t)moment, ROW(core), &core->block.todo);
+  if (code == CF_OK) take(core), claim_all(core, who);
+  return end(core, code == CF_PAST_MOMENT ? CF_OK : code);
 }
 
 /* What had no place. */
-CALL(jlong, fetchMore)(JNIEnv *env, jobject machine, jlong at, jint who) {
+CALL(jint, fetchMore)(JNIEnv *env, jobject machine, jlong at, jint who) {
   (void)env, (void)machine;
-  struct crossing it;
-  size_t told = 0;
-  begin(&it, at);
-  cf_request_told(&it.core->request, it.told, TOLD, &told);
-  take(&it, told);
-  uint32_t code = claim_all(&it, who);
-  return end(&it, it.n + it.claimed > 0 ? CF_OK : code, 0);
+  struct core *core = begin(at);
+  cf_request_told(&core->request, ROW(core), &core->block.todo);
+  take(core);
+  uint32_t code = claim_all(core, who);
+  return end(core, core->block.settled_count + core->block.claimed_count > 0 ? CF_OK : code);
 }
 
-/* How a stage was settled, as what is told, in the first place there; else -1. */
+/* How a stage was settled, in the first place of those that are told: that is CF_PENDING where it wasn't. */
 CALL(jint, fetchOutcome)(JNIEnv *env, jobject machine, jlong at, jint stage) {
   (void)env, (void)machine;
   struct core *core = CORE(at);
   cf_stage now;
   uint32_t code = cf_ledger_stage(&core->request, (uint16_t)stage, &now);
-  core->block.told[0].what = UINT32_MAX;
-  if (code == CF_OK && now.kind == CF_IS_SETTLED) write_told(&core->block, 0, (uint32_t)stage, &now.outcome);
+  if (code == CF_OK) core->block.settled[0] = (cf_told){.stage = (uint16_t)stage, .outcome = now.outcome};
   return (jint)code;
 }
 
@@ -550,9 +481,10 @@ CALL(void, setSince)(JNIEnv *env, jobject machine, jlong at, jlong since) {
 INLINE uint32_t open_anew(struct core *core, struct plan *plan, jint room) {
   core->block.moments = core->block.events = 0, core->timed_events = 0;
   core->heard = core->within = 0, core->settles = false;
+  core->block.todo = (cf_todo){.moment = CF_NEVER};
   core->has_executors = plan->has_executors;
   if (core->request.full && core->plan == plan) return cf_request_restart(&core->request);
-  cf_request_sizes sizes = {(uint16_t)room, LANES, OWN};
+  cf_request_sizes sizes = {(uint16_t)room, LANES, CLOCK};
   cf_free(&core->request);
   core->plan = plan;
   pthread_mutex_lock(&plan->lock);
@@ -563,16 +495,16 @@ INLINE uint32_t open_anew(struct core *core, struct plan *plan, jint room) {
 
 /* Does words that were done before, of which everything was told. A bit says of a stage whether an executor calls its function. */
 static uint32_t do_again(struct core *core, const jlong *words, jint n, const jlong *executors, jsize length) {
-  struct crossing it = {.core = core};
   uint32_t code = CF_OK;
-  cf_applied did;
+  cf_reply did;
   for (jint k = 0, stage = (jint)core->plan->stages; k < n && code == CF_OK; k++) {
-    bool attaches = (uint64_t)words[k] >> 56 == 7;
+    bool attaches = is_call((uint64_t)words[k], CF_CALL_ATTACH);
     uint8_t lane = attaches && stage / 64 < length && (uint64_t)executors[stage / 64] >> stage % 64 & 1 ? BY_EXECUTOR : HERE;
-    code = do_word(&it, (uint64_t)words[k], lane, &did);
-    stage += attaches, it.n = 0;
+    code = do_word(core, (uint64_t)words[k], lane, &did);
+    stage += attaches, core->block.settled_count = 0;
   }
-  for (size_t told = TOLD; told >= TOLD && code == CF_OK;) code = cf_request_told(&core->request, it.told, TOLD, &told);
+  do code = code == CF_OK ? cf_request_told(&core->request, ROW(core), &core->block.todo) : code;
+  while (code == CF_OK && core->block.todo.told > TOLD);
   return code;
 }
 
@@ -583,6 +515,7 @@ CALL(jint, open)(JNIEnv *env, jobject machine, jlong at, jlong plan, jint room, 
   if (room < 0 || room > MOST) return CF_ROOM;
   jsize length = kept ? (*env)->GetArrayLength(env, kept) : 0, bits = executors ? (*env)->GetArrayLength(env, executors) : 0;
   if (n < 0 || n > length) return CF_NO_WORD;
+  begin(at);
   uint32_t code = open_anew(core, PLAN(plan), room);
   if (!n || code != CF_OK) return (jint)code;
   jlong *done = (*env)->GetLongArrayElements(env, kept, NULL),
@@ -604,11 +537,11 @@ CALL(jint, open)(JNIEnv *env, jobject machine, jlong at, jlong plan, jint room, 
 
 /* Opens a request of no plan for two words: one that attaches a stage whose function an executor calls, which came at that moment, and then one
  * as `apply` does it. Where it is refused, the core is of no use. */
-CALL(jlong, openWith)(JNIEnv *env, jobject machine, jlong at, jlong attach, jlong since, jlong word, jint who) {
+CALL(jint, openWith)(JNIEnv *env, jobject machine, jlong at, jlong attach, jlong since, jlong word, jint who) {
   (void)env, (void)machine;
   struct core *core = CORE(at);
   uint32_t code = open_anew(core, &empty, 1);
-  if (code != CF_OK) return (jlong)code;
+  if (code != CF_OK) return (jint)code;
   core->block.words[0] = (uint64_t)attach, core->block.lanes[0] = BY_EXECUTOR, core->since = (uint64_t)since;
   return apply(at, 1, word, HERE, who);
 }
@@ -632,26 +565,29 @@ CALL(jint, words)(JNIEnv *env, jobject machine, jlong at, jlongArray into, jint 
   return CF_OK;
 }
 
-/* Builds a plan of rows: form, to which 256 is added where an executor calls the stage's function; function or -1; count of sources; sources. */
-static uint32_t build(JNIEnv *env, jintArray rows, struct plan *plan) {
-  jsize n = (*env)->GetArrayLength(env, rows);
-  jint *row = (*env)->GetIntArrayElements(env, rows, NULL);
-  uint32_t code = row ? cf_builder_new(&plan->handle, 0, 0) : CF_NO_MEMORY;
-  for (jsize k = 0; k < n && code == CF_OK; k += 3 + row[k + 2]) {
+uint32_t build_plan(cf_handle *plan, const int32_t *rows, int32_t n, uint8_t *lanes, size_t *stages) {
+  uint32_t code = cf_builder_new(plan, 0, 0);
+  for (int32_t at = 0; code == CF_OK && at < n; *stages += code == CF_OK) {
+    const int32_t *row = rows + at, left = n - at;
     uint16_t of[MOST], stage;
-    if (n - k < 3 || row[k + 2] < 0 || row[k + 2] > n - k - 3) {
-      code = CF_WRONG_SOURCE_COUNT;
-      break;
+    if (left < PLAN_ROW || row[2] < 0 || row[2] > MOST || row[2] > left - PLAN_ROW) return CF_WRONG_SOURCE_COUNT;
+    for (int32_t k = 0; k < row[2]; k++) {
+      int32_t source = row[PLAN_ROW + k];
+      of[k] = source < 0 || source >= MOST ? UINT16_MAX : (uint16_t)source;
     }
-    for (jint i = 0; i < row[k + 2] && i < MOST; i++) of[i] = (uint16_t)row[k + 3 + i];
-    uint32_t function = row[k + 1] < 0 ? CF_NO_FUNCTION : (uint32_t)row[k + 1], form = (uint32_t)row[k] & 0xff;
-    code = row[k + 2] > MOST ? CF_TOO_MANY_EDGES : cf_builder_stage(&plan->handle, form, of, (size_t)row[k + 2], function, &stage);
-    if (code != CF_OK) break;
-    if (row[k] & 256) plan->lanes[stage] = BY_EXECUTOR, plan->has_executors = true;
-    plan->stages++;
+    uint32_t function = row[1] < 0 ? CF_NO_FUNCTION : (uint32_t)row[1];
+    code = cf_builder_stage(plan, (uint32_t)row[0] & ~(uint32_t)FOR_EXECUTOR, of, (size_t)row[2], function, &stage);
+    if (code == CF_OK && lanes) lanes[stage] = row[0] & FOR_EXECUTOR ? BY_EXECUTOR : HERE;
+    at += PLAN_ROW + row[2];
   }
+  return code == CF_OK ? cf_build(plan) : code;
+}
+
+static uint32_t build(JNIEnv *env, jintArray rows, struct plan *plan) {
+  jint *row = (*env)->GetIntArrayElements(env, rows, NULL);
+  uint32_t code = row ? build_plan(&plan->handle, row, (*env)->GetArrayLength(env, rows), plan->lanes, &plan->stages) : CF_NO_MEMORY;
   if (row) (*env)->ReleaseIntArrayElements(env, rows, row, JNI_ABORT);
-  if (code == CF_OK) code = cf_build(&plan->handle);
+  plan->has_executors = memchr(plan->lanes, BY_EXECUTOR, plan->stages) != NULL;
   if (code != CF_OK) cf_free(&plan->handle);
   return code;
 }

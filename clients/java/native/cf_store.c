@@ -1,9 +1,9 @@
 /* The library's views of rows (docs/C.md, "A row in a store") as native methods of cf.store.NativeRow, and the system's lock of cf.store.Line.
  *
  * What the library is owed, and where it is met: each view stands in a block of its own, which isn't moved; the lock of its request orders the
- * calls that have it (View.java); Row.java keeps it until it is closed, once, and makes no call then. Arrays of Java's are read within their
- * bounds, whatever numbers they hold. No JNI function is called with an exception pending. */
-#include "cf.h"
+ * calls that have it (RowView.java); NativeRow.java keeps it until it is closed, once, and neither makes a call nor reads its block then. Arrays of
+ * Java's are read within their bounds, whatever numbers they hold. No JNI function is called with an exception pending. */
+#include "block.h"
 #include <errno.h>
 #include <fcntl.h>
 #include <jni.h>
@@ -12,41 +12,22 @@
 #include <sys/file.h>
 #include <unistd.h>
 
-enum { MOST = 4096, TOLD = 13, STAGE = 9 };
-
 struct view {
   cf_handle row;
-  cf_news news[64];
+  struct view_block block;
 };
 
 #define VIEW(at) ((struct view *)(intptr_t)(at))
 #define CALL(type, name) JNIEXPORT type JNICALL Java_cf_store_NativeRow_##name
 
-/* Builds a plan of rows, as cf_java.c has them: form, function or -1, count of sources, sources. */
-static uint32_t build(cf_handle *plan, const jint *rows, jsize n) {
-  uint32_t code = cf_builder_new(plan, 0, 0);
-  for (jsize at = 0; code == CF_OK && at < n;) {
-    uint16_t of[MOST], stage;
-    if (n - at < 3 || rows[at + 2] < 0 || rows[at + 2] > MOST || n - at - 3 < rows[at + 2]) return CF_WRONG_SOURCE_COUNT;
-    const jint form = rows[at], function = rows[at + 1], many = rows[at + 2];
-    for (jint k = 0; k < many; k++) {
-      const jint source = rows[at + 3 + k];
-      of[k] = source < 0 || source >= MOST ? UINT16_MAX : (uint16_t)source;
-    }
-    code = cf_builder_stage(plan, (uint32_t)form, of, (size_t)many, function < 0 ? CF_NO_FUNCTION : (uint32_t)function, &stage);
-    at += 3 + many;
-  }
-  return code == CF_OK ? cf_build(plan) : code;
-}
-
 /* A view of the row of a plan's request, or a code negated. */
 CALL(jlong, open)(JNIEnv *env, jclass self, jintArray rows, jint room, jint first, jlong session) {
   (void)self;
   cf_handle plan = {0};
-  const jsize n = (*env)->GetArrayLength(env, rows);
+  size_t stages = 0;
   jint *given = (*env)->GetIntArrayElements(env, rows, NULL);
   struct view *view = calloc(1, sizeof *view);
-  uint32_t code = given && view ? build(&plan, given, n) : CF_NO_MEMORY;
+  uint32_t code = given && view ? build_plan(&plan, given, (*env)->GetArrayLength(env, rows), NULL, &stages) : CF_NO_MEMORY;
   if (code == CF_OK) {
     const cf_row_opening opening = {.room = (uint16_t)room, .first = (uint32_t)first, .session = (uint64_t)session};
     code = cf_row_new(&plan, &opening, &view->row);
@@ -56,6 +37,11 @@ CALL(jlong, open)(JNIEnv *env, jclass self, jintArray rows, jint room, jint firs
   if (code == CF_OK) return (jlong)(intptr_t)view;
   free(view);
   return -(jlong)code;
+}
+
+CALL(jobject, memory)(JNIEnv *env, jclass self, jlong view) {
+  (void)self;
+  return (*env)->NewDirectByteBuffer(env, &VIEW(view)->block, sizeof(struct view_block));
 }
 
 CALL(void, close)(JNIEnv *env, jclass self, jlong view) {
@@ -90,50 +76,28 @@ CALL(void, giveUpPut)(JNIEnv *env, jclass self, jlong view) {
   cf_row_give_up(&VIEW(view)->row);
 }
 
-static jint *outcome_out(jint *at, cf_outcome it) {
-  const jint told[] = {(jint)it.kind, (jint)it.wrapped, (jint)it.code, (jint)it.value.kind, it.value.number};
-  for (size_t k = 0; k < sizeof told / sizeof *told; k++) *at++ = told[k];
-  return at;
-}
-
-static void stage_out(jint *at, uint16_t number, cf_stage it) {
-  *at++ = number, *at++ = (jint)it.kind, *at++ = it.who > 63 ? -1 : (jint)it.who, *at++ = it.target;
-  outcome_out(at, it.outcome);
-}
-
-/* Takes in an entry. `told` gets the reply: answer, number, kind of arguments, two values of a kind and a number each, and an outcome's five numbers.
- * The stages that it changed come as an array, of nine numbers each; or nothing comes, and the code negated stands first in `told`. */
-CALL(jintArray, takeIn)(JNIEnv *env, jclass self, jlong view, jlong word, jlong token, jintArray told) {
-  (void)self;
+/* Takes in an entry, and says how many stages it changed, or a code negated. The block gets the reply, and the first of these stages. */
+CALL(jint, takeIn)(JNIEnv *env, jclass self, jlong view, jlong word, jlong token) {
+  (void)env, (void)self;
   struct view *it = VIEW(view);
   const cf_entry entry = {.word = (uint64_t)word, .token = (uint64_t)token};
-  const size_t room = sizeof it->news / sizeof *it->news;
-  cf_reply reply = {0};
-  size_t n = 0, place = 0;
-  const uint32_t code = cf_row_saw(&it->row, &entry, &reply, it->news, room, &n);
-  jint numbers[TOLD] = {code == CF_OK ? (jint)reply.answer : -(jint)code, (jint)reply.number, (jint)reply.args.kind,
-      (jint)reply.args.first.kind, reply.args.first.number, (jint)reply.args.second.kind, reply.args.second.number};
-  outcome_out(numbers + 7, reply.args.outcome);
-  (*env)->SetIntArrayRegion(env, told, 0, TOLD - 1, numbers);
-  if (code != CF_OK || (*env)->ExceptionCheck(env)) return NULL;
-  uint16_t *stages = n > room ? malloc(n * sizeof *stages) : NULL;
-  jint *changed = malloc((n ? n : 1) * STAGE * sizeof *changed);
-  jintArray out = NULL;
-  bool is_told = changed && (n <= room || stages);
-  if (is_told && stages) {
-    cf_ledger_words(&it->row, 0, NULL, 0, &place);
-    is_told = cf_ledger_news(&it->row, place - 1, stages, n, &n) == CF_OK;
-    for (size_t k = 0; is_told && k < n; k++) {
-      cf_stage now;
-      is_told = cf_ledger_stage(&it->row, stages[k], &now) == CF_OK;
-      stage_out(changed + k * STAGE, stages[k], now);
-    }
+  size_t n = 0;
+  const uint32_t code = cf_row_saw(&it->row, &entry, &it->block.reply, it->block.news, NEWS, &n);
+  return code == CF_OK ? (jint)n : -(jint)code;
+}
+
+/* The block gets the stages that the last entry changed, from this one in their row on, as far as there is room. */
+CALL(void, fetchNews)(JNIEnv *env, jclass self, jlong view, jint from) {
+  (void)env, (void)self;
+  struct view *it = VIEW(view);
+  uint16_t stages[MOST];
+  size_t words = 0, n = 0;
+  cf_ledger_words(&it->row, 0, NULL, 0, &words);
+  cf_ledger_news(&it->row, words - 1, stages, MOST, &n);
+  for (size_t k = (size_t)from, at = 0; k < n && at < NEWS; k++, at++) {
+    it->block.news[at].stage = stages[k];
+    cf_ledger_stage(&it->row, stages[k], &it->block.news[at].now);
   }
-  for (size_t k = 0; is_told && !stages && k < n; k++) stage_out(changed + k * STAGE, it->news[k].stage, it->news[k].now);
-  if (is_told && (out = (*env)->NewIntArray(env, (jsize)(n * STAGE)))) (*env)->SetIntArrayRegion(env, out, 0, (jsize)(n * STAGE), changed);
-  free(stages);
-  free(changed);
-  return out;
 }
 
 CALL(jint, grow)(JNIEnv *env, jclass self, jlong view, jint more) {
@@ -180,14 +144,10 @@ CALL(jint, nextClaim)(JNIEnv *env, jclass self, jlong view, jint held, jint kind
   return cf_row_next_claim(&VIEW(view)->row, &task, (uint16_t)from, &stage) == CF_OK ? stage : -1;
 }
 
-/* Whether a claim is open of a stage from a number on. `claim` gets the lowest one's stage and its session. */
-CALL(jboolean, nextOpenClaim)(JNIEnv *env, jclass self, jlong view, jint from, jlongArray claim) {
-  (void)self;
-  cf_row_claim it;
-  if (cf_row_open_claim(&VIEW(view)->row, (uint16_t)from, &it) != CF_OK) return false;
-  const jlong told[] = {it.stage, (jlong)it.session};
-  (*env)->SetLongArrayRegion(env, claim, 0, 2, told);
-  return true;
+/* Whether a claim is open of a stage from a number on. The block gets that of the lowest one. */
+CALL(jboolean, nextOpenClaim)(JNIEnv *env, jclass self, jlong view, jint from) {
+  (void)env, (void)self;
+  return cf_row_open_claim(&VIEW(view)->row, (uint16_t)from, &VIEW(view)->block.claim) == CF_OK;
 }
 
 /* The word that fails the lowest stage from a number on that a session has, or -1. */

@@ -48,10 +48,10 @@ public final class Ends<H> {
         } catch (RejectedExecutionException full) {
             if (!isFull) {
                 isFull = true;
-                warn(MOST + " ended requests wait for the hook: further ones aren't told", null);
+                warn(logger, MOST + " ended requests wait for the hook: further ones aren't told", null);
             }
         } catch (Throwable none) {
-            warn("the end of a request isn't told", none);
+            warn(logger, "the end of a request isn't told", none);
         }
     }
 
@@ -64,7 +64,7 @@ public final class Ends<H> {
                 within.execute(() -> hook.accept(history));
             }
         } catch (Throwable thrown) {
-            warn("the hook of an ended request has thrown", thrown);
+            warn(logger, "the hook of an ended request has thrown", thrown);
         }
     }
 
@@ -74,7 +74,8 @@ public final class Ends<H> {
         thread.awaitTermination(seconds, TimeUnit.SECONDS);
     }
 
-    public void warn(String said, Throwable thrown) {
+    /** Warns by this logger. */
+    public static void warn(String logger, String said, Throwable thrown) {
         Logger.getLogger(logger).log(Level.WARNING, said, thrown);
     }
 }

@@ -6,7 +6,6 @@ import java.io.InputStream;
 import java.nio.file.Files;
 import java.nio.file.Path;
 import java.nio.file.Paths;
-import java.nio.file.StandardCopyOption;
 import java.util.Locale;
 import java.util.concurrent.atomic.AtomicInteger;
 
@@ -15,9 +14,6 @@ import java.util.concurrent.atomic.AtomicInteger;
  * file; else in the jar; else where {@link System#loadLibrary} looks for {@code cf_java}. Each class loader has a library of its own.
  */
 public final class Native {
-    /** Codes of cf.h. */
-    public static final int OK = 0, NO_MEMORY = 8;
-
     static {
         loadLibrary();
     }
@@ -52,7 +48,7 @@ public final class Native {
 
     /** What is thrown where the library refuses with a code. */
     public static Error refusal(int code) {
-        return code == NO_MEMORY ? noMemory() : new AssertionError("the library refused with code " + code);
+        return code == Layout.NO_MEMORY ? noMemory() : new AssertionError("the library refused with code " + code);
     }
 
     /** What is thrown where the system refuses memory. */
@@ -116,14 +112,16 @@ public final class Native {
 
     /** What is copied to a file of its own for this class loader. */
     private static void loadCopy(InputStream library, String of) throws IOException {
-        Path copy = Files.createTempFile("libcf_java", ".so");
+        Path folder = Files.createTempDirectory("cf"); // Nobody else can write there.
+        Path copy = folder.resolve("libcf_java.so");
         try {
-            Files.copy(library, copy, StandardCopyOption.REPLACE_EXISTING);
+            Files.copy(library, copy);
             System.load(copy.toString());
         } catch (UnsatisfiedLinkError refused) {
             throw refusal(of + " can't be loaded as " + copy, refused);
         } finally {
             Files.deleteIfExists(copy); // What is mapped stays.
+            Files.deleteIfExists(folder);
         }
     }
 

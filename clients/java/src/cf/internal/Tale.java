@@ -53,7 +53,7 @@ public final class Tale {
         }
         byte[][] told = new byte[1][];
         int code = Native.tale(plan, room, words, times, texts.toByteArray(), lengths, kind.ordinal(), told);
-        if (code != Native.OK) {
+        if (code != Layout.OK) {
             throw Native.refusal(code);
         }
         return new String(told[0], StandardCharsets.UTF_8);

@@ -2,7 +2,9 @@ package cf.internal;
 
 /** Events as words of 64 bits: kind, who (bit 48), stage (36), tag (32), and 32 bits more (docs/FORMATS.md). */
 public final class Words {
-    public static final int COMPLETE = 1, FAIL = 2, CANCEL = 3, CLAIM = 4, FINISH = 5, TICK = 6, ATTACH = 7, FAIL_AS = 8;
+    public static final int COMPLETE = Layout.CALL_COMPLETE + 1, FAIL = Layout.CALL_FAIL + 1, CANCEL = Layout.CALL_CANCEL + 1,
+            CLAIM = Layout.CALL_CLAIM + 1,
+            FINISH = Layout.CALL_FINISH + 1, ATTACH = Layout.CALL_ATTACH + 1, FAIL_AS = Layout.CALL_FAIL_AS + 1;
 
     /** As what FAIL_AS fails a stage. */
     public static final int TIMED_OUT = 0, BAD_ANSWER = 1;

@@ -1,6 +1,7 @@
 package cf.service;
 
 import cf.internal.Form;
+import cf.internal.Layout;
 
 /** A function that was claimed, and its arguments. The object is used again once the function was called. */
 final class ClaimedCall {
@@ -10,16 +11,17 @@ final class ClaimedCall {
     Stage<?> stage;
     Form form;
     Object function, first, second;
-    /** How its source has failed, and the code of the exception that is its argument; else 0. The exception may have to be made, without a lock. */
-    int sourceFailure, failureCode;
+    /** How its source ended; where it failed, the exception is an argument, which may have to be made, without a lock. */
+    int sourceKind, failureCode;
+    boolean isSourceWrapped;
     /** The next call of the same thread. */
     ClaimedCall next;
 
     /** The second argument. */
     Object secondArgument() {
-        if (sourceFailure != 0) {
-            second = request.failure(number, sourceFailure, failureCode);
-            sourceFailure = 0;
+        if (sourceKind != Layout.VALUE) {
+            second = request.failure(this);
+            sourceKind = Layout.VALUE;
         }
         return second;
     }
@@ -28,7 +30,6 @@ final class ClaimedCall {
     void release() {
         request = null;
         stage = null;
-        sourceFailure = 0;
         function = first = second = null;
     }
 }

@@ -1,5 +1,6 @@
 package cf.service;
 
+import cf.internal.Layout;
 import java.util.Arrays;
 import java.util.concurrent.CancellationException;
 import java.util.concurrent.CompletionException;
@@ -138,11 +139,11 @@ final class Faults {
 
     private Fault newFault(int kind, int code) {
         switch (kind) {
-            case History.CANCELLED:
+            case Layout.CANCELLED:
                 return new Fault(new CancellationException(), false, false);
-            case History.TIMED_OUT:
+            case Layout.TIMED_OUT:
                 return new Fault(new TimeoutException(), false, true);
-            case History.THROWN:
+            case Layout.THROWN:
                 return new Fault(errors[code], true, false);
             default:
                 throw new AssertionError("outcome " + kind);
@@ -150,8 +151,8 @@ final class Faults {
     }
 
     private boolean isOf(Fault fault, int kind, int code) {
-        return kind == History.THROWN ? fault.isCoded && fault.rawError() == errors[code]
-                : !fault.isCoded && fault.isTimeout == (kind == History.TIMED_OUT);
+        return kind == Layout.THROWN ? fault.isCoded && fault.rawError() == errors[code]
+                : !fault.isCoded && fault.isTimeout == (kind == Layout.TIMED_OUT);
     }
 
     /** A completion exception. If its cause throws when it is asked for a text, it has none. */

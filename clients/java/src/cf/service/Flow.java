@@ -1,6 +1,7 @@
 package cf.service;
 
 import cf.internal.Form;
+import cf.internal.Layout;
 import cf.internal.Full;
 import cf.internal.Text;
 import java.util.ArrayList;
@@ -278,7 +279,7 @@ public final class Flow {
             for (int k = 0; k < planned.size(); k++) {
                 PlannedStage row = planned.get(k);
                 // Its function is called by an executor, or by whoever makes it ready.
-                numbers[at++] = row.form.ordinal() + (row.form.calls && row.executor != null ? 256 : 0);
+                numbers[at++] = row.form.ordinal() + (row.form.calls && row.executor != null ? Layout.FOR_EXECUTOR : 0);
                 numbers[at++] = row.form.calls ? k : -1;
                 numbers[at++] = row.sources.length;
                 for (int source : row.sources) {

@@ -1,6 +1,7 @@
 package cf.service;
 
 import cf.internal.Form;
+import cf.internal.Layout;
 import cf.internal.Tale;
 import cf.internal.Teller;
 import cf.internal.Text;
@@ -10,11 +11,8 @@ import java.util.List;
 
 /** The history of a request in memory, which has times and spans, too. */
 public final class History extends RequestHistory {
-    // Kinds of outcomes and of arguments, answers of claims and finishes: numbers of cf.h.
-    static final int GIVES = 1, THROWN = 2, CANCELLED = 3, TIMED_OUT = 4;
-    static final int NO_ARGS = 0, ONE = 1, TWO = 2, OUTCOME = 3;
-    static final int GRANTED = 0, WON = 0;
-
+    /** The number of an event that wasn't. */
+    static final int NEVER = -1;
     private static final int[] NO_ROWS = {};
 
     private final String name;
@@ -31,8 +29,10 @@ public final class History extends RequestHistory {
     private final String[] threads;
     /** What the machine brought, for tests; else null. */
     final int[][] witness;
-    /** What a machine answers that does the words once more; and of each stage what it ends in, and its number. */
-    private int[] answers, numbers, ends;
+    /** What a machine answers that does the words once more; and of each stage the kind of its outcome, and the number of that. */
+    private int[] answers, numbers, kinds, ends;
+    /** Of each stage the event that attached it, the one that made it ready, and the one that settled it; {@link #NEVER} where there is none. */
+    private int[] attached, ready, settled;
 
     /** Its request's lock is held. {@link #describe} is called once that is free. Where moments are null, they are the machine's. */
     History(String name, Flow flow, Machine machine, String[] names, Object[] values, Throwable[] errors, String[] threads, long[] moments) {
@@ -80,7 +80,6 @@ public final class History extends RequestHistory {
      * The request has failed if a stage has that no other one waits for; stages that functions attached aren't looked at for that.
      */
     public List<Span> spans() {
-        read();
         return SpanReader.spansOf(this);
     }
 
@@ -94,30 +93,72 @@ public final class History extends RequestHistory {
     }
 
     /** Does all words once more, once. */
-    private synchronized void read() {
+    synchronized void read() {
         if (ends != null) {
             return;
         }
         Machine machine = machine();
-        int[] answers = new int[words.length], numbers = new int[words.length], ends = new int[2 * stages];
-        for (int k = 0; k < words.length; k++) {
-            machine.apply(words[k], Machine.NOBODY);
-            answers[k] = machine.answer();
-            numbers[k] = machine.replyNumber();
-        }
-        for (int k = 0; k < stages; k++) {
-            if (machine.isSettled(k)) {
-                ends[2 * k] = Machine.Settled.outcome(machine.settledBits(0));
-                ends[2 * k + 1] = machine.settledNumber(0);
+        answers = new int[words.length];
+        numbers = new int[words.length];
+        kinds = new int[stages];
+        attached = new int[stages];
+        ready = new int[stages];
+        settled = new int[stages];
+        Arrays.fill(ready, NEVER);
+        Arrays.fill(settled, NEVER);
+        int[] ends = new int[stages];
+        for (int from = 0, count = Layout.MOST_READY; flow != null && flow.startsReady() && count == Layout.MOST_READY;) {
+            count = machine.fetchReady(from);
+            for (int j = 0; j < count; j++) {
+                from = machine.readyStage(j) + 1;
+                ready[from - 1] = 0;
             }
         }
+        for (int k = 0; k < words.length; k++) {
+            machine.replay(words[k]);
+            answers[k] = machine.answer();
+            numbers[k] = machine.replyNumber();
+            if (Words.kind(words[k]) == Words.ATTACH && answers[k] == Layout.AT) {
+                attached[numbers[k]] = k;
+            }
+            do {
+                for (int j = 0; j < machine.settledCount(); j++) {
+                    int stage = machine.settledStage(j);
+                    settled[stage] = k;
+                    kinds[stage] = machine.settledKind(j);
+                    ends[stage] = machine.settledNumber(j);
+                }
+                for (int j = 0; j < machine.readyCount(); j++) {
+                    int stage = machine.readyStage(j);
+                    ready[stage] = ready[stage] == NEVER ? k : ready[stage];
+                }
+            } while (machine.fetchMore(Machine.NOBODY));
+        }
         machine.giveBackCore(null);
-        this.answers = answers;
-        this.numbers = numbers;
         this.ends = ends;
     }
 
-    // For spans, and texts of stages.
+    // For spans, meters, and texts of stages. Those of stages hold once it was read.
+
+    /** Whether events have times. */
+    boolean hasTimes() {
+        return times != null;
+    }
+
+    /** The event that attached a stage; of a flow's the first one. */
+    int attached(int stage) {
+        return attached[stage];
+    }
+
+    /** The event that made a stage's function ready, or {@link #NEVER}. */
+    int ready(int stage) {
+        return ready[stage];
+    }
+
+    /** The event that settled a stage, or {@link #NEVER}. */
+    int settled(int stage) {
+        return settled[stage];
+    }
 
     String name() {
         return name;
@@ -140,15 +181,15 @@ public final class History extends RequestHistory {
         return numbers[event];
     }
 
-    /** The kind of a stage's outcome; 0 where it has none. */
+    /** The kind of a stage's outcome; {@link Layout#PENDING} where it has none. */
     int kind(int stage) {
-        return ends[2 * stage] & 0xf;
+        return kinds[stage];
     }
 
     /** The text of a stage's fault. */
     String failure(int stage) {
         int kind = kind(stage);
-        return kind == THROWN ? describeValue(errors[ends[2 * stage + 1]]) : kind == CANCELLED ? "cancelled" : kind == TIMED_OUT ? "timed out"
+        return kind == Layout.THROWN ? describeValue(errors[ends[stage]]) : kind == Layout.CANCELLED ? "cancelled" : kind == Layout.TIMED_OUT ? "timed out"
                 : "a bad answer";
     }
 
@@ -208,7 +249,7 @@ public final class History extends RequestHistory {
         Form[] forms = allForms();
         StringBuilder text = new StringBuilder();
         for (int source : allSources()[stage]) {
-            if (ends[2 * source] == 0) {
+            if (kinds[source] == Layout.PENDING) {
                 text.append(text.length() == 0 ? ", waits for " : " and ").append(source).append(' ').append(title(source, forms[source]));
             }
         }

@@ -2,7 +2,9 @@ package cf.service;
 
 import cf.internal.Form;
 import cf.internal.Freed;
+import cf.internal.Layout;
 import cf.internal.Native;
+import cf.internal.Words;
 import java.lang.ref.WeakReference;
 import java.nio.ByteBuffer;
 import java.nio.ByteOrder;
@@ -28,18 +30,10 @@ final class Machine {
     static final int MOST_STAGES = 4096, MOST_EDGES = 16384;
 
     /** Who calls a stage's function: the thread that made it ready, or an executor. */
-    static final int HERE = 0, BY_EXECUTOR = 1;
+    static final int HERE = Layout.HERE, BY_EXECUTOR = Layout.BY_EXECUTOR;
 
-    /** The caller where none claims; the reply's arguments are brought then. */
+    /** The caller where none claims. */
     static final int NOBODY = -1;
-
-    /** Places in a core's memory, in bytes: those of struct block. */
-    private static final int DONE = 0, NUMBER = 4, EVENTS = 8, MOMENTS = 12, ARGS = 16, DUE = 56, WORDS = 64, LANES = 576, SETTLED = 640,
-            CLAIMED = 1664,
-            READY = 2176;
-    /** How many words a core takes at once, and how many ready stages it brings. */
-    private static final int MOST_WORDS = 64;
-    static final int MOST_READY = 64;
 
     private static final boolean TIMES = !"false".equals(System.getProperty("cf.times"));
     /** Of how many stages more than those of its plan a core is kept to be used again, and with 16 times as many events. */
@@ -56,91 +50,13 @@ final class Machine {
         Native.load();
     }
 
-    /** The fields of a reply, each with its lowest bit and its width: the enum REPLY of native/cf_java.c has the same. */
-    private static final class Reply {
-        static int code(long reply) {
-            return field(reply, 0, 8);
-        }
-
-        static int answer(long reply) {
-            return field(reply, 8, 4);
-        }
-
-        static int settledCount(long reply) {
-            return field(reply, 12, 8);
-        }
-
-        static int claimedCount(long reply) {
-            return field(reply, 20, 6);
-        }
-
-        static int readyCount(long reply) {
-            return field(reply, 26, 7);
-        }
-
-        /** Whether something had no place. */
-        static boolean hasMore(long reply) {
-            return field(reply, 33, 1) != 0;
-        }
-
-        /** Whether the words and their moments stand where words wait. */
-        static boolean hasWords(long reply) {
-            return field(reply, 34, 1) != 0;
-        }
-    }
-
-    /** The fields of the number that tells of a settled stage. */
-    static final class Settled {
-        static int stage(int bits) {
-            return field(bits, 0, 12);
-        }
-
-        static int kind(int bits) {
-            return field(bits, 16, 4);
-        }
-
-        static boolean isWrapped(int bits) {
-            return field(bits, 20, 1) != 0;
-        }
-
-        /** Whether its value has a number, and isn't null. */
-        static boolean hasValue(int bits) {
-            return field(bits, 21, 1) != 0;
-        }
-
-        /** All but the stage. */
-        static int outcome(int bits) {
-            return bits >>> 16;
-        }
-    }
-
-    /** The fields of the number that tells what a claimed stage's function is called with. */
-    static final class Arguments {
-        static int kind(int bits) {
-            return field(bits, 0, 2);
-        }
-
-        /** How the source ended, where the function takes an outcome. */
-        static int outcomeKind(int bits) {
-            return field(bits, 4, 4);
-        }
-
-        static boolean isWrapped(int bits) {
-            return field(bits, 8, 1) != 0;
-        }
-    }
-
-    private static int field(long bits, int lowest, int width) {
-        return (int) (bits >>> lowest) & (1 << width) - 1;
-    }
-
     private final Plan plan;
     private Core core;
     /** How many stages there are, and how many of them are settled. */
     private int stages, settledStages;
     private int waitingWords;
-    /** The reply to the last call, as native/cf_java.c packs it; before it is opened, the word that waits then, and since when. */
-    private long reply, since;
+    /** The word that waits before it is opened, and since when; else 0. */
+    private long firstWord, since;
     /** The words and their moments, which count where there is no core, and a bit for each stage whose function an executor calls. */
     private long[] keptWords, executors = NONE;
     private int keptCount;
@@ -341,7 +257,7 @@ final class Machine {
     /** One without a plan, which the first call after this one opens. Its stage has an executor. */
     Machine(long word) {
         plan = null;
-        reply = word;
+        firstWord = word;
         since = TIMES ? Native.ticks() : 0;
         stages = 1;
         executors = ONE;
@@ -391,45 +307,45 @@ final class Machine {
         Core core = takeCore();
         long of = plan == null ? 0 : plan.address;
         int code = open(core.address, of, room, keptWords, keptCount, executors);
-        if (code == Native.NO_MEMORY) {
+        if (code == Layout.NO_MEMORY) {
             Freed.freeAll();
             code = open(core.address, of, room, keptWords, keptCount, executors);
         }
-        if (code != Native.OK) {
+        if (code != Layout.OK) {
             core.freed.freeNow();
             throw Native.refusal(code);
         }
         boolean waits = isUnopened();
         if (waits) {
-            core.memory.putLong(WORDS, reply);
-            core.memory.put(LANES, (byte) BY_EXECUTOR);
+            core.memory.putLong(Layout.CORE_WORDS, firstWord);
+            core.memory.put(Layout.CORE_LANES, (byte) BY_EXECUTOR);
             setSince(core.address, since);
         }
         // No method is called from here on, so that a stack that is at its end can't leave half of it.
         this.core = core;
         waitingWords = waits ? 1 : 0;
-        reply = 0; // What that brought was of the core before.
+        firstWord = 0;
     }
 
     private boolean isUnopened() {
-        return keptWords == null && reply != 0;
+        return firstWord != 0;
     }
 
     /** Opens a core, and does the word that waits and this one. Where that fails, the word waits as before. */
     private void openWith(long word, int who) {
         Core core = takeCore();
-        long told = openWith(core.address, reply, since, word, who);
-        if (Reply.code(told) == Native.NO_MEMORY) {
+        int code = openWith(core.address, firstWord, since, word, who);
+        if (code == Layout.NO_MEMORY) {
             Freed.freeAll();
-            told = openWith(core.address, reply, since, word, who);
+            code = openWith(core.address, firstWord, since, word, who);
         }
-        int code = Reply.code(told);
-        if (code != Native.OK) {
+        if (code != Layout.OK) {
             core.freed.freeNow();
             throw Native.refusal(code);
         }
         this.core = core;
-        acceptReply(told);
+        firstWord = 0;
+        accept(code);
     }
 
     int stages() {
@@ -450,14 +366,14 @@ final class Machine {
     /** Attaches a stage whose sources aren't settled. */
     int attachLater(long word, int lane) {
         Core core = core();
-        if (waitingWords == MOST_WORDS) {
+        if (waitingWords == Layout.MOST_WORDS) {
             flush();
         }
         if (waitingWords == 0 && TIMES) {
             setSince(core.address, 0);
         }
-        core.memory.putLong(WORDS + 8 * waitingWords, word);
-        core.memory.put(LANES + waitingWords, (byte) lane);
+        core.memory.putLong(Layout.CORE_WORDS + Long.BYTES * waitingWords, word);
+        core.memory.put(Layout.CORE_LANES + waitingWords, (byte) lane);
         waitingWords++;
         return countAttached(lane);
     }
@@ -469,7 +385,7 @@ final class Machine {
 
     /** Attaches stages that wait for all of those, or for one of them: one less than those, of which the last one does. */
     void gather(Form form, short[] of, int who) {
-        acceptReply(gather(core().address, waitingWords, form.ordinal(), of, who));
+        accept(gather(core().address, waitingWords, form.ordinal(), of, who));
         stages += of.length - 1;
     }
 
@@ -483,7 +399,7 @@ final class Machine {
     /** Does the words that wait. They settle nothing. */
     void flush() {
         if (waitingWords > 0) {
-            acceptReply(apply(core().address, waitingWords, 0, HERE, NOBODY));
+            accept(apply(core().address, waitingWords, 0, HERE, NOBODY));
         }
     }
 
@@ -492,56 +408,61 @@ final class Machine {
         apply(word, HERE, who);
     }
 
+    /** Does the event of a word of another machine once more. What it made ready is brought, and nobody claims it. */
+    void replay(long word) {
+        apply(word, BY_EXECUTOR, NOBODY);
+    }
+
     private void apply(long word, int lane, int who) {
         if (core == null && isUnopened() && lane == HERE) {
             openWith(word, who);
         } else {
-            acceptReply(apply(core().address, waitingWords, word, lane, who));
+            accept(apply(core().address, waitingWords, word, lane, who));
         }
     }
 
     /** Finishes a stage that the caller has claimed, by the number of a value or exception, and claims what is ready then. */
     void finish(int stage, boolean isThrown, int number, int who) {
-        acceptReply(finish(core().address, waitingWords, stage, isThrown, number, who, settledStages == stages - 1));
+        accept(finish(core().address, waitingWords, stage, isThrown, number, who, settledStages == stages - 1));
     }
 
     /** Finishes a stage by this word, which links it, to a relay where that isn't -1; from now on the relay follows that stage. */
     void link(long word, int relay, int stage, int who) {
-        acceptReply(link(core().address, waitingWords, word, relay, stage, who));
+        accept(link(core().address, waitingWords, word, relay, stage, who));
     }
 
     /** From now on the relay follows that stage. */
     void follow(int relay, int stage) {
-        acceptReply(link(core().address, waitingWords, 0, relay, stage, NOBODY));
+        accept(link(core().address, waitingWords, 0, relay, stage, NOBODY));
     }
 
     void setDeadline(int stage, Stage.Limit limit) {
-        acceptReply(setDeadline(core().address, waitingWords, stage, limit.moment, limit.hasValue, limit.number));
+        accept(setDeadline(core().address, waitingWords, stage, limit.moment, limit.hasValue, limit.number));
     }
 
     /** Lets time pass up to a moment. */
     void passTimeTo(long moment, int who) {
-        acceptReply(passTimeTo(core().address, waitingWords, moment, who));
+        accept(passTimeTo(core().address, waitingWords, moment, who));
     }
 
     /** Brings what had no place, and says whether there was any. */
     boolean fetchMore(int who) {
-        if (!Reply.hasMore(reply)) {
+        if (core.memory.getInt(Layout.CORE_HAS_MORE) == 0) {
             return false;
         }
-        acceptReply(fetchMore(core.address, who));
+        accept(fetchMore(core.address, who));
         return true;
     }
 
-    private void acceptReply(long told) {
-        int code = Reply.code(told);
-        if (code != Native.OK) {
+    /** What a crossing came to, whose code it is. */
+    private void accept(int code) {
+        if (code != Layout.OK) {
             throwRefusal(code);
         }
+        int settled = settledCount();
         // No method is called from here on, so that a stack that is at its end can't leave half of it.
-        reply = told;
         waitingWords = 0;
-        settledStages += settledCount();
+        settledStages += settled;
         if (WITNESSED) {
             addWitness();
         }
@@ -550,22 +471,21 @@ final class Machine {
     /** Drops the words that were done before a refusal, and throws that. */
     private void throwRefusal(int code) {
         ByteBuffer memory = core.memory;
-        int done = memory.getInt(DONE);
-        reply = 0;
+        int done = memory.getInt(Layout.CORE_DONE);
         waitingWords -= done;
         for (int k = 0; k < waitingWords; k++) {
-            memory.putLong(WORDS + 8 * k, memory.getLong(WORDS + 8 * (k + done)));
-            memory.put(LANES + k, memory.get(LANES + k + done));
+            memory.putLong(Layout.CORE_WORDS + Long.BYTES * k, memory.getLong(Layout.CORE_WORDS + Long.BYTES * (k + done)));
+            memory.put(Layout.CORE_LANES + k, memory.get(Layout.CORE_LANES + k + done));
         }
         throw Native.refusal(code);
     }
 
     private void addWitness() {
         for (int k = 0; k < settledCount(); k++) {
-            witness.add(new int[] {settledBits(k), settledNumber(k)});
+            witness.add(new int[] {settledStage(k), settledKind(k), isWrapped(k) ? 1 : 0, settledNumber(k)});
         }
         for (int k = 0; k < claimedCount(); k++) {
-            witness.add(new int[] {claimedStage(k), argumentBits(k), firstArgument(k), secondArgument(k)});
+            witness.add(new int[] {claimedStage(k), argumentsKind(k), sourceKind(k), isSourceWrapped(k) ? 1 : 0, firstArgument(k), secondArgument(k)});
         }
     }
 
@@ -577,67 +497,102 @@ final class Machine {
     // What the last call brought into the core.
 
     int answer() {
-        return Reply.answer(reply);
+        return core.memory.getInt(Layout.CORE_ANSWER);
     }
 
     int replyNumber() {
-        return core.memory.getInt(NUMBER);
+        return core.memory.getInt(Layout.CORE_REPLY + Layout.REPLY_NUMBER);
     }
 
-    int replyArgument(int at) {
-        return core.memory.getInt(ARGS + 4 * at);
+    /** A number of the arguments of the last claim, which are at this place of cf_args. */
+    int replyArgument(int place) {
+        return core.memory.getInt(Layout.CORE_REPLY + Layout.REPLY_ARGS + place);
     }
 
-    /** The moment of the next deadline, behind {@link #passTimeTo}; {@code Long.MAX_VALUE} where there is none. */
+    /** The moment of the next deadline; {@code Long.MAX_VALUE} where there is none. */
     long nextDeadline() {
-        return core.memory.getLong(DUE);
+        long due = core.memory.getLong(Layout.CORE_DUE);
+        return due < 0 ? Long.MAX_VALUE : due;
     }
 
     /** How many stages were settled. */
     int settledCount() {
-        return Reply.settledCount(reply);
+        return core.memory.getInt(Layout.CORE_SETTLED_COUNT);
     }
 
-    /** One of them, as {@link Settled} reads it. */
-    int settledBits(int k) {
-        return core.memory.getInt(SETTLED + 8 * k);
+    int settledStage(int k) {
+        return core.memory.getShort(Layout.CORE_SETTLED + Layout.TOLD_SIZE * k + Layout.TOLD_STAGE);
     }
 
-    /** Its value's number, or the code of its failure. */
+    /** A number of the outcome of one of them, which is at this place of cf_outcome. */
+    private int settledOutcome(int k, int place) {
+        return core.memory.getInt(Layout.CORE_SETTLED + Layout.TOLD_SIZE * k + Layout.TOLD_OUTCOME + place);
+    }
+
+    int settledKind(int k) {
+        return settledOutcome(k, Layout.OUTCOME_KIND);
+    }
+
+    boolean isWrapped(int k) {
+        return settledOutcome(k, Layout.OUTCOME_WRAPPED) != 0;
+    }
+
     int settledNumber(int k) {
-        return core.memory.getInt(SETTLED + 4 + 8 * k);
+        return settledNumber(k, settledKind(k));
+    }
+
+    /** Its value's number, -1 for null; or the code of its failure. Its outcome is of this kind. */
+    int settledNumber(int k, int kind) {
+        if (kind != Layout.VALUE) {
+            return settledOutcome(k, Layout.OUTCOME_CODE);
+        }
+        boolean isNull = settledOutcome(k, Layout.OUTCOME_VALUE + Layout.VALUE_KIND) == Layout.NIL;
+        return isNull ? Words.NIL : settledOutcome(k, Layout.OUTCOME_VALUE + Layout.VALUE_NUMBER);
     }
 
     /** How many stages were claimed. */
     int claimedCount() {
-        return Reply.claimedCount(reply);
+        return core.memory.getInt(Layout.CORE_CLAIMED_COUNT);
+    }
+
+    private static int claimed(int k, int place) {
+        return Layout.CORE_CLAIMED + Layout.CLAIMED_SIZE * k + place;
     }
 
     int claimedStage(int k) {
-        return core.memory.getInt(CLAIMED + 16 * k);
+        return core.memory.getShort(claimed(k, Layout.CLAIMED_STAGE));
     }
 
-    /** What its function is called with, as {@link Arguments} reads it. */
-    int argumentBits(int k) {
-        return core.memory.getInt(CLAIMED + 4 + 16 * k);
+    /** What its function is called with. */
+    int argumentsKind(int k) {
+        return core.memory.get(claimed(k, Layout.CLAIMED_KIND));
+    }
+
+    /** How its source ended, where its function takes an outcome. */
+    int sourceKind(int k) {
+        return core.memory.get(claimed(k, Layout.CLAIMED_OUTCOME));
+    }
+
+    boolean isSourceWrapped(int k) {
+        return core.memory.get(claimed(k, Layout.CLAIMED_WRAPPED)) != 0;
     }
 
     /** The number of its first value, -1 for null; or the code of its source's failure. */
     int firstArgument(int k) {
-        return core.memory.getInt(CLAIMED + 8 + 16 * k);
+        return core.memory.getInt(claimed(k, Layout.CLAIMED_FIRST));
     }
 
     int secondArgument(int k) {
-        return core.memory.getInt(CLAIMED + 12 + 16 * k);
+        return core.memory.getInt(claimed(k, Layout.CLAIMED_SECOND));
     }
 
     /** How many stages became ready whose functions executors call. */
     int readyCount() {
-        return Reply.readyCount(reply);
+        return core.memory.getInt(Layout.CORE_READY_COUNT);
     }
 
     int readyStage(int k) {
-        return core.memory.getShort(READY + 2 * k);
+        return core.memory.getShort(Layout.CORE_READY + Short.BYTES * k);
     }
 
     /** Those of the plan that are ready before anything was done, as many as there is place for, from a number on. */
@@ -650,11 +605,11 @@ final class Machine {
         core();
         flush();
         check(fetchOutcome(core.address, stage));
-        return settledBits(0) != -1;
+        return settledKind(0) != Layout.PENDING;
     }
 
     private static void check(int code) {
-        if (code != Native.OK) {
+        if (code != Layout.OK) {
             throw Native.refusal(code);
         }
     }
@@ -662,7 +617,7 @@ final class Machine {
     // All of it.
 
     int events() {
-        return (core == null ? keptCount : core.memory.getInt(EVENTS)) + waitingWords;
+        return (core == null ? keptCount : core.memory.getInt(Layout.CORE_EVENTS)) + waitingWords;
     }
 
     /** The words, and behind them the moments: of each its ticks, in 56 bits, and how many events were done since the one before it. */
@@ -673,10 +628,10 @@ final class Machine {
         core();
         flush();
         int events = events();
-        long[] all = new long[events + core.memory.getInt(MOMENTS)];
-        if (Reply.hasWords(reply)) {
+        long[] all = new long[events + core.memory.getInt(Layout.CORE_MOMENTS)];
+        if (core.memory.getInt(Layout.CORE_HAS_WORDS) != 0) {
             for (int k = 0; k < all.length; k++) {
-                all[k] = core.memory.getLong(WORDS + 8 * k);
+                all[k] = core.memory.getLong(Layout.CORE_WORDS + Long.BYTES * k);
             }
         } else {
             check(words(core.address, all, 0, events));
@@ -785,22 +740,22 @@ final class Machine {
 
     /**
      * Does the words in the memory that wait, so many, and then one more, if it isn't 0. Then it claims for the caller {@code who}, if that
-     * isn't negative: the stage that the word claims, or else all that are ready for whoever made them ready. The reply is one number.
+     * isn't negative: the stage that the word claims, or else all that are ready for whoever made them ready. It gives a code.
      */
-    native long apply(long core, int waiting, long word, int lane, int who);
+    native int apply(long core, int waiting, long word, int lane, int who);
 
-    /** Where it is the last finish, it also brings the words: the reply's bit 34 says whether they stand where words wait, with their moments. */
-    native long finish(long core, int waiting, int stage, boolean isThrown, int number, int who, boolean last);
+    /** Where it is the last finish, it also brings the words, if they are few: they stand where words wait, with their moments. */
+    native int finish(long core, int waiting, int stage, boolean isThrown, int number, int who, boolean last);
 
-    native long gather(long core, int waiting, int form, short[] sources, int who);
+    native int gather(long core, int waiting, int form, short[] sources, int who);
 
-    native long link(long core, int waiting, long word, int relay, int stage, int who);
+    native int link(long core, int waiting, long word, int relay, int stage, int who);
 
-    native long setDeadline(long core, int waiting, int stage, long moment, boolean gives, int number);
+    native int setDeadline(long core, int waiting, int stage, long moment, boolean gives, int number);
 
-    native long passTimeTo(long core, int waiting, long moment, int who);
+    native int passTimeTo(long core, int waiting, long moment, int who);
 
-    native long fetchMore(long core, int who);
+    native int fetchMore(long core, int who);
 
     native int fetchOutcome(long core, int stage);
 
@@ -820,7 +775,7 @@ final class Machine {
     native int open(long core, long plan, int room, long[] kept, int n, long[] executors);
 
     /** A request of no plan, of which the first word attaches an executor's stage and came at that moment, and then this one is done as above. */
-    native long openWith(long core, long attach, long since, long word, int who);
+    native int openWith(long core, long attach, long since, long word, int who);
 
     /** The n words from a place on, and behind them the moments for which there is place. */
     native int words(long core, long[] into, int from, int n);

@@ -1,7 +1,9 @@
 package cf.service;
 
+import cf.internal.Ends;
 import cf.internal.Form;
 import cf.internal.Full;
+import cf.internal.Layout;
 import cf.internal.Native;
 import cf.internal.Watch;
 import cf.internal.Words;
@@ -17,7 +19,6 @@ import java.util.concurrent.CancellationException;
 import java.util.concurrent.CompletableFuture;
 import java.util.concurrent.CompletionStage;
 import java.util.concurrent.Executor;
-import java.util.concurrent.Future;
 import java.util.concurrent.TimeUnit;
 import java.util.concurrent.atomic.AtomicInteger;
 import java.util.function.Supplier;
@@ -103,11 +104,12 @@ public final class Request implements AutoCloseable {
      * (Link.takeRelay) settles it. Once the stage is settled for which the relay was made, the link is removed, so a future
      * that lives long keeps nothing of requests that are over.
      *
-     * Deadlines. Stage.orTimeout and completeOnTimeout set a deadline of the machine (`setLimit`). A request has one
-     * Waits.Alarm, at its first deadline, and Clock one thread that knows all alarms. Then `passTime` lets time pass up to it,
-     * in a thread of its own, as an operation like any other; the caller CLOCK settles stages there, and functions that were
-     * attached without an executor are called there. The next deadline gets its alarm before that, so it comes after the one
-     * before it, and isn't delayed by these functions. Once no open stage has a deadline, the clock forgets the request.
+     * Deadlines. Stage.orTimeout and completeOnTimeout set a deadline of the machine (`setLimit`). With each reply the machine
+     * tells the moment of the next one, at which the request has one Waits.Alarm; Clock has one thread that knows all alarms.
+     * Then `passTime` lets time pass up to it, in a thread of its own, as an operation like any other; the caller CLOCK settles
+     * stages there, and functions that were attached without an executor are called there. The next deadline gets its alarm
+     * before that, so it comes after the one before it, and isn't delayed by these functions. Once no open stage has a
+     * deadline, the clock forgets the request.
      *
      * Room. A request has at most 4,096 stages, and of a flow's, two edges are set aside for each stage that is attached.
      * `hasPlace` is asked under the lock, before anything is attached. Where there is none, the request throws, or hands the
@@ -136,7 +138,7 @@ public final class Request implements AutoCloseable {
      */
 
     /** The callers of a history (docs/FORMATS.md, "Callers"): the machine itself is the clock. Nobody here is caller 0. */
-    static final int CLOCK = 1, RELAY = 2, FIRST_THREAD = 3, OTHER_THREADS = 63;
+    static final int CLOCK = Layout.CLOCK, RELAY = 2, FIRST_THREAD = 3, OTHER_THREADS = 63;
 
     /** How many stages a request that continues in a next one gathers at once. */
     private static final int MOST_GATHERED = 1024;
@@ -209,6 +211,7 @@ public final class Request implements AutoCloseable {
         if (watch != null) {
             watch.requestOpened(this);
         }
+        noteOpened();
     }
 
     /** A request of one stage. */
@@ -223,6 +226,13 @@ public final class Request implements AutoCloseable {
         values = new Object[1];
         stages = new Stage<?>[1];
         machine = new Machine(Words.attach(callerNumber(), Form.SUPPLY, 0, 0, 0, 0));
+        noteOpened();
+    }
+
+    private void noteOpened() {
+        if (service.meter() != null) {
+            service.meter().noteOpened(this);
+        }
     }
 
     /** A request of one stage that gives its core back once that is settled. The executor's thread opens its machine. */
@@ -438,7 +448,7 @@ public final class Request implements AutoCloseable {
         boolean isSettled = machine.isSettled(stage.number);
         if (isSettled) {
             stages[stage.number] = null;
-            stage.setOutcome(outcomeOf(machine.settledBits(0), machine.settledNumber(0)));
+            stage.setOutcome(outcomeOf(0));
         }
         return isSettled;
     }
@@ -480,6 +490,13 @@ public final class Request implements AutoCloseable {
         return history.describeBy(describe);
     }
 
+    /** The same for a meter, which asks for no text of a value. */
+    History glance() {
+        synchronized (lock()) {
+            return takeHistory();
+        }
+    }
+
     /** The same, not described yet. The lock is held. */
     private History takeHistory() {
         int count = machine.stages();
@@ -505,7 +522,7 @@ public final class Request implements AutoCloseable {
      */
     @Override
     public void close() {
-        if (service.ends() != null) {
+        if (service.tellsEnds()) {
             tellEndOnceSettled();
         }
         synchronized (lock()) {
@@ -528,8 +545,10 @@ public final class Request implements AutoCloseable {
     private void tellEndOnceSettled() {
         List<Stage<?>> open = new ArrayList<>();
         synchronized (lock()) {
+            machine.flush();
             for (int k = 0; k < machine.stages() && !isEndTold; k++) {
-                if (isOpen(k)) {
+                // A relay that the stage above it doesn't need stays open for good.
+                if (isOpen(k) && !sources().isRelay(k)) {
                     open.add(stageAt(k));
                 }
             }
@@ -557,7 +576,7 @@ public final class Request implements AutoCloseable {
         return isOpen(number) || !machine.isOver() && !machine.isSettled(number);
     }
 
-    /** Hands the history to the service's hook, once. It throws nothing, and doesn't wait. */
+    /** Hands the history to the service's hook and meter, once. It throws nothing, and doesn't wait. */
     private void tellEnd() {
         try {
             History history;
@@ -568,9 +587,14 @@ public final class Request implements AutoCloseable {
                 isEndTold = true;
                 history = takeHistory();
             }
-            service.ends().tell(() -> history.describeBy(describe), context);
+            if (service.meter() != null) {
+                service.meter().tellEnd(this, history);
+            }
+            if (service.ends() != null) {
+                service.ends().tell(() -> history.describeBy(describe), context);
+            }
         } catch (Throwable none) {
-            service.ends().warn("the end of a request isn't told", none);
+            Ends.warn("cf.service", "the end of a request isn't told", none);
         }
     }
 
@@ -933,8 +957,8 @@ public final class Request implements AutoCloseable {
             for (int k = 0; watch != null && k < flow.stageCount(); k++) {
                 watch.stageAttached(stageAt(k), Arrays.stream(flow.plannedStage(k).sources).mapToObj(this::stageAt).collect(Collectors.toList()));
             }
-            int who = callerNumber(), count = Machine.MOST_READY;
-            for (int from = 0; flow.startsReady() && count == Machine.MOST_READY;) {
+            int who = callerNumber(), count = Layout.MOST_READY;
+            for (int from = 0; flow.startsReady() && count == Layout.MOST_READY;) {
                 count = machine.fetchReady(from);
                 for (int k = 0; k < count; k++) {
                     from = machine.readyStage(k) + 1;
@@ -1066,39 +1090,32 @@ public final class Request implements AutoCloseable {
             more.limits.add(limit);
             countUnwritten(stage);
             alarm = alarm != null ? alarm : new Alarm(this);
-            if (!alarm.becomesFirst(moment)) {
-                return;
-            }
+            alarm.setDue(machine.nextDeadline());
+            moment = alarm.missing();
         }
-        alarm.set(moment);
-    }
-
-    /** Whether the machine has relays or deadlines of stages that aren't settled. The lock is held. */
-    boolean isDue() {
-        return unwritten > 0;
+        if (moment < Alarm.NEVER) {
+            alarm.set(moment);
+        }
     }
 
     /**
-     * Lets time pass up to the first deadline, if that has come. The functions behind it may take long, so the next deadline has a thread of its
-     * own.
+     * Lets time pass up to the next deadline, if that has come. The functions behind it may take long, so the one after it has a thread of its own.
      */
-    void passTime() {
+    void passTime(Alarm.Ring ring) {
         FollowUps followUps = new FollowUps(watch);
-        long due = Alarm.NEVER;
+        long missing;
         synchronized (lock()) {
-            long moment = alarm.takeDue();
-            if (moment == Alarm.NEVER) {
-                return;
+            long moment = alarm.takeDue(ring);
+            if (moment < Alarm.NEVER) {
+                int who = callerNumber();
+                machine.passTimeTo(moment, who);
+                publish(followUps, who);
             }
-            int who = callerNumber();
-            machine.passTimeTo(moment, who);
-            due = machine.nextDeadline();
-            publish(followUps, who);
-            due = isDue() && alarm.becomesFirst(due) ? due : Alarm.NEVER;
+            missing = alarm.missing();
         }
         try {
-            if (due < Alarm.NEVER) {
-                alarm.set(due);
+            if (missing < Alarm.NEVER) {
+                alarm.set(missing);
             }
         } catch (Throwable none) {
             followUps.failure = none;
@@ -1136,16 +1153,14 @@ public final class Request implements AutoCloseable {
         unwritten++;
     }
 
-    /** Stops the request's alarm where the machine has no relay and no deadline any more. */
+    /** Stops the request's alarm where the machine has no deadline any more, and gives back the core of a closed one that has no relay either. */
     private void stopClockIfIdle() {
-        Future<?> over = null;
+        Alarm.Ring over;
         synchronized (lock()) {
-            if (!isDue()) {
-                over = alarm == null ? null : alarm.clear();
-                if (isClosed) {
-                    isClosed = false;
-                    machine.giveBackCore(null);
-                }
+            over = alarm == null ? null : alarm.takeIfIdle();
+            if (isClosed && unwritten == 0) {
+                isClosed = false;
+                machine.giveBackCore(null);
             }
         }
         Alarm.stop(over);
@@ -1215,7 +1230,7 @@ public final class Request implements AutoCloseable {
             int who = callerNumber();
             long word = relayWord(relay.number, told, wraps);
             if (relay.outcome == null && told instanceof Fault && Words.kind(word) != Words.FAIL) {
-                faults().shareFault(relay.number, Words.kind(word) == Words.CANCEL ? History.CANCELLED : History.TIMED_OUT, 0, (Fault) told);
+                faults().shareFault(relay.number, Words.kind(word) == Words.CANCEL ? Layout.CANCELLED : Layout.TIMED_OUT, 0, (Fault) told);
             }
             applyWord(word, who, followUps);
         }
@@ -1276,18 +1291,21 @@ public final class Request implements AutoCloseable {
         if (recorder != null) {
             record(recorder);
         }
+        if (alarm != null) {
+            alarm.setDue(machine.nextDeadline());
+        }
         try {
             do {
-                for (int k = 0; k < machine.settledCount(); k++) {
-                    takeSettled(machine.settledBits(k), machine.settledNumber(k), followUps);
+                for (int k = 0, count = machine.settledCount(); k < count; k++) {
+                    takeSettled(k, followUps);
                 }
-                for (int k = 0; k < machine.claimedCount(); k++) {
+                for (int k = 0, count = machine.claimedCount(); k < count; k++) {
                     takeClaimed(k, followUps);
                     if (watch != null) {
                         watch.functionReady(this, machine.claimedStage(k));
                     }
                 }
-                for (int k = 0; k < machine.readyCount(); k++) {
+                for (int k = 0, count = machine.readyCount(); k < count; k++) {
                     followUps.addHanded(stageAt(machine.readyStage(k)));
                     if (watch != null) {
                         watch.functionReady(this, machine.readyStage(k));
@@ -1327,14 +1345,14 @@ public final class Request implements AutoCloseable {
         }
     }
 
-    /** Settles the object of a stage, by the machine's {@link Machine.Settled bits}. */
-    private void takeSettled(int bits, int number, FollowUps followUps) {
-        int at = Machine.Settled.stage(bits);
+    /** Settles the object of the kth settled stage. */
+    private void takeSettled(int k, FollowUps followUps) {
+        int at = machine.settledStage(k);
         Stage<?> stage = at < stages.length ? stages[at] : null;
         if (stage == null && Recorder.hasStages()) {
             stage = stageAt(at);
         }
-        Object told = outcomeOf(bits, number);
+        Object told = outcomeOf(k);
         if (watch != null) {
             watch.stageSettled(this, at, told instanceof Fault || told == Stage.NIL ? null : told,
                     told instanceof Fault ? ((Fault) told).rawError() : null, told instanceof Fault && ((Fault) told).isWrapped());
@@ -1351,16 +1369,16 @@ public final class Request implements AutoCloseable {
         }
     }
 
-    private Object outcomeOf(int bits, int number) {
-        int kind = Machine.Settled.kind(bits), at = Machine.Settled.stage(bits);
-        if (kind == History.GIVES) {
-            return Machine.Settled.hasValue(bits) ? values[number] : Stage.NIL;
+    private Object outcomeOf(int k) {
+        int at = machine.settledStage(k), kind = machine.settledKind(k), number = machine.settledNumber(k, kind);
+        if (kind == Layout.VALUE) {
+            return number == Words.NIL ? Stage.NIL : values[number];
         }
         int followed = followedStage(at);
         if (followed >= 0) {
             faults().shareFault(at, kind, number, faults().faultOf(followed));
         }
-        return faults().faultOfSettled(at, kind, Machine.Settled.isWrapped(bits), number);
+        return faults().faultOfSettled(at, kind, machine.isWrapped(k), number);
     }
 
     /** The stage of this request that a relay follows, or -1. */
@@ -1370,10 +1388,10 @@ public final class Request implements AutoCloseable {
     }
 
     /** The exception of a stage's failed source. It may have to be made: no lock is held. */
-    Throwable failure(int stage, int failed, int code) {
+    Throwable failure(ClaimedCall call) {
         Fault fault;
         synchronized (lock()) {
-            fault = faults().faultOfSource(stage, failed & 0xf, failed >>> 4 != 0, code);
+            fault = faults().faultOfSource(call.number, call.sourceKind, call.isSourceWrapped, call.failureCode);
         }
         return fault.error();
     }
@@ -1385,33 +1403,28 @@ public final class Request implements AutoCloseable {
 
     /** Takes the function of the kth claimed stage, and its arguments. */
     private void takeClaimed(int k, FollowUps followUps) {
-        int number = machine.claimedStage(k), bits = machine.argumentBits(k);
+        int number = machine.claimedStage(k), sourceKind = Layout.VALUE;
         Stage<?> stage = number < stages.length ? stages[number] : null;
         Object function = stage != null ? stage.function : flow.function(number), first = null, second = null;
-        int failed = 0;
         if (stage != null) {
             stage.function = null;
         }
         if (context != null && flow != null && number < flow.stageCount()) {
             function = new ContextFunction(context, function);
         }
-        switch (Machine.Arguments.kind(bits)) {
-            case History.NO_ARGS:
+        switch (machine.argumentsKind(k)) {
+            case Layout.NO_ARGS:
                 break;
-            case History.ONE:
+            case Layout.ONE:
                 first = value(machine.firstArgument(k));
                 break;
-            case History.TWO:
+            case Layout.TWO:
                 first = value(machine.firstArgument(k));
                 second = value(machine.secondArgument(k));
                 break;
             default:
-                int of = Machine.Arguments.outcomeKind(bits);
-                if (of == History.GIVES) {
-                    first = value(machine.firstArgument(k));
-                } else {
-                    failed = of | (Machine.Arguments.isWrapped(bits) ? 1 << 4 : 0);
-                }
+                sourceKind = machine.sourceKind(k);
+                first = sourceKind == Layout.VALUE ? value(machine.firstArgument(k)) : null;
         }
         ClaimedCall call = followUps.newCall();
         call.request = this;
@@ -1421,8 +1434,11 @@ public final class Request implements AutoCloseable {
         call.function = function;
         call.first = first;
         call.second = second;
-        call.sourceFailure = failed;
-        call.failureCode = machine.firstArgument(k);
+        call.sourceKind = sourceKind;
+        if (sourceKind != Layout.VALUE) {
+            call.isSourceWrapped = machine.isSourceWrapped(k);
+            call.failureCode = machine.firstArgument(k);
+        }
         followUps.addCall(call);
     }
 
@@ -1491,7 +1507,7 @@ public final class Request implements AutoCloseable {
             if (stage.hasUnwritten()) {
                 stage.request.stopClockIfIdle();
             }
-            if (stage.request.isSingle && stage.request.service.ends() != null) {
+            if (stage.request.isSingle && stage.request.service.tellsEnds()) {
                 stage.request.tellEndIfAlone();
             }
         } else if ((stage = followUps.pollHanded()) != null) {
@@ -1536,7 +1552,7 @@ public final class Request implements AutoCloseable {
         synchronized (lock()) {
             int who = callerNumber();
             machine.apply(Words.claim(who, stage.number), who);
-            if (machine.answer() == History.GRANTED) {
+            if (machine.answer() == Layout.GRANTED) {
                 machine.finish(stage.number, true, codeOf(refused), who);
             }
             publish(followUps, who);
@@ -1604,7 +1620,7 @@ public final class Request implements AutoCloseable {
         if (watch != null && own != null) {
             watch.stageFollows(this, relay.number, own.number);
         }
-        if (machine.answer() != History.WON) {
+        if (machine.answer() != Layout.WON) {
             return null;
         }
         if (own == null) {

@@ -16,7 +16,7 @@ import java.util.function.Supplier;
  * Opens requests. It has the executor for functions of {@code Async} stages without one, the texts that its requests make of values, the contexts of
  * their functions, and the hook for their ends. A process needs one service. Any thread may use it.
  *
- * <p>It has no threads of its own, keeps no list of its requests, and needs no closing: shut the executor down yourself.
+ * <p>It has no threads of its own, and needs no closing: shut the executor down yourself. A {@link Meter} tells which of its requests are open.
  */
 public final class Service {
     /** For how many stages a request has room at first; more is made where it is needed. */
@@ -28,6 +28,8 @@ public final class Service {
     private final Contexts contexts;
     /** Null without a hook. */
     private final Ends<History> ends;
+    /** Null where nothing is counted. */
+    private final Meter meter;
     private final AtomicLong requests;
     /** Whether its requests go on in further ones. */
     private final boolean isContinued;
@@ -35,7 +37,7 @@ public final class Service {
     final Watch watch;
 
     static {
-        WatchedServices.setMaker((executor, watch) -> new Service(executor, Describe.ALL, null, null, new AtomicLong(), false, watch));
+        WatchedServices.setMaker((executor, watch) -> new Service(executor, Describe.ALL, null, null, null, new AtomicLong(), false, watch));
     }
 
     /** With the executor that {@link CompletableFuture} uses if none is given: the common pool, or a thread for each task if that has one thread. */
@@ -50,14 +52,16 @@ public final class Service {
      *        {@link java.util.concurrent.RejectedExecutionException}, and a stage that becomes ready later fails with that
      */
     public Service(Executor executor) {
-        this(Objects.requireNonNull(executor), Describe.ALL, null, null, new AtomicLong(), false, null);
+        this(Objects.requireNonNull(executor), Describe.ALL, null, null, null, new AtomicLong(), false, null);
     }
 
-    private Service(Executor executor, Describe describe, Contexts contexts, Ends<History> ends, AtomicLong requests, boolean goesOn, Watch watch) {
+    private Service(Executor executor, Describe describe, Contexts contexts, Ends<History> ends, Meter meter, AtomicLong requests,
+            boolean goesOn, Watch watch) {
         this.executor = executor;
         this.describe = describe;
         this.contexts = contexts;
         this.ends = ends;
+        this.meter = meter;
         this.requests = requests;
         this.isContinued = goesOn;
         this.watch = watch;
@@ -65,7 +69,7 @@ public final class Service {
 
     /** A service with the same executor, whose histories, texts and recordings show values and exceptions as this makes texts of them. */
     public Service withDescribe(Describe describe) {
-        return new Service(executor, Objects.requireNonNull(describe), contexts, ends, requests, isContinued, watch);
+        return new Service(executor, Objects.requireNonNull(describe), contexts, ends, meter, requests, isContinued, watch);
     }
 
     /**
@@ -73,7 +77,7 @@ public final class Service {
      * called within that of the place where its request was opened.
      */
     public Service withContexts(Contexts contexts) {
-        return new Service(executor, describe, Objects.requireNonNull(contexts), ends, requests, isContinued, watch);
+        return new Service(executor, describe, Objects.requireNonNull(contexts), ends, meter, requests, isContinued, watch);
     }
 
     /**
@@ -86,12 +90,18 @@ public final class Service {
      * aren't told, and one warning says so. The thread is no daemon: the JVM waits for it, unless {@code System.exit} ends the JVM.
      */
     public Service onEnd(Consumer<? super History> hook) {
-        return new Service(executor, describe, contexts, new Ends<>(Objects.requireNonNull(hook), "cf.service"), requests, isContinued, watch);
+        Ends<History> told = new Ends<>(Objects.requireNonNull(hook), "cf.service");
+        return new Service(executor, describe, contexts, told, meter, requests, isContinued, watch);
+    }
+
+    /** A service with the same executor. The meter tells which of its requests are open, and counts what happened in those that are over. */
+    public Service withMeter(Meter meter) {
+        return new Service(executor, describe, contexts, ends, Objects.requireNonNull(meter), requests, isContinued, watch);
     }
 
     /** A service with the same executor, each of whose requests {@link Request#continueInNext continues in a next one} if it is full. */
     public Service withNextRequests() {
-        return new Service(executor, describe, contexts, ends, requests, true, watch);
+        return new Service(executor, describe, contexts, ends, meter, requests, true, watch);
     }
 
     /**
@@ -154,6 +164,15 @@ public final class Service {
 
     Ends<History> ends() {
         return ends;
+    }
+
+    Meter meter() {
+        return meter;
+    }
+
+    /** Whether anybody is told of a request that is over. */
+    boolean tellsEnds() {
+        return ends != null || meter != null;
     }
 
     /** The contexts of this place, or null. */

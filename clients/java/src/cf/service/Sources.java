@@ -42,6 +42,12 @@ final class Sources {
         return sources[stage] != null ? sources[stage] : flow.plannedStage(stage).sources;
     }
 
+    /** Whether it stands right below a stage that composes, for what the function of that may give. */
+    boolean isRelay(int stage) {
+        read();
+        return stage + 1 < stages && forms[stage + 1].composes;
+    }
+
     private void read() {
         for (long word : machine.words(words)) {
             words++;

@@ -1,6 +1,7 @@
 package cf.service;
 
 import cf.internal.Form;
+import cf.internal.Layout;
 import cf.internal.Words;
 import java.util.ArrayList;
 import java.util.Arrays;
@@ -9,9 +10,9 @@ import java.util.LinkedHashMap;
 import java.util.List;
 import java.util.Map;
 
-/** Reads spans out of a history, in one pass over its words. */
+/** Reads out of a history, in one pass over its words, when functions were claimed and finished, and spans. */
 final class SpanReader {
-    private static final int NONE = -1;
+    private static final int NONE = History.NEVER;
     /** Tags of finishes. */
     private static final int THROWS = 2, LINKS = 3;
 
@@ -25,8 +26,9 @@ final class SpanReader {
     /** Stages for which another one waits, or that a function attached. */
     private final boolean[] inner;
 
-    private SpanReader(History history) {
+    SpanReader(History history) {
         this.history = history;
+        history.read();
         forms = history.allForms();
         of = history.allSources();
         claims = new int[history.stages()];
@@ -62,6 +64,25 @@ final class SpanReader {
         return spans;
     }
 
+    /** The event by which a stage's function was claimed, or {@link History#NEVER}. */
+    int claim(int stage) {
+        return claims[stage];
+    }
+
+    /** The event by which it was finished, or {@link History#NEVER}. */
+    int finish(int stage) {
+        return finishes[stage];
+    }
+
+    /** Whether a stage has failed that nothing waits for. */
+    boolean hasFailed() {
+        boolean has = false;
+        for (int k = 0; k < inner.length; k++) {
+            has |= !inner[k] && status(k) == Span.Status.ERROR;
+        }
+        return has;
+    }
+
     private void read(int k, long word) {
         int who = Words.caller(word), stage = Words.stage(word);
         switch (Words.kind(word)) {
@@ -69,7 +90,7 @@ final class SpanReader {
                 inner[history.number(k)] |= running[who] > 0;
                 break;
             case Words.CLAIM:
-                if (history.answer(k) == History.GRANTED) {
+                if (history.answer(k) == Layout.GRANTED) {
                     claims[stage] = k;
                     running[who]++;
                 }
@@ -125,7 +146,7 @@ final class SpanReader {
 
     private Span.Status status(int stage) {
         int kind = history.kind(stage);
-        return kind == 0 ? Span.Status.UNSET : kind == History.GIVES ? Span.Status.OK : Span.Status.ERROR;
+        return kind == Layout.PENDING ? Span.Status.UNSET : kind == Layout.VALUE ? Span.Status.OK : Span.Status.ERROR;
     }
 
     private Map<String, String> thrown(long finish) {

@@ -139,74 +139,81 @@ abstract class Waits<T> extends CompletableFuture<T> {
     }
 
     /**
-     * A request's one alarm, at its first deadline. The request's lock guards it, but isn't held while an alarm is set or stopped.
+     * A request's one alarm, for its machine's next deadline. The request's lock guards it, but isn't held while an alarm is set or stopped. One
+     * that was set for a stage that is settled meanwhile rings too early, and sets the next one then.
      */
     static final class Alarm {
         static final long NEVER = Long.MAX_VALUE;
 
         private final Request request;
-        /** The moment that is wanted; that of the task, where there is one; and up to which moment time has passed. */
-        private long wanted = NEVER, comes = NEVER, passed;
-        private Future<?> task;
+        /** The moment of the next deadline, as the machine told it last. */
+        private long due = NEVER;
+        private Ring set;
+
+        /** One time that it rings. */
+        final class Ring implements Runnable {
+            private final long moment;
+            private Future<?> task;
+            private boolean hasRung;
+
+            private Ring(long moment) {
+                this.moment = moment;
+            }
+
+            @Override
+            public void run() {
+                request.passTime(this);
+            }
+        }
 
         Alarm(Request request) {
             this.request = request;
         }
 
-        /** Whether this moment is now the first one, so that the caller has to {@link #set} it once the lock is free. The lock is held. */
-        boolean becomesFirst(long moment) {
-            boolean is = moment < wanted;
-            wanted = is ? moment : wanted;
-            return is;
+        /** The machine's next deadline is at this moment. The lock is held. */
+        void setDue(long moment) {
+            due = moment;
         }
 
-        /**
-         * Sets the alarm to a moment, unless another thread wants it earlier by now, or nothing is due any more. Where no thread can be started, the
-         * alarm that there was stays.
-         */
+        /** The moment for which it is to be {@link #set} once the lock is free, or NEVER. The lock is held. */
+        long missing() {
+            return due < comes() ? due : NEVER;
+        }
+
+        private long comes() {
+            return set == null ? NEVER : set.moment;
+        }
+
+        /** Sets it, unless it rings earlier by now, or nothing is due any more. Where no thread can be started, the alarm that there was stays. */
         void set(long moment) {
-            Future<?> made = null, over;
-            try {
-                made = Clock.runAt(moment, request::passTime);
-            } finally {
-                synchronized (request.lock()) {
-                    over = made;
-                    if (wanted == moment && made != null && request.isDue()) {
-                        over = task;
-                        task = made;
-                        comes = moment;
-                    } else if (wanted == moment) {
-                        wanted = comes;
-                    }
+            Ring made = new Ring(moment), over = made;
+            made.task = Clock.runAt(moment, made);
+            synchronized (request.lock()) {
+                if (!made.hasRung && due < NEVER && moment < comes()) {
+                    over = set;
+                    set = made;
                 }
-                stop(over);
             }
+            stop(over);
         }
 
-        /**
-         * The moment that has come, which isn't wanted any more then, or NEVER. A limit that was set slowly may be past already: it comes at once.
-         * The lock is held.
-         */
-        long takeDue() {
-            if (wanted > Clock.now()) {
-                return NEVER;
-            }
-            passed = Math.max(passed, wanted);
-            clear();
-            return passed;
+        /** It rings: the moment of the next deadline, if that has come, or NEVER. A limit that was set slowly comes at once. The lock is held. */
+        long takeDue(Ring ring) {
+            ring.hasRung = true;
+            set = set == ring ? null : set;
+            return due > Clock.now() ? NEVER : due;
         }
 
-        /** Clears the alarm, and gives the task, which the caller stops once the lock is free. The lock is held. */
-        Future<?> clear() {
-            Future<?> over = task;
-            task = null;
-            wanted = comes = NEVER;
+        /** Takes the alarm away where nothing is due; the caller stops it once the lock is free. The lock is held. */
+        Ring takeIfIdle() {
+            Ring over = due == NEVER ? set : null;
+            set = over == null ? set : null;
             return over;
         }
 
-        static void stop(Future<?> task) {
-            if (task != null) {
-                task.cancel(false);
+        static void stop(Ring ring) {
+            if (ring != null) {
+                ring.task.cancel(false);
             }
         }
     }

@@ -143,13 +143,13 @@ final class Insight implements Stores {
         @Override
         public Object outcome(int stage) {
             Throwable fault = view.fault(view.outcome(stage));
-            return fault == null ? view.value(view.outcome(stage)) : fault;
+            return fault == null ? view.value(view.outcome(stage).place) : fault;
         }
 
         @Override
         public String endText(int stage) {
             Object outcome = outcome(stage);
-            if (outcome instanceof CancellationException && view.outcome(stage)[NativeRow.WRAPPED] == 0) {
+            if (outcome instanceof CancellationException && !view.outcome(stage).isWrapped) {
                 return "is cancelled";
             }
             if (outcome instanceof Throwable && !(outcome instanceof RemoteException)) {

@@ -1,6 +1,10 @@
 package cf.store;
 
+import cf.internal.Layout;
 import cf.internal.Native;
+import java.nio.ByteBuffer;
+import java.nio.ByteOrder;
+import java.util.function.ObjIntConsumer;
 
 /**
  * What one session knows of a row of words in a store, as the library's view of it does (docs/C.md, "A row in a store"). One thread at a time
@@ -11,36 +15,86 @@ final class NativeRow implements AutoCloseable {
     static final int COUNT_BITS = 23;
     /** Bits of a session's number. */
     static final int SESSION_BITS = 39;
-    /** Codes of cf.h. */
-    static final int NO_ROOM = 30, ROOM = 16;
-    /** How far a stage has come that is settled. */
-    static final int SETTLED = 4;
-    /** The kinds of an outcome. */
-    static final int VALUE = 1, THROWN = 2, CANCELLED = 3, TIMED_OUT = 4, BAD_ANSWER = 5;
-    /** The kinds of an answer: a value, which is null where the number is negative; an exception; a link to a stage. */
-    static final int GIVE = 0, THROW = 1, LINK = 2;
-    /** The arguments of a function that doesn't handle its source's outcome. */
-    static final int NO_ARGS = 0, ONE = 1, TWO = 2;
-    /** Places in {@link #reply}: the answer, the number of a stage that was attached, and arguments. */
-    static final int ANSWER = 0, NUMBER = 1, ARGS = 2, FIRST = 3, SECOND = 5, OUTCOME = 7;
-    /** Numbers of a stage that an entry changed: its own, how far it is, its caller, to what it is linked, and five of its outcome. */
-    static final int STAGE = 9, KIND = 1, ENDED = 4;
-    /** Places within an outcome. */
-    static final int WRAPPED = 1, CODE = 2, SOME = 3, GIVEN = 4;
-
     static {
         Native.load();
     }
 
-    /** The reply to the last entry that was taken in. */
-    final int[] reply = new int[12];
     private long view;
+    /** The memory of a view: struct view_block of native/block.h. */
+    private final ByteBuffer memory;
+    /** How many stages the last entry changed. */
+    private int changed;
 
     /** A view of the row of a plan's request, which is given as {@link Native#plan} has it. */
     NativeRow(int[] plan, int room, int first, long session) {
         view = open(plan, room, first, session);
         if (view < 0) {
             throw new Refusal((int) -view);
+        }
+        memory = memoryOf(view);
+    }
+
+    private static ByteBuffer memoryOf(long view) {
+        try {
+            return memory(view).order(ByteOrder.nativeOrder());
+        } catch (OutOfMemoryError none) {
+            close(view);
+            throw none;
+        }
+    }
+
+    /** How a stage or a source ended: with the place of its value, or of its failure; 0 where no payload says more. */
+    static final class Outcome {
+        static final Outcome PENDING = new Outcome(Layout.PENDING, false, 0);
+        final int kind, place;
+        final boolean isWrapped;
+
+        private Outcome(int kind, boolean isWrapped, int place) {
+            this.kind = kind;
+            this.isWrapped = isWrapped;
+            this.place = place;
+        }
+
+        private static Outcome of(ByteBuffer memory, int at) {
+            int kind = memory.getInt(at + Layout.OUTCOME_KIND);
+            return new Outcome(kind, memory.getInt(at + Layout.OUTCOME_WRAPPED) != 0,
+                    kind == Layout.VALUE ? place(memory, at + Layout.OUTCOME_VALUE) : memory.getInt(at + Layout.OUTCOME_CODE));
+        }
+
+        /** The number of a value, which the library has as 0 where it is null. */
+        private static int place(ByteBuffer memory, int at) {
+            return memory.getInt(at + Layout.VALUE_NUMBER);
+        }
+
+        boolean isValue() {
+            return kind == Layout.VALUE;
+        }
+    }
+
+    /** The reply to an entry; of a claim, with what the stage's function is called with: the places of values, 0 for null, or its source's outcome. */
+    static final class Reply {
+        final int answer, number, arguments, first, second;
+        final Outcome source;
+
+        private Reply(ByteBuffer memory, int at) {
+            int args = at + Layout.REPLY_ARGS;
+            answer = memory.getInt(at + Layout.REPLY_ANSWER);
+            number = memory.getInt(at + Layout.REPLY_NUMBER);
+            arguments = memory.getInt(args + Layout.ARGS_KIND);
+            first = Outcome.place(memory, args + Layout.ARGS_FIRST);
+            second = Outcome.place(memory, args + Layout.ARGS_SECOND);
+            source = Outcome.of(memory, args + Layout.ARGS_OUTCOME);
+        }
+    }
+
+    /** A claim that is open: its stage, and the session to which it was granted. */
+    static final class OpenClaim {
+        final int stage;
+        final long session;
+
+        private OpenClaim(ByteBuffer memory, int at) {
+            stage = memory.getShort(at + Layout.CLAIM_STAGE);
+            session = memory.getLong(at + Layout.CLAIM_SESSION);
         }
     }
 
@@ -73,22 +127,36 @@ final class NativeRow implements AutoCloseable {
         giveUpPut(view);
     }
 
-    /** Sees an entry; {@link #reply} has its reply then. The stages that it changed, rising, of {@link #STAGE} numbers each. */
-    int[] takeIn(long word, long token) {
-        int[] changed = takeIn(view, word, token, reply);
-        if (changed == null) {
-            throw new Refusal(reply[0] < 0 ? -reply[0] : Native.NO_MEMORY);
+    /** Sees an entry. */
+    Reply takeIn(long word, long token) {
+        int count = takeIn(view, word, token);
+        if (count < 0) {
+            throw new Refusal(-count);
         }
-        return changed;
+        changed = count;
+        return new Reply(memory, Layout.VIEW_REPLY);
+    }
+
+    /** Hands over each stage, by rising number, that the last entry changed and that is settled, with its outcome. */
+    void forEachSettled(ObjIntConsumer<Outcome> act) {
+        for (int k = 0; k < changed; k++) {
+            if (k > 0 && k % Layout.MOST_NEWS == 0) {
+                fetchNews(view, k);
+            }
+            int news = Layout.VIEW_NEWS + Layout.NEWS_SIZE * (k % Layout.MOST_NEWS);
+            if (memory.getInt(news + Layout.NEWS_KIND) == Layout.IS_SETTLED) {
+                act.accept(Outcome.of(memory, news + Layout.NEWS_OUTCOME), memory.getShort(news + Layout.NEWS_STAGE));
+            }
+        }
     }
 
     /** Makes room for so many stages more, and says whether there could be so many. */
     boolean grow(int more) {
         int refused = -grow(view, more);
-        if (refused != Native.OK && refused != ROOM) {
+        if (refused != Layout.OK && refused != Layout.ROOM) {
             throw new Refusal(refused);
         }
-        return refused == Native.OK;
+        return refused == Layout.OK;
     }
 
     /** The caller's number of this session. */
@@ -105,7 +173,7 @@ final class NativeRow implements AutoCloseable {
         return lowestReady(view, from);
     }
 
-    /** The word that finishes a stage of this session with an answer of a kind, {@link #GIVE} and so on, and its number; or -1 where it hasn't the stage. */
+    /** The word that finishes a stage of this session with an answer of a kind, and its number, -1 for null; or -1 where it hasn't the stage. */
     long finishWord(int stage, int kind, int number) {
         return finishWord(view, stage, kind, number);
     }
@@ -115,10 +183,9 @@ final class NativeRow implements AutoCloseable {
         return nextClaim(view, stage, kind, number, from);
     }
 
-    /** The lowest stage from this one on whose claim is open, and the session to which it was granted; or null. */
-    long[] nextOpenClaim(int from) {
-        long[] claim = new long[2];
-        return nextOpenClaim(view, from, claim) ? claim : null;
+    /** That of the lowest stage from this one on whose claim is open; or null. */
+    OpenClaim nextOpenClaim(int from) {
+        return nextOpenClaim(view, from) ? new OpenClaim(memory, Layout.VIEW_CLAIM) : null;
     }
 
     /** The word that fails the lowest stage from this one on that a session has, which names no exception yet; or -1 where it has none. */
@@ -136,6 +203,8 @@ final class NativeRow implements AutoCloseable {
 
     private static native long open(int[] plan, int room, int first, long session);
 
+    private static native ByteBuffer memory(long view);
+
     private static native void close(long view);
 
     private static native long planPut(long view, long[] words);
@@ -144,7 +213,11 @@ final class NativeRow implements AutoCloseable {
 
     private static native void giveUpPut(long view);
 
-    private static native int[] takeIn(long view, long word, long token, int[] told);
+    /** How many stages it changed, or a code negated. The reply is in the memory then, and the first of the stages. */
+    private static native int takeIn(long view, long word, long token);
+
+    /** Brings the stages that the last entry changed, from this one in their row on. */
+    private static native void fetchNews(long view, int from);
 
     private static native int grow(long view, int more);
 
@@ -156,7 +229,7 @@ final class NativeRow implements AutoCloseable {
 
     private static native int nextClaim(long view, int held, int kind, int number, int from);
 
-    private static native boolean nextOpenClaim(long view, int from, long[] claim);
+    private static native boolean nextOpenClaim(long view, int from);
 
     private static native long abandonWord(long view, long session, int from);
 }

@@ -4,7 +4,7 @@ import cf.internal.Form;
 import cf.internal.Freed;
 import cf.internal.Full;
 import cf.internal.Host;
-import cf.internal.Native;
+import cf.internal.Layout;
 import cf.internal.Text;
 import cf.internal.Words;
 import cf.service.Describe;
@@ -50,9 +50,9 @@ final class RowView {
     /** Composing stages that were settled, and whose promises may be waited for by nobody. */
     final TreeSet<Integer> unlinked = new TreeSet<>();
     /** The replies to this session's claims that were granted unknown to it, as it found when it read the row. */
-    final TreeMap<Integer, int[]> foundClaims = new TreeMap<>();
+    final TreeMap<Integer, NativeRow.Reply> foundClaims = new TreeMap<>();
     /** The reply to each claim that was granted: the arguments of its stage's function. */
-    final Map<Integer, int[]> claimReplies = new HashMap<>();
+    final Map<Integer, NativeRow.Reply> claimReplies = new HashMap<>();
     /** The tokens of words that may stand, and the places where they would. */
     private final Map<Long, Integer> doubtfulPlaces = new HashMap<>();
     private final Map<Integer, byte[]> ownPayloads = new HashMap<>();
@@ -86,34 +86,34 @@ final class RowView {
         }
 
         static Finish withValue(int stage, byte[] value) {
-            return new Finish(stage, value, NativeRow.GIVE, 0);
+            return new Finish(stage, value, Layout.GIVE, 0);
         }
 
         static Finish withException(int stage, byte[] thrown) {
-            return new Finish(stage, thrown, NativeRow.THROW, 0);
+            return new Finish(stage, thrown, Layout.THROW, 0);
         }
 
         /** A composing stage is linked to its promise, which the stage stands for that the payload names. */
         static Finish withLink(int stage, byte[] given, int promise) {
-            return new Finish(stage, given, NativeRow.LINK, promise);
+            return new Finish(stage, given, Layout.LINK, promise);
         }
 
         boolean hasException() {
-            return kind == NativeRow.THROW;
+            return kind == Layout.THROW;
         }
 
         /** The number of the answer, where the finish stands at this place. */
         private int answerNumber(int place) {
-            return kind == NativeRow.LINK ? to : payload == null ? -1 : place;
+            return kind == Layout.LINK ? to : payload == null ? -1 : place;
         }
     }
 
     /** An entry that was taken in: its word and its reply. */
     static final class DoneEntry {
         final long word;
-        final int[] reply;
+        final NativeRow.Reply reply;
 
-        DoneEntry(long word, int[] reply) {
+        DoneEntry(long word, NativeRow.Reply reply) {
             this.word = word;
             this.reply = reply;
         }
@@ -132,8 +132,8 @@ final class RowView {
         StoredPlan.StageSpec spec;
         final int attachPlace;
         byte[] payload;
-        /** Once it is settled: the outcome's numbers, and the place where it was. */
-        int[] outcome;
+        /** Once it is settled: its outcome, and the place where it was. */
+        NativeRow.Outcome outcome;
         int settledPlace;
 
         StageState(Form form, int[] of, StoredPlan.StageSpec spec, int attached) {
@@ -165,7 +165,7 @@ final class RowView {
             try {
                 return new NativeRow(plan.rows, room, first, session);
             } catch (NativeRow.Refusal refused) {
-                if (refused.code != NativeRow.ROOM || room == 0) {
+                if (refused.code != Layout.ROOM || room == 0) {
                     throw new StoreException.Broken(opened.name, 0, "its plan can't be read: " + refused.getMessage());
                 }
                 room /= 2;
@@ -223,8 +223,8 @@ final class RowView {
     /** The stages whose claim is open, each with the session to which it was granted: also those that were settled since. */
     private Map<Integer, Long> claims() {
         Map<Integer, Long> claims = new TreeMap<>();
-        for (long[] claim = row.nextOpenClaim(0); claim != null; claim = row.nextOpenClaim((int) claim[0] + 1)) {
-            claims.put((int) claim[0], claim[1]);
+        for (NativeRow.OpenClaim claim = row.nextOpenClaim(0); claim != null; claim = row.nextOpenClaim(claim.stage + 1)) {
+            claims.put(claim.stage, claim.session);
         }
         return claims;
     }
@@ -238,14 +238,14 @@ final class RowView {
 
     /** Whether this session has a claim of a stage that isn't finished. */
     boolean hasClaim(int stage) {
-        long[] claim = row.nextOpenClaim(stage);
-        return claim != null && claim[0] == stage && claim[1] == session;
+        NativeRow.OpenClaim claim = row.nextOpenClaim(stage);
+        return claim != null && claim.stage == stage && claim.session == session;
     }
 
     /** Whether any session has one. */
     boolean isClaimed(int stage) {
-        long[] claim = row.nextOpenClaim(stage);
-        return claim != null && claim[0] == stage;
+        NativeRow.OpenClaim claim = row.nextOpenClaim(stage);
+        return claim != null && claim.stage == stage;
     }
 
     /** The word that fails this stage for a session that is gone, or null where that doesn't have it. */
@@ -314,7 +314,7 @@ final class RowView {
             if (landed) {
                 List<DoneEntry> own = done.subList(0, put.entries.size());
                 for (int k = 0; k < own.size(); k++) {
-                    host.noteAnswer(opened.name, put.at + 1 + k, own.get(k).word, own.get(k).reply[NativeRow.ANSWER]);
+                    host.noteAnswer(opened.name, put.at + 1 + k, own.get(k).word, own.get(k).reply.answer);
                 }
                 return own;
             }
@@ -359,7 +359,7 @@ final class RowView {
         row.landed(put.entries.get(0).word, put.entries.get(0).token);
         ownPayloads.putAll(put.payloads);
         DoneEntry done = takeIn(put.entries.get(0));
-        host.noteAnswer(opened.name, put.at + 1, done.word, done.reply[NativeRow.ANSWER]);
+        host.noteAnswer(opened.name, put.at + 1, done.word, done.reply.answer);
         return true;
     }
 
@@ -414,40 +414,39 @@ final class RowView {
     /** Takes in the entry that stands behind all others. */
     private DoneEntry takeIn(Store.Entry entry) {
         int place = wordCount + 1;
-        int[] changed;
+        NativeRow.Reply reply;
         long by = entry.token >>> NativeRow.COUNT_BITS;
         boolean failsOwn = by != session && Words.kind(entry.word) == Words.FAIL && hasClaim(Words.stage(entry.word));
         try {
             if (Words.kind(entry.word) == Words.ATTACH) {
                 makeRoom(1);
             }
-            changed = row.takeIn(entry.word, entry.token);
+            reply = row.takeIn(entry.word, entry.token);
         } catch (NativeRow.Refusal refused) {
-            if (refused.code == Native.NO_MEMORY) {
+            if (refused.code == Layout.NO_MEMORY) {
                 throw new OutOfMemoryError("a view of a row");
             }
             throw new StoreException.Broken(opened.name, place, "the word " + entry.word + " can't be done: " + refused.getMessage());
         }
         keepWord(entry);
-        int[] reply = row.reply.clone();
         if (by != session && isRead) {
             onOtherSession.accept(by);
         }
-        if (failsOwn && reply[NativeRow.ANSWER] != 0) {
+        if (failsOwn && reply.answer != 0) {
             onTakenForGone.run();
         }
         boolean isOwn = doubtfulPlaces.remove(entry.token) != null;
         if (isOwn) {
-            host.noteAnswer(opened.name, place, entry.word, reply[NativeRow.ANSWER]);
+            host.noteAnswer(opened.name, place, entry.word, reply.answer);
         }
         switch (Words.kind(entry.word)) {
             case Words.ATTACH:
-                if (reply[NativeRow.ANSWER] == 0) {
+                if (reply.answer == 0) {
                     stages.add(stageOf(entry, place));
                 }
                 break;
             case Words.CLAIM:
-                if (reply[NativeRow.ANSWER] == 0) {
+                if (reply.answer == 0) {
                     claimReplies.put(Words.stage(entry.word), reply);
                     if (isOwn) {
                         foundClaims.put(Words.stage(entry.word), reply);
@@ -455,14 +454,14 @@ final class RowView {
                 }
                 break;
             case Words.FINISH:
-                if (reply[NativeRow.ANSWER] == 0 && Words.isLinking(entry.word)) {
+                if (reply.answer == 0 && Words.isLinking(entry.word)) {
                     links.put(Words.lowBits(entry.word), place);
                 }
                 break;
             default:
         }
         doubtfulPlaces.values().removeIf(its -> its <= place); // (a word that was to stand here, and doesn't, never will)
-        takeInChanges(changed, place);
+        row.forEachSettled((outcome, stage) -> settle(stage, outcome, place));
         return new DoneEntry(entry.word, reply);
     }
 
@@ -483,19 +482,17 @@ final class RowView {
         return made;
     }
 
-    private void takeInChanges(int[] changed, int place) {
-        for (int at = 0; at < changed.length; at += NativeRow.STAGE) {
-            StageState stage = stages.get(changed[at]);
-            if (changed[at + NativeRow.KIND] != NativeRow.SETTLED || stage.settledPlace > 0) {
-                continue;
-            }
-            stage.outcome = Arrays.copyOfRange(changed, at + NativeRow.ENDED, at + NativeRow.STAGE);
-            stage.settledPlace = place;
-            settledStages++;
-            newlySettled.add(changed[at]);
-            if (stage.form.composes) {
-                unlinked.add(changed[at]);
-            }
+    private void settle(int number, NativeRow.Outcome outcome, int place) {
+        StageState stage = stages.get(number);
+        if (stage.settledPlace > 0) {
+            return;
+        }
+        stage.outcome = outcome;
+        stage.settledPlace = place;
+        settledStages++;
+        newlySettled.add(number);
+        if (stage.form.composes) {
+            unlinked.add(number);
         }
     }
 
@@ -656,44 +653,32 @@ final class RowView {
         return requirePayload(opened, place, mine != null ? mine : retryingForAMinute(host, () -> store.payload(opened.name, opened.number, place)));
     }
 
-    /** The value of a kind and a number. */
-    Object value(int some, int place) {
-        return some == 0 ? null : readPayload(place, Json::read);
+    /** The value of a place, 0 for null. */
+    Object value(int place) {
+        return place == 0 ? null : readPayload(place, Json::read);
     }
 
     /** The exception of an outcome, or null where it is a value. */
-    Throwable fault(int[] outcome) {
-        int place = outcome[0] == NativeRow.VALUE ? 0 : payloadPlace(outcome);
-        return place == 0 ? fault(outcome[0], null) : readPayload(place, payload -> fault(outcome[0], payload));
+    Throwable fault(NativeRow.Outcome outcome) {
+        int place = outcome.isValue() ? 0 : payloadPlace(outcome);
+        return place == 0 ? fault(outcome.kind, null) : readPayload(place, payload -> fault(outcome.kind, payload));
     }
 
-    Object value(int[] outcome) {
-        return value(outcome[NativeRow.SOME], outcome[NativeRow.GIVEN]);
-    }
-
-    /** The place of the payload that says more of an outcome, or 0. */
-    private static int payloadPlace(int[] outcome) {
-        switch (outcome[0]) {
-            case NativeRow.VALUE:
-                return outcome[NativeRow.SOME] == 0 ? 0 : outcome[NativeRow.GIVEN];
-            case NativeRow.THROWN:
-            case NativeRow.TIMED_OUT:
-                return outcome[NativeRow.CODE];
-            default:
-                return 0;
-        }
+    /** The place of the payload that is read of an outcome, or 0: what a bad answer's says isn't asked for. */
+    private static int payloadPlace(NativeRow.Outcome outcome) {
+        return outcome.kind == Layout.BAD_ANSWER ? 0 : outcome.place;
     }
 
     /** The exception of an outcome of a kind, by its payload if it has one; or null where it is a value. */
     private static Throwable fault(int kind, byte[] payload) {
         switch (kind) {
-            case NativeRow.VALUE:
+            case Layout.VALUE:
                 return null;
-            case NativeRow.THROWN:
+            case Layout.THROWN:
                 return RemoteException.fromMap(Json.read(payload));
-            case NativeRow.CANCELLED:
+            case Layout.CANCELLED:
                 return new CancellationException();
-            case NativeRow.TIMED_OUT:
+            case Layout.TIMED_OUT:
                 return new TimeoutException(payload == null ? null : RemoteException.fromMap(Json.read(payload)).text());
             default:
                 return new IllegalStateException("a stage waits for one for which it can't");
@@ -702,9 +687,9 @@ final class RowView {
 
     /** How a settled stage ended. */
     Ending ending(int stage) {
-        int[] outcome = outcome(stage);
+        NativeRow.Outcome outcome = outcome(stage);
         int place = payloadPlace(outcome);
-        return new Ending(this, outcome[0], place, ownPayloads.get(place));
+        return new Ending(this, outcome.kind, place, ownPayloads.get(place));
     }
 
     /** How a stage ended. Any thread may read it, which asks the store at most once for each of both. */
@@ -724,7 +709,7 @@ final class RowView {
 
         /** Its exception, or null where it is a value. */
         Throwable fault() {
-            return kind == NativeRow.VALUE || place == 0 ? RowView.fault(kind, null) : read(given -> RowView.fault(kind, given));
+            return kind == Layout.VALUE || place == 0 ? RowView.fault(kind, null) : read(given -> RowView.fault(kind, given));
         }
 
         /** Its value. */
@@ -737,8 +722,7 @@ final class RowView {
         }
     }
 
-    /** The numbers of a settled stage's outcome. */
-    int[] outcome(int stage) {
+    NativeRow.Outcome outcome(int stage) {
         return stages.get(stage).outcome;
     }
 
@@ -778,18 +762,18 @@ final class RowView {
 
     /** The word that settles a promise as a stage is. */
     private WantedWord copyingWord(int promise, int given) {
-        int[] outcome = outcome(given);
-        switch (outcome[0]) {
-            case NativeRow.VALUE:
-                return new WantedWord(Words.complete(0, promise, Words.NIL), outcome[NativeRow.SOME] == 0 ? null : payload(outcome[NativeRow.GIVEN]));
-            case NativeRow.THROWN:
-                return new WantedWord(Words.fail(0, promise, 0), payload(outcome[NativeRow.CODE]));
-            case NativeRow.CANCELLED:
-                return outcome[NativeRow.WRAPPED] == 0 ? new WantedWord(Words.cancel(0, promise), null)
-                        : new WantedWord(Words.fail(0, promise, 0), Json.write(new RemoteException("CancelledError", "").toMap()));
+        NativeRow.Outcome outcome = outcome(given);
+        byte[] payload = outcome.place == 0 ? null : payload(outcome.place);
+        switch (outcome.kind) {
+            case Layout.VALUE:
+                return new WantedWord(Words.complete(0, promise, Words.NIL), payload);
+            case Layout.THROWN:
+                return new WantedWord(Words.fail(0, promise, 0), payload);
+            case Layout.CANCELLED:
+                return outcome.isWrapped ? new WantedWord(Words.fail(0, promise, 0), Json.write(new RemoteException("CancelledError", "").toMap()))
+                        : new WantedWord(Words.cancel(0, promise), null);
             default:
-                int failure = outcome[0] == NativeRow.TIMED_OUT ? Words.TIMED_OUT : Words.BAD_ANSWER, place = outcome[NativeRow.CODE];
-                return new WantedWord(Words.failAs(0, promise, failure, 0), place == 0 ? null : payload(place));
+                return new WantedWord(Words.failAs(0, promise, outcome.kind == Layout.TIMED_OUT ? Words.TIMED_OUT : Words.BAD_ANSWER, 0), payload);
         }
     }
 

@@ -3,6 +3,7 @@ package cf.store;
 import cf.internal.Ends;
 import cf.internal.Form;
 import cf.internal.Host;
+import cf.internal.Layout;
 import cf.internal.Words;
 import cf.service.Describe;
 import java.lang.ref.WeakReference;
@@ -793,7 +794,7 @@ public final class StoreService implements AutoCloseable {
     /** The next stage to run: one that this session has claimed already, or else a new claim; or null. */
     private ClaimedTask nextTask(StoredRequest request) {
         while (true) {
-            Map.Entry<Integer, int[]> found = request.withView(view -> view.foundClaims.pollFirstEntry());
+            Map.Entry<Integer, NativeRow.Reply> found = request.withView(view -> view.foundClaims.pollFirstEntry());
             if (found == null) {
                 return finishAndClaim(request, null);
             }
@@ -877,7 +878,7 @@ public final class StoreService implements AutoCloseable {
             queueWork(request);
         }
         RowView.DoneEntry last = done.isEmpty() ? null : done.get(done.size() - 1);
-        if (chosen.isEmpty() || last == null || last.reply[NativeRow.ANSWER] != 0) {
+        if (chosen.isEmpty() || last == null || last.reply.answer != 0) {
             return null;
         }
         int stage = chosen.get(0);
@@ -934,7 +935,7 @@ public final class StoreService implements AutoCloseable {
         return view.spec(first < 0 ? stage : first);
     }
 
-    private ClaimedTask newTask(StoredRequest request, int stage, int[] reply) {
+    private ClaimedTask newTask(StoredRequest request, int stage, NativeRow.Reply reply) {
         return request.withView(view -> {
             StoredPlan.StageSpec spec = calledSpec(view, stage);
             List<Object> args = arguments(view, stage, reply);
@@ -956,39 +957,38 @@ public final class StoreService implements AutoCloseable {
      * The exception that a further try passes on, or null where it calls the function of the first stage, whose process is gone. A wrapped exception
      * is a source's, and stages behind an abandoned stage fail, too. A try whose process is gone is done once more.
      */
-    private static RemoteException exceptionToPassOn(RowView view, int first, int[] reply, RemoteException thrown) {
-        if (!isLost(Arrays.copyOfRange(reply, NativeRow.OUTCOME, reply.length), thrown)) {
+    private static RemoteException exceptionToPassOn(RowView view, int first, NativeRow.Reply reply, RemoteException thrown) {
+        if (!isLost(reply.source, thrown)) {
             return thrown;
         }
         Throwable fault = view.isSettled(first) ? view.fault(view.outcome(first)) : null;
         return fault == null || isLost(view.outcome(first), toRemote(fault)) ? null : toRemote(fault);
     }
 
-    private static boolean isLost(int[] outcome, RemoteException thrown) {
-        return outcome[NativeRow.WRAPPED] == 0 && thrown.kind().equals(RemoteException.ABANDONED);
+    private static boolean isLost(NativeRow.Outcome outcome, RemoteException thrown) {
+        return !outcome.isWrapped && thrown.kind().equals(RemoteException.ABANDONED);
     }
 
     /** The arguments of a function, by the reply to its claim. */
-    private static List<Object> arguments(RowView view, int stage, int[] reply) {
-        switch (reply[NativeRow.ARGS]) {
-            case NativeRow.NO_ARGS:
+    private static List<Object> arguments(RowView view, int stage, NativeRow.Reply reply) {
+        switch (reply.arguments) {
+            case Layout.NO_ARGS:
                 return Collections.emptyList();
-            case NativeRow.ONE:
-                return Collections.singletonList(view.value(reply[NativeRow.FIRST], reply[NativeRow.FIRST + 1]));
-            case NativeRow.TWO:
-                return Arrays.asList(view.value(reply[NativeRow.FIRST], reply[NativeRow.FIRST + 1]),
-                        view.value(reply[NativeRow.SECOND], reply[NativeRow.SECOND + 1]));
+            case Layout.ONE:
+                return Collections.singletonList(view.value(reply.first));
+            case Layout.TWO:
+                return Arrays.asList(view.value(reply.first), view.value(reply.second));
             default:
-                return handlerArguments(view, view.form(stage), Arrays.copyOfRange(reply, NativeRow.OUTCOME, reply.length));
+                return handlerArguments(view, view.form(stage), reply.source);
         }
     }
 
     /** The arguments of a function that handles its source's outcome: a value and an exception, or the exception alone. */
-    private static List<Object> handlerArguments(RowView view, Form form, int[] outcome) {
+    private static List<Object> handlerArguments(RowView view, Form form, NativeRow.Outcome outcome) {
         Throwable fault = view.fault(outcome);
         RemoteException thrown = fault == null ? null : toRemote(fault);
         return form == Form.EXCEPTIONALLY || form == Form.EXCEPTIONALLY_COMPOSE ? Collections.singletonList(thrown)
-                : Arrays.asList(fault == null ? view.value(outcome) : null, thrown);
+                : Arrays.asList(fault == null ? view.value(outcome.place) : null, thrown);
     }
 
     private static RemoteException toRemote(Throwable fault) {
@@ -1003,24 +1003,24 @@ public final class StoreService implements AutoCloseable {
      * now.
      */
     private static List<Object> argumentsAgain(RowView view, int stage) {
-        int[] granted = view.claimReplies.get(stage);
+        NativeRow.Reply granted = view.claimReplies.get(stage);
         if (granted != null) {
             return arguments(view, stage, granted);
         }
         Form form = view.form(stage);
         int[] of = view.sources(stage);
         if (form.handles) { // (of an open source it is a bad answer, as in Python)
-            return handlerArguments(view, form, view.isSettled(of[0]) ? view.outcome(of[0]) : new int[NativeRow.GIVEN + 1]);
+            return handlerArguments(view, form, view.isSettled(of[0]) ? view.outcome(of[0]) : NativeRow.Outcome.PENDING);
         }
         List<Object> args = new ArrayList<>();
         for (int source : form == Form.APPLY_EITHER ? new int[] {hasValue(view, of[0]) || !hasValue(view, of[1]) ? of[0] : of[1]} : of) {
-            args.add(hasValue(view, source) ? view.value(view.outcome(source)) : null);
+            args.add(hasValue(view, source) ? view.value(view.outcome(source).place) : null);
         }
         return args;
     }
 
     private static boolean hasValue(RowView view, int stage) {
-        return view.isSettled(stage) && view.outcome(stage)[0] == NativeRow.VALUE;
+        return view.isSettled(stage) && view.outcome(stage).isValue();
     }
 
     private RowView.Finish callFunction(StoredRequest request, ClaimedTask task, Connection connection) {

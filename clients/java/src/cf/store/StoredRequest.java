@@ -3,6 +3,7 @@ package cf.store;
 import cf.internal.Form;
 import cf.internal.Full;
 import cf.internal.Host;
+import cf.internal.Layout;
 import cf.internal.Words;
 import cf.service.Describe;
 import cf.service.RequestFullException;
@@ -307,7 +308,7 @@ public final class StoredRequest {
             service.serveKnown(this);
         }
         service.keep(this); // (behind that: who thought it closed before doesn't forget it)
-        int number = found[0] >= 0 ? found[0] : done.get(done.size() - 1).reply[NativeRow.NUMBER];
+        int number = found[0] >= 0 ? found[0] : done.get(done.size() - 1).reply.number;
         if (composing != null) {
             composing.takenStages.add(number);
         }
@@ -369,10 +370,10 @@ public final class StoredRequest {
             service.serveKnown(this);
         }
         if (!done.isEmpty()) {
-            return done.get(0).reply[NativeRow.ANSWER] != 0;
+            return done.get(0).reply.answer != 0;
         }
-        return Words.kind(word) == Words.CANCEL && withView(view -> view.isSettled(stage) && view.outcome(stage)[0] == NativeRow.CANCELLED
-                && view.outcome(stage)[NativeRow.WRAPPED] == 0);
+        return Words.kind(word) == Words.CANCEL && withView(view -> view.isSettled(stage) && view.outcome(stage).kind == Layout.CANCELLED
+                && !view.outcome(stage).isWrapped);
     }
 
     /** Completes a flow's promises, but those that are settled; up to 32 in one put. */

@@ -79,6 +79,7 @@ public final class AllTests {
         test("a limit of a request in every order", ClosingTest::cancelsRestAtAnyMoment);
         test("users' code under a lock", UserCodeTest::unlocked);
         test("calls by states", EndsTest::byStates);
+        test("ends behind relays that nothing needs", EndsTest::toldWithoutRelays);
         test("what could go on behind random programs", LeftTest::programs);
         test("exceptions beside Java's", FaultsTest::besideJavas);
         test("hooks that throw behind many stages", FaultsTest::hooks);
@@ -104,6 +105,11 @@ public final class AllTests {
         test("histories of many threads", HistoriesTest::manyThreads);
         test("numbers of callers", HistoriesTest::callers);
         test("pages", HistoriesTest::pages);
+        test("open requests that are listed", MeterTest::listed);
+        test("open requests of all kinds", MeterTest::ofAllKinds);
+        test("why a request is open", MeterTest::why);
+        test("requests that a meter lets go", MeterTest::letGo);
+        test("a meter as a bean", MeterTest::bean);
         test("what the library tells", TaleTest::told);
         test("texts of all kinds", TaleTest::texts);
         test("tales that are refused", TaleTest::refused);
@@ -224,6 +230,7 @@ public final class AllTests {
         test("which errors of SQLite say so", StoreFaultsTest::awayFromFile);
         test("statements that are prepared once", StoreFaultsTest::prepared);
         test("puts of no words", StoreFaultsTest::plansNothing);
+        test("entries that change many stages", StoreFaultsTest::changesMany);
         test("what a function has attached before", StoredFunctionsTest::alike);
         test("the module of JDBC", StoresTest::module);
         test("what the module exports", StoresTest::exported);

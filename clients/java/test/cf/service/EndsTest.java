@@ -66,6 +66,29 @@ final class EndsTest {
         "close                            | [by cf-ends, for which the JVM waits] | | | | |",
     };
 
+    /** The hook is told of a request whose composing stage has no need of its relay: its function gave a stage that was there, or wasn't called. */
+    static void toldWithoutRelays() throws Exception {
+        BlockingQueue<String> told = new LinkedBlockingQueue<>();
+        Service service = new Service(Runnable::run).onEnd(history -> told.add(history.name()));
+        for (String name : Arrays.asList("given", "failed", "cancelled")) {
+            Request request = service.request(name);
+            Stage<Integer> stage = request.promise();
+            Stage<Integer> composed = stage.thenCompose(x -> stage);
+            is(name.equals("failed") ? stage.completeExceptionally(new IllegalStateException()) : name.equals("given") ? stage.complete(1)
+                    : composed.cancel(true) && stage.complete(1), true);
+            request.close();
+            is(told.poll(60, TimeUnit.SECONDS), name);
+        }
+        Request request = service.request("elsewhere");
+        CompletableFuture<Integer> elsewhere = new CompletableFuture<>();
+        Stage<Integer> composed = request.completedFuture(1).thenCompose(x -> elsewhere);
+        request.close();
+        is(told.poll(20, TimeUnit.MILLISECONDS), null);
+        elsewhere.complete(2);
+        is(composed.join(), 2);
+        is(told.poll(60, TimeUnit.SECONDS), "elsewhere");
+    }
+
     private final ExecutorService pool = Executors.newFixedThreadPool(1);
     private final ThreadLocal<String> context = ThreadLocal.withInitial(() -> "-");
     private final BlockingQueue<String> told = new LinkedBlockingQueue<>();

@@ -4,6 +4,7 @@ import static cf.service.Checks.is;
 import static cf.service.Checks.thrown;
 
 import cf.internal.Form;
+import cf.internal.Layout;
 import cf.internal.Native;
 import cf.internal.Words;
 import java.util.ArrayList;
@@ -32,19 +33,18 @@ final class MachineTest {
         Machine one = new Machine(flow.plan(), 8);
         one.attach(Words.attach(WHO, Form.APPLY, 1, 0, 0, 1), Machine.BY_EXECUTOR, WHO);
         one.apply(Words.complete(WHO, 0, 7), WHO);
-        is(one.claimedCount() + " " + one.readyCount() + " " + one.readyStage(0) + " " + one.settledCount() + " " + one.settledBits(0) + " "
-                + one.settledNumber(0), "0 1 1 1 "
-                + (History.GIVES << 16 | 1 << 21) + " 7");
+        is(one.claimedCount() + " " + one.readyCount() + " " + one.readyStage(0) + " " + one.settledCount() + " " + one.settledStage(0) + " "
+                + one.settledKind(0) + " " + one.isWrapped(0) + " " + one.settledNumber(0), "0 1 1 1 0 " + Layout.VALUE + " false 7");
         is(one.events(), 2);
         one.giveBackCore(null);
         long began = Native.ticks();
         Machine two = new Machine(flow.plan(), 8);
         two.attach(Words.attach(WHO, Form.APPLY, 1, 0, 0, 1), Machine.HERE, WHO);
         two.apply(Words.complete(WHO, 0, 7), WHO);
-        is(two.claimedCount() + " " + two.readyCount() + " " + two.claimedStage(0) + " " + two.argumentBits(0) + " " + two.firstArgument(0), "1 0 1 "
-                + History.ONE + " 7");
+        is(two.claimedCount() + " " + two.readyCount() + " " + two.claimedStage(0) + " " + two.argumentsKind(0) + " " + two.firstArgument(0), "1 0 1 "
+                + Layout.ONE + " 7");
         two.finish(1, false, 8, WHO);
-        is(two.answer() + " " + two.settledCount() + " " + two.settledNumber(0), History.WON + " 1 8");
+        is(two.answer() + " " + two.settledCount() + " " + two.settledNumber(0), Layout.WON + " 1 8");
         long[] kept = two.wordsAndMoments();
         is(two.events(), 4);
         is(kept.length, 4 + 3);
@@ -54,7 +54,7 @@ final class MachineTest {
         two.giveBackCore(null);
         // One that goes on has the lanes of before.
         one.apply(Words.claim(WHO, 1), WHO);
-        is(one.answer() + " " + one.claimedCount() + " " + one.firstArgument(0) + " " + one.settledCount(), History.GRANTED + " 1 7 0");
+        is(one.answer() + " " + one.claimedCount() + " " + one.firstArgument(0) + " " + one.settledCount(), Layout.GRANTED + " 1 7 0");
         one.giveBackCore(null);
         // The same by requests: the executor's functions stay its own.
         ExecutorService pool = Executors.newSingleThreadExecutor(run -> new Thread(run, "pool"));
@@ -111,9 +111,9 @@ final class MachineTest {
         Machine machine = new Machine(Words.attach(WHO, Form.SUPPLY, 0, 0, 0, 0));
         thrown(AssertionError.class, () -> machine.apply(-1, WHO));
         machine.apply(Words.claim(WHO, 0), WHO);
-        is(machine.answer() + " " + machine.claimedCount() + " " + machine.events(), History.GRANTED + " 1 2");
+        is(machine.answer() + " " + machine.claimedCount() + " " + machine.events(), Layout.GRANTED + " 1 2");
         machine.finish(0, false, 3, WHO);
-        is(machine.answer() + " " + machine.settledCount() + " " + machine.isOver(), History.WON + " 1 true");
+        is(machine.answer() + " " + machine.settledCount() + " " + machine.isOver(), Layout.WON + " 1 true");
         machine.giveBackCore(null);
     }
 
@@ -181,7 +181,7 @@ final class MachineTest {
         thrown(AssertionError.class, machine::flush);
         is(machine.events(), 4);
         // The source of the second one, which wasn't there.
-        is(machine.apply(core.address, 0, source(), Machine.HERE, Machine.NOBODY) & 0xff, (long) Native.OK);
+        is(machine.apply(core.address, 0, source(), Machine.HERE, Machine.NOBODY), Layout.OK);
         machine.apply(Words.complete(WHO, 0, 7), WHO);
         is(machine.readyCount() + " " + machine.readyStage(0) + " " + machine.claimedCount() + " " + machine.claimedStage(0), "1 3 1 4");
         is(machine.events(), 7);
@@ -201,7 +201,7 @@ final class MachineTest {
         }
         machine.setDeadline(3, new Stage.Limit(9, false, 8));
         machine.passTimeTo(9, Machine.NOBODY);
-        is(machine.settledCount() + " " + Machine.Settled.kind(machine.settledBits(0)) + " " + machine.settledNumber(0), "1 " + History.TIMED_OUT + " 8");
+        is(machine.settledCount() + " " + machine.settledKind(0) + " " + machine.settledNumber(0), "1 " + Layout.TIMED_OUT + " 8");
         String[] threads = {"main"};
         History history = new History("causes", null, machine, new String[4], new Object[0], new Throwable[0], threads, null);
         is(history.script(), "{\"cf\":3,\"room\":4,\"stages\":[],\"steps\":[[\"attach\",{\"form\":\"source\"}],"
@@ -235,43 +235,43 @@ final class MachineTest {
         Machine machine = new Machine(null, 8);
         long core = Machine.create(true);
         for (int room : new int[] {-1, 4097, 65536 + 32, Integer.MAX_VALUE, Integer.MIN_VALUE}) {
-            is(machine.open(core, 0, room, null, 0, null) != Native.OK, true);
+            is(machine.open(core, 0, room, null, 0, null) != Layout.OK, true);
         }
         for (int n : new int[] {-1, 2, Integer.MAX_VALUE, Integer.MIN_VALUE}) {
-            is(machine.open(core, 0, 8, new long[1], n, null) != Native.OK, true);
-            is(machine.open(core, 0, 8, null, n, null) != Native.OK, true);
+            is(machine.open(core, 0, 8, new long[1], n, null) != Layout.OK, true);
+            is(machine.open(core, 0, 8, null, n, null) != Layout.OK, true);
         }
-        is(machine.open(core, 0, 8, new long[] {-1}, 1, null) != Native.OK, true);
-        is(machine.open(core, 0, 8, new long[] {source(), 5, 1}, 1, new long[0]), Native.OK);
+        is(machine.open(core, 0, 8, new long[] {-1}, 1, null) != Layout.OK, true);
+        is(machine.open(core, 0, 8, new long[] {source(), 5, 1}, 1, new long[0]), Layout.OK);
         for (int waiting : new int[] {-1, 65, Integer.MAX_VALUE, Integer.MIN_VALUE}) {
-            is(machine.apply(core, waiting, source(), 0, WHO) & 0xff, 26L);
+            is(machine.apply(core, waiting, source(), 0, WHO), 26);
         }
         for (int stage : new int[] {-1, 1, 4096, Integer.MAX_VALUE}) {
-            is(machine.fetchOutcome(core, stage) != Native.OK, true);
-            is((machine.setDeadline(core, 0, stage, 5, false, 0) & 0xff) != Native.OK, true);
-            is((machine.finish(core, 0, stage, false, 0, WHO, true) & 0xff) != Native.OK, true);
+            is(machine.fetchOutcome(core, stage) != Layout.OK, true);
+            is(machine.setDeadline(core, 0, stage, 5, false, 0) != Layout.OK, true);
+            is(machine.finish(core, 0, stage, false, 0, WHO, true) != Layout.OK, true);
         }
         for (short[] of : new short[][] {{0, 1, 0}, {0, 0, -1}, {0, 4096, 0}, new short[5000]}) {
-            is((machine.gather(core, 0, Form.ALL_OF.ordinal(), of, WHO) & 0xff) != Native.OK, true);
+            is(machine.gather(core, 0, Form.ALL_OF.ordinal(), of, WHO) != Layout.OK, true);
         }
         for (int number : new int[] {-1, 64, Form.COMBINE.ordinal(), Integer.MAX_VALUE}) {
-            is((machine.gather(core, 0, number, new short[3], WHO) & 0xff) != Native.OK, true);
-            is((machine.gather(core, number == 6 ? -1 : 0, Form.ALL_OF.ordinal(), new short[3], number) & 0xff) != Native.OK, true);
+            is(machine.gather(core, 0, number, new short[3], WHO) != Layout.OK, true);
+            is(machine.gather(core, number == 6 ? -1 : 0, Form.ALL_OF.ordinal(), new short[3], number) != Layout.OK, true);
         }
-        is((int) machine.passTimeTo(core, 0, -1, Integer.MAX_VALUE) & 0xff, 0);
-        is((int) machine.apply(core, 0, Words.complete(WHO, 0, 3), Integer.MAX_VALUE, Integer.MAX_VALUE) & 0xff, 34);
-        is((int) machine.apply(core, 0, Words.complete(WHO, 0, 3), 0, WHO) & 0xff, 0);
+        is(machine.passTimeTo(core, 0, -1, Integer.MAX_VALUE), 0);
+        is(machine.apply(core, 0, Words.complete(WHO, 0, 3), Integer.MAX_VALUE, Integer.MAX_VALUE), 34);
+        is(machine.apply(core, 0, Words.complete(WHO, 0, 3), 0, WHO), 0);
         for (int n : new int[] {-1, 3, 100, Integer.MAX_VALUE}) {
-            is(machine.words(core, new long[0], 0, n) != Native.OK && machine.words(core, new long[200], 0, n) != Native.OK, true);
+            is(machine.words(core, new long[0], 0, n) != Layout.OK && machine.words(core, new long[200], 0, n) != Layout.OK, true);
         }
-        is(machine.words(core, new long[100], 0, 2), Native.OK);
-        is(machine.words(core, new long[100], 2, 0) + machine.words(core, new long[1], 1, 1), Native.OK);
+        is(machine.words(core, new long[100], 0, 2), Layout.OK);
+        is(machine.words(core, new long[100], 2, 0) + machine.words(core, new long[1], 1, 1), Layout.OK);
         long supply = Words.attach(WHO, Form.SUPPLY, 0, 0, 0, 0);
         for (long word : new long[] {-1, Words.claim(WHO, 1), Words.claim(64, 0)}) {
-            is((machine.openWith(core, word, 1, Words.claim(WHO, 0), WHO) & 0xff) != Native.OK, true);
-            is((machine.openWith(core, supply, 1, word, WHO) & 0xff) != Native.OK, true);
+            is(machine.openWith(core, word, 1, Words.claim(WHO, 0), WHO) != Layout.OK, true);
+            is(machine.openWith(core, supply, 1, word, WHO) != Layout.OK, true);
         }
-        is(machine.openWith(core, supply, Long.MIN_VALUE, supply, Integer.MAX_VALUE) & 0xff, (long) Native.OK);
+        is(machine.openWith(core, supply, Long.MIN_VALUE, supply, Integer.MAX_VALUE), Layout.OK);
         Machine.destroy(core);
         machine.giveBackCore(null);
     }
@@ -354,7 +354,7 @@ final class MachineTest {
         is(events + " " + sum, "600 600");
         machine.giveBackCore(null);
         machine.apply(Words.cancel(WHO, 1), WHO);
-        is(machine.settledCount() + " " + machine.settledBits(0) % 4096 + " " + machine.fetchMore(WHO), "1 1 false");
+        is(machine.settledCount() + " " + machine.settledStage(0) + " " + machine.fetchMore(WHO), "1 1 false");
         long[] again = machine.wordsAndMoments();
         is(machine.events(), 601);
         is(again.length, kept.length + 2);

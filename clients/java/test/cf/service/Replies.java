@@ -1,5 +1,6 @@
 package cf.service;
 
+import cf.internal.Layout;
 import cf.internal.Words;
 import java.util.ArrayList;
 import java.util.Arrays;
@@ -10,27 +11,66 @@ import java.util.List;
  * histories by its graph, so its telling is compared with this, and this with what the machine of the request told at the time.
  */
 public final class Replies {
-    private static final int ARGUMENTS = 10;
-
     private final History history;
     private final long[] words;
     private final int[] answers, numbers;
-    private final int[][] arguments;
-    /** Behind each event the stages that it settled, in their order: a number, an outcome and its number. */
-    private final List<List<int[]>> told = new ArrayList<>();
+    private final Arguments[] arguments;
+    /** Behind each event the stages that it settled, in their order. */
+    private final List<List<Told>> told = new ArrayList<>();
     /** Stages that are settled before anything was done. */
     private final boolean[] isFirst;
     /** What each stage ends in, as what is told; null where it hasn't. */
-    private final int[][] ends;
+    private final Told[] ends;
+
+    /** A stage with its outcome, or one that a function is called with: with the number of its value, -1 for null, or its failure's code. */
+    private static final class Told {
+        final int stage, kind, number;
+        final boolean isWrapped;
+
+        Told(int stage, int kind, boolean isWrapped, int number) {
+            this.stage = stage;
+            this.kind = kind;
+            this.isWrapped = isWrapped;
+            this.number = number;
+        }
+
+        int[] witness() {
+            return new int[] {stage, kind, isWrapped ? 1 : 0, number};
+        }
+    }
+
+    /** What a claimed function is called with. */
+    private static final class Arguments {
+        final int kind, first, second;
+        final Told source;
+
+        Arguments(Machine machine) {
+            int outcome = Layout.ARGS_OUTCOME, of = machine.replyArgument(outcome + Layout.OUTCOME_KIND);
+            kind = machine.replyArgument(Layout.ARGS_KIND);
+            first = value(machine, Layout.ARGS_FIRST);
+            second = value(machine, Layout.ARGS_SECOND);
+            source = new Told(0, of, machine.replyArgument(outcome + Layout.OUTCOME_WRAPPED) != 0,
+                    of == Layout.VALUE ? value(machine, outcome + Layout.OUTCOME_VALUE) : machine.replyArgument(outcome + Layout.OUTCOME_CODE));
+        }
+
+        private static int value(Machine machine, int place) {
+            return machine.replyArgument(place + Layout.VALUE_KIND) == Layout.NIL ? -1 : machine.replyArgument(place + Layout.VALUE_NUMBER);
+        }
+
+        int[] witness(int stage) {
+            return kind == Layout.GOT ? new int[] {stage, kind, source.kind, source.isWrapped ? 1 : 0, source.number, second}
+                    : new int[] {stage, kind, 0, 0, first, second};
+        }
+    }
 
     private Replies(History history) {
         this.history = history;
         words = history.words();
         answers = new int[words.length];
         numbers = new int[words.length];
-        arguments = new int[words.length][ARGUMENTS];
+        arguments = new Arguments[words.length];
         isFirst = new boolean[history.stages()];
-        ends = new int[history.stages()][];
+        ends = new Told[history.stages()];
         Machine machine = history.machine();
         int planned = history.stages() - (int) Arrays.stream(words).filter(word -> Words.kind(word) == Words.ATTACH).count();
         for (int k = 0; k < planned; k++) {
@@ -40,28 +80,29 @@ public final class Replies {
             apply(machine, k);
         }
         for (int k = 0; k < ends.length; k++) {
-            ends[k] = machine.isSettled(k) ? new int[] {k, machine.settledBits(0) >>> 16, machine.settledNumber(0)} : null;
+            ends[k] = machine.isSettled(k) ? told(machine, 0) : null;
         }
         machine.giveBackCore(null);
+    }
+
+    private static Told told(Machine machine, int k) {
+        return new Told(machine.settledStage(k), machine.settledKind(k), machine.isWrapped(k), machine.settledNumber(k));
     }
 
     private void apply(Machine machine, int event) {
         machine.apply(words[event], Machine.NOBODY);
         answers[event] = machine.answer();
         numbers[event] = machine.replyNumber();
-        for (int i = 0; i < ARGUMENTS; i++) {
-            arguments[event][i] = machine.replyArgument(i);
-        }
-        List<int[]> settled = new ArrayList<>();
+        arguments[event] = new Arguments(machine);
+        List<Told> settled = new ArrayList<>();
         do {
             for (int i = 0; i < machine.settledCount(); i++) {
-                int what = machine.settledBits(i);
-                if (!isFirst[what & 0xfff]) {
-                    settled.add(new int[] {what & 0xfff, what >>> 16, machine.settledNumber(i)});
+                if (!isFirst[machine.settledStage(i)]) {
+                    settled.add(told(machine, i));
                 }
             }
         } while (machine.fetchMore(Machine.NOBODY));
-        settled.sort((a, b) -> a[0] - b[0]);
+        settled.sort((a, b) -> a.stage - b.stage);
         told.add(settled);
     }
 
@@ -84,21 +125,21 @@ public final class Replies {
     private void compareWitness() {
         int[] claims = new int[ends.length];
         for (int k = 0; k < words.length; k++) {
-            if (Words.kind(words[k]) == Words.CLAIM && answers[k] == History.GRANTED) {
+            if (Words.kind(words[k]) == Words.CLAIM && answers[k] == Layout.GRANTED) {
                 claims[Words.stage(words[k])] = k + 1;
             }
         }
         int left = told.stream().mapToInt(List::size).sum();
         boolean[] seen = new boolean[ends.length];
         for (int[] each : history.witness) {
-            int stage = each[0] & 0xfff;
+            int stage = each[0];
             boolean same;
-            if (each.length == 2) {
-                same = !seen[stage] && ends[stage] != null && each[0] >>> 16 == ends[stage][1] && each[1] == ends[stage][2];
+            if (each.length == 4) {
+                same = !seen[stage] && ends[stage] != null && Arrays.equals(each, ends[stage].witness());
                 seen[stage] = true;
                 left -= isFirst[stage] ? 0 : 1;
             } else {
-                same = claims[stage] > 0 && Arrays.equals(each, claimed(stage, arguments[claims[stage] - 1]));
+                same = claims[stage] > 0 && Arrays.equals(each, arguments[claims[stage] - 1].witness(stage));
                 claims[stage] = 0;
             }
             if (!same) {
@@ -110,21 +151,6 @@ public final class Replies {
         }
     }
 
-    /** A claim, as it is told. */
-    private static int[] claimed(int stage, int[] arguments) {
-        int kind = arguments[0], first = some(arguments[1], arguments[2]), second = some(arguments[3], arguments[4]);
-        if (kind == History.OUTCOME) {
-            int of = arguments[5];
-            kind |= of << 4 | arguments[6] << 8;
-            first = of == History.GIVES ? some(arguments[8], arguments[9]) : arguments[7];
-        }
-        return new int[] {stage, kind, first, second};
-    }
-
-    private static int some(int kind, int number) {
-        return kind == 0 ? -1 : number;
-    }
-
     /** What the account says that callers were told. */
     private String callers() {
         List<List<String>> callers = new ArrayList<>();
@@ -134,8 +160,8 @@ public final class Replies {
             }
             List<String> own = callers.get(Words.caller(words[k]));
             own.add("[\"did\"," + (k + 1) + ",\"" + words[k] + "\",\"" + reply(k) + "\"]");
-            for (int[] each : told.get(k)) {
-                own.add("[\"outcome\"," + (k + 1) + "," + each[0] + ",\"" + outcome(each[1], each[2]) + "\"]");
+            for (Told each : told.get(k)) {
+                own.add("[\"outcome\"," + (k + 1) + "," + each.stage + ",\"" + outcome(each) + "\"]");
             }
         }
         List<String> records = new ArrayList<>();
@@ -145,7 +171,7 @@ public final class Replies {
 
     private String outcomes() {
         List<String> outcomes = new ArrayList<>();
-        for (int[] end : ends) {
+        for (Told end : ends) {
             outcomes.add("\"" + outcome(end) + "\"");
         }
         return ",\"outcomes\":[" + String.join(",", outcomes) + "],";
@@ -176,47 +202,44 @@ public final class Replies {
         }
     }
 
-    private static String granted(int[] arguments) {
-        switch (arguments[0]) {
-            case History.NO_ARGS:
+    private static String granted(Arguments arguments) {
+        switch (arguments.kind) {
+            case Layout.NO_ARGS:
                 return "granted none";
-            case History.ONE:
-                return "granted one " + value(arguments[1] != 0, arguments[2]);
-            case History.TWO:
-                return "granted two " + value(arguments[1] != 0, arguments[2]) + " " + value(arguments[3] != 0, arguments[4]);
+            case Layout.ONE:
+                return "granted one " + value(arguments.first);
+            case Layout.TWO:
+                return "granted two " + value(arguments.first) + " " + value(arguments.second);
             default:
-                int kind = arguments[5];
-                return "granted got " + outcome(kind | arguments[6] << 4 | (arguments[8] != 0 ? 32 : 0),
-                        kind == History.GIVES ? arguments[9] : arguments[7]);
+                return "granted got " + outcome(arguments.source);
         }
     }
 
-    private static String value(boolean some, int number) {
-        return some ? "" + number : "nil";
+    private static String value(int number) {
+        return number < 0 ? "nil" : "" + number;
     }
 
-    private static String outcome(int[] end) {
-        return end == null ? "pending" : outcome(end[1], end[2]);
-    }
-
-    private static String outcome(int what, int number) {
+    private static String outcome(Told end) {
+        if (end == null) {
+            return "pending";
+        }
         String cause;
-        switch (what & 0xf) {
-            case History.GIVES:
-                return "value " + value((what & 32) != 0, number);
-            case History.THROWN:
-                cause = "thrown " + Integer.toUnsignedString(number);
+        switch (end.kind) {
+            case Layout.VALUE:
+                return "value " + value(end.number);
+            case Layout.THROWN:
+                cause = "thrown " + Integer.toUnsignedString(end.number);
                 break;
-            case History.CANCELLED:
+            case Layout.CANCELLED:
                 cause = "cancelled";
                 break;
-            case History.TIMED_OUT:
-                cause = "timeout" + code(number);
+            case Layout.TIMED_OUT:
+                cause = "timeout" + code(end.number);
                 break;
             default:
-                cause = "badanswer" + code(number);
+                cause = "badanswer" + code(end.number);
         }
-        return "fault " + cause + ((what & 16) != 0 ? " wrapped" : " raw");
+        return "fault " + cause + (end.isWrapped ? " wrapped" : " raw");
     }
 
     private static String code(int number) {

@@ -4,6 +4,7 @@ import static cf.service.Checks.is;
 import static cf.service.Checks.thrown;
 
 import cf.internal.Form;
+import cf.internal.Layout;
 import cf.internal.Native;
 import cf.internal.Tale;
 import cf.internal.Words;
@@ -110,14 +111,14 @@ final class TaleTest {
         int[][] wrong = {{-1}, {Integer.MAX_VALUE, 1}, {Integer.MIN_VALUE}, {2, 1, 1}, {1, 4}, {1, -1}, {1, Integer.MIN_VALUE}, {0, 2, 2, 2}, {0, 2, 2, -1},
             {0, 2, 1}, {0, 4097}, {0, 0, 65}};
         for (int[] lengths : wrong) {
-            is(Native.tale(new int[0], 1, attach, none, text, lengths, 0, told) != Native.OK && told[0] == null, true);
+            is(Native.tale(new int[0], 1, attach, none, text, lengths, 0, told) != Layout.OK && told[0] == null, true);
         }
-        is(Native.tale(new int[0], 1, attach, none, half, new int[] {1, 2}, 0, told) != Native.OK && told[0] == null, true);
+        is(Native.tale(new int[0], 1, attach, none, half, new int[] {1, 2}, 0, told) != Layout.OK && told[0] == null, true);
         for (int kind : new int[] {-1, 5, Integer.MAX_VALUE}) {
-            is(Native.tale(new int[0], 1, attach, none, text, new int[] {1, 1}, kind, told) != Native.OK && told[0] == null, true);
+            is(Native.tale(new int[0], 1, attach, none, text, new int[] {1, 1}, kind, told) != Layout.OK && told[0] == null, true);
         }
-        is(Native.tale(new int[0], 1, attach, new long[2], text, new int[] {1, 1}, 0, told) != Native.OK && told[0] == null, true);
-        is(Native.tale(new int[0], 1, attach, none, text, new int[] {1, 1, 1, 1, 0, 0, 0, 9, 9}, 0, told), Native.OK);
+        is(Native.tale(new int[0], 1, attach, new long[2], text, new int[] {1, 1}, 0, told) != Layout.OK && told[0] == null, true);
+        is(Native.tale(new int[0], 1, attach, none, text, new int[] {1, 1, 1, 1, 0, 0, 0, 9, 9}, 0, told), Layout.OK);
         is(new String(told[0], StandardCharsets.UTF_8), "r: 1 event, 1 stage\ncaller 0 attaches 0 s, source\n");
     }
 

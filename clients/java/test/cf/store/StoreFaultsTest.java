@@ -3,7 +3,9 @@ package cf.store;
 import static cf.service.Checks.is;
 import static cf.service.Checks.thrown;
 
+import cf.internal.Form;
 import cf.internal.Host;
+import cf.internal.Layout;
 import cf.internal.Words;
 import cf.store.StoresTest.Database;
 import cf.store.StoresTest.InFile;
@@ -35,6 +37,7 @@ import java.util.concurrent.atomic.AtomicBoolean;
 import java.util.concurrent.atomic.AtomicInteger;
 import java.util.function.Consumer;
 import java.util.stream.Collectors;
+import java.util.stream.IntStream;
 
 /** What if a store is slow, refuses something for a while, is silent, or breaks a call off; and if a process is taken for gone that is there? */
 public final class StoreFaultsTest {
@@ -739,6 +742,28 @@ public final class StoreFaultsTest {
         StoredPlan plan = new StoredPlan(StoredPlan.text("", Collections.emptyList(), Collections.emptyMap()), "plans nothing");
         try (NativeRow row = new NativeRow(plan.rows, 8, 0, 1)) {
             thrown(NativeRow.Refusal.class, () -> row.planPut(new long[0]));
+        }
+    }
+
+    /** An entry that changes more stages than are brought at once changes all of them. */
+    public static void changesMany() {
+        int[] plan = new int[3 + 4 * 200]; // A promise, and the others behind it.
+        plan[1] = -1;
+        for (int at = 3; at < plan.length; at += 4) {
+            plan[at] = Form.APPLY.ordinal();
+            plan[at + 2] = 1;
+        }
+        try (NativeRow row = new NativeRow(plan, 8, 0, 1)) {
+            long[] words = {Words.fail(0, 0, 7)};
+            long token = row.planPut(words);
+            is(row.landed(words[0], token), true);
+            is(row.takeIn(words[0], token).answer, 1);
+            List<Integer> seen = new ArrayList<>();
+            row.forEachSettled((outcome, stage) -> {
+                is(outcome.kind + " " + outcome.place + " " + outcome.isWrapped, Layout.THROWN + " 7 " + (stage > 0));
+                seen.add(stage);
+            });
+            is(seen, IntStream.rangeClosed(0, 200).boxed().collect(Collectors.toList()));
         }
     }
 
