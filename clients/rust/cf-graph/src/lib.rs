@@ -90,7 +90,7 @@ pub use graph::Graph;
 pub use ledger::{Changes, Ledger, Misfit, News, Stage, State};
 pub use plan::{Form, Limit, Plan, PlanBuilder, Sizes};
 pub use refused::Refused;
-pub use request::{Calls, Deadline, Request, RequestSizes, SettledStages, Task};
+pub use request::{Calls, Deadline, Request, RequestSizes, SettledStage, Task, Todo};
 pub use row::{Entry, Row, RowOpening};
 pub use step::{ClaimedStage, Stepped};
 pub use sweep::Sweep;

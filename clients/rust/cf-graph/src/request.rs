@@ -10,30 +10,34 @@ use cf_sys as sys;
 
 /// One request of a service as a machine. It decides what to do for the request, and does none of it: it has no thread, no clock and no lock. Its
 /// host is the program that tells it what happened, and does what it says. It goes to any thread, and is in one call at a time, since each takes it
-/// by
-/// `&mut`: threads share it behind a `Mutex`.
+/// by `&mut`: threads share it behind a `Mutex`.
 ///
-/// Each call that can settle stages tells them: [`SettledStages`].
+/// Each call that changes stages or deadlines writes down what its host has to do next: [`Todo`].
 ///
 /// ```
-/// use cf_graph::{Answer, Args, Call, Event, Form, Of, PlanBuilder, Request, RequestSizes, SettledStages, Value};
+/// use cf_graph::{Answer, Args, Call, Event, Form, Of, PlanBuilder, Request, RequestSizes, Value};
 /// # fn main() -> Result<(), cf_graph::Refused> {
 /// let mut plan = PlanBuilder::new()?.build()?;
 /// let mut request = Request::new(&mut plan, RequestSizes { room: 2, lanes: 1, own: 63 }, &[])?;
-/// let mut told = SettledStages::default();
-/// request.apply(Event { who: 0, call: Call::Attach(Form::Supply, Of::None, Some(5)) }.word()?, 0, &mut told)?;
-/// request.apply(Event { who: 0, call: Call::Attach(Form::Apply, Of::One(0), Some(6)) }.word()?, 0, &mut told)?;
-/// assert_eq!(request.ready_count(0)?, 1);
-/// let first = request.claim_next(3, 0, None, &mut told)?.taken.unwrap();
+/// request.apply(Event { who: 0, call: Call::Attach(Form::Supply, Of::None, Some(5)) }.word()?, 0)?;
+/// request.apply(Event { who: 0, call: Call::Attach(Form::Apply, Of::One(0), Some(6)) }.word()?, 0)?;
+/// assert_eq!(request.todo().wanted(0), 1);
+/// request.start_jobs(0, 1);
+/// // The host starts a job, which comes, and steps until nothing is ready.
+/// request.begin_job(0);
+/// let first = request.claim_next(3, 0, None)?.taken.unwrap();
 /// assert_eq!((first.stage, first.function, first.args), (0, 5, Args::None));
-/// let second = request.claim_next(3, 0, Some((0, Answer::Give(Value::Int(7)))), &mut told)?.taken.unwrap();
+/// let second = request.claim_next(3, 0, Some((0, Answer::Give(Value::Int(7)))))?.taken.unwrap();
 /// assert_eq!((second.stage, second.args), (1, Args::One(Value::Int(7))));
-/// assert_eq!(told.iter().map(|(stage, _)| stage).collect::<Vec<_>>(), [0]);
+/// assert_eq!(request.todo().settled().map(|told| told.stage).collect::<Vec<_>>(), [0]);
 /// # Ok(())
 /// # }
 /// ```
 #[derive(Debug)]
-pub struct Request(Handle);
+pub struct Request {
+    handle: Handle,
+    todo: Todo,
+}
 
 /// The sizes of a request.
 #[derive(Clone, Copy, PartialEq, Eq, Debug)]
@@ -57,83 +61,114 @@ pub struct Deadline {
     pub limit: Limit,
 }
 
-/// The stages that a call settled, with their outcomes. Each is told once, in the order of the events that settled them; those of one event rise. It
-/// keeps its room, so one serves the calls of many requests.
+/// A stage that was settled, as it is told.
+#[derive(Clone, Copy, PartialEq, Eq, Debug)]
+pub struct SettledStage {
+    /// The stage's number.
+    pub stage: u16,
+    /// Its outcome.
+    pub outcome: Outcome,
+    /// The caller that still runs its function, since the stage was settled otherwise than by its finish, which comes too late. The host may stop
+    /// the function.
+    pub stop: Option<u8>,
+}
+
+/// What the host of a request has to do next, as the last call that changes stages or deadlines has left it: it tells the stages that were settled,
+/// starts jobs, and sets its one alarm. A call that is refused leaves the jobs and the moment as they were.
+///
+/// ```
+/// use cf_graph::{Call, Event, Form, Limit, Of, PlanBuilder, Request, RequestSizes};
+/// # fn main() -> Result<(), cf_graph::Refused> {
+/// let sizes = RequestSizes { room: 2, lanes: 1, own: 63 };
+/// let mut request = Request::new(&mut PlanBuilder::new()?.build()?, sizes, &[])?;
+/// for function in 0..2 {
+///     request.apply(Event { who: 0, call: Call::Attach(Form::Supply, Of::None, Some(function)) }.word()?, 0)?;
+/// }
+/// assert_eq!(request.todo().wanted(0), 2);
+/// request.start_jobs(0, 1); // (the host has one thread)
+/// assert_eq!(request.todo().wanted(0), 1);
+/// request.set_deadline(0, 5_000, Limit::Timeout(7))?;
+/// assert!(request.todo().has_new_moment());
+/// assert_eq!(request.todo().next_moment(), Some(5_000));
+/// request.begin_job(0); // (the thread comes)
+/// assert_eq!(request.claim_next(3, 0, None)?.taken.unwrap().stage, 0);
+/// request.pass_time_to(5_000)?;
+/// let late = request.todo().settled_at(0);
+/// assert_eq!((late.stage, late.stop), (0, Some(3)));
+/// assert!(request.todo().has_new_moment() && request.todo().next_moment().is_none());
+/// # Ok(())
+/// # }
+/// ```
 #[derive(Debug, Default)]
-pub struct SettledStages(Vec<sys::cf_told>);
+pub struct Todo {
+    settled: Vec<sys::cf_told>,
+    rest: sys::cf_todo,
+}
 
 /// The room for settled stages at first. The rest is asked for at once, with more room.
 const ROOM: usize = 16;
 
-impl SettledStages {
-    /// The number of stages.
+impl Todo {
+    /// The number of stages that the call settled.
     #[inline]
-    pub fn len(&self) -> usize {
-        self.0.len()
+    pub fn settled_count(&self) -> usize {
+        self.settled.len()
     }
 
-    /// Whether no stage was settled.
-    #[inline]
-    pub fn is_empty(&self) -> bool {
-        self.0.is_empty()
-    }
-
-    /// The stage at an index, and its outcome.
+    /// The settled stage at an index.
     ///
     /// # Panics
     ///
     /// If there are no more than `at`.
     #[inline]
-    pub fn at(&self, at: usize) -> (u16, Outcome) {
-        settled_stage_out(&self.0[at])
+    pub fn settled_at(&self, at: usize) -> SettledStage {
+        settled_stage_out(&self.settled[at])
     }
 
-    /// All stages and their outcomes.
+    /// The stages that the call settled. Each is told once, in the order of the events that settled them; those of one event rise.
     #[inline]
-    pub fn iter(&self) -> impl ExactSizeIterator<Item = (u16, Outcome)> + '_ {
-        self.0.iter().map(settled_stage_out)
+    pub fn settled(&self) -> impl ExactSizeIterator<Item = SettledStage> + '_ {
+        self.settled.iter().map(settled_stage_out)
     }
 
-    /// Makes a call that tells: where to, for how many there is room, and where it writes how many there were to tell. What there was no room
-    /// for is taken behind it. It is always in line, as the calls of each stage are, so that no more is read of C's reply than is asked of it.
-    #[inline(always)]
-    fn tell(
-        &mut self,
-        handle: &mut Handle,
-        call: impl FnOnce(*mut sys::cf_handle, *mut sys::cf_told, usize, *mut usize) -> u32,
-    ) -> Result<(), Refused> {
-        if self.0.capacity() == 0 {
-            self.make_room();
-        }
-        self.0.clear();
-        let mut count = 0;
-        let (told, room) = (self.0.as_mut_ptr(), self.0.capacity());
-        let answer = handle.call(|h| call(h, told, room, &mut count));
-        // SAFETY: pointers: the call has written as many of the elements for which there is room.
-        unsafe { self.0.set_len(count.min(room)) };
-        if count > room {
-            self.take_rest(handle, count)?;
-        }
-        answer
+    /// The number of jobs of a lane to start: so many of its stages are ready beyond the jobs that are on their way. The host starts them, or fewer,
+    /// and then says so by [`start_jobs`](Request::start_jobs).
+    ///
+    /// # Panics
+    ///
+    /// If `lane` is above 15.
+    #[inline]
+    pub fn wanted(&self, lane: u8) -> u16 {
+        self.rest.ready[usize::from(lane)]
     }
 
-    #[cold]
-    fn make_room(&mut self) {
-        self.0.reserve(ROOM);
+    /// The number of jobs of a lane that are on their way.
+    ///
+    /// # Panics
+    ///
+    /// If `lane` is above 15.
+    #[inline]
+    pub fn coming(&self, lane: u8) -> u16 {
+        self.rest.jobs[usize::from(lane)]
     }
 
-    /// Takes what there was no room for, so that there are so many.
-    #[cold]
-    fn take_rest(&mut self, handle: &mut Handle, count: usize) -> Result<(), Refused> {
-        let more = count - self.len();
-        self.0.reserve(more);
-        let rest = self.0.spare_capacity_mut();
-        let (told, room) = (rest.as_mut_ptr().cast(), rest.len());
-        // SAFETY: alone, pointers: `h` and what is told to are this call's, and `told` points to as many elements as said.
-        let rest: usize = handle.tell(|h, n| unsafe { sys::cf_request_told(h, told, room, n) })?;
-        // SAFETY: pointers: the call has written as many behind the others.
-        unsafe { self.0.set_len(self.len() + rest.min(room)) };
-        Ok(())
+    /// The moment to which [`pass_time_to`](Request::pass_time_to) is due next, if a stage that is open has a deadline. The host sets its alarm to it,
+    /// or drops the alarm.
+    #[inline]
+    pub fn next_moment(&self) -> Option<u64> {
+        (self.rest.moment != sys::CF_NEVER).then_some(self.rest.moment)
+    }
+
+    /// Whether that moment isn't what it was before the call.
+    #[inline]
+    pub fn has_new_moment(&self) -> bool {
+        self.rest.news & sys::CF_NEWS_MOMENT != 0
+    }
+
+    /// Whether there is nothing to do: no stage to tell, no job to start, and no alarm to set.
+    #[inline]
+    pub fn is_empty(&self) -> bool {
+        self.settled.is_empty() && self.rest.news == 0
     }
 }
 
@@ -184,23 +219,85 @@ impl Request {
             // SAFETY: alone, apart, pointers: two handles, and both are this call's; `sizes` is a local, and `first` points to n numbers.
             Refused::code_of(handle.call(|h| unsafe { sys::cf_request_new(plan, &sizes, first, n, h) }))
         })?;
-        Ok(Request(handle))
+        Ok(Request { handle, todo: Todo::default() })
+    }
+
+    /// What the host has to do next.
+    #[inline]
+    pub fn todo(&self) -> &Todo {
+        &self.todo
+    }
+
+    /// So many jobs of a lane are started, each of which calls [`begin_job`](Request::begin_job) once it comes.
+    ///
+    /// # Panics
+    ///
+    /// If more are on their way than a number says, or `lane` is above 15.
+    #[inline]
+    pub fn start_jobs(&mut self, lane: u8, count: u16) {
+        let (lane, todo) = (usize::from(lane), &mut self.todo.rest);
+        todo.jobs[lane] = todo.jobs[lane].checked_add(count).expect("so many jobs are on their way");
+        todo.ready[lane] = todo.ready[lane].saturating_sub(count);
+    }
+
+    /// A job of a lane has come, and takes its first step now. It isn't on its way any more, nor is it while it runs functions.
+    ///
+    /// # Panics
+    ///
+    /// If none is on its way, or `lane` is above 15.
+    #[inline]
+    pub fn begin_job(&mut self, lane: u8) {
+        let jobs = &mut self.todo.rest.jobs[usize::from(lane)];
+        *jobs = jobs.checked_sub(1).expect("a job is on its way");
+    }
+
+    /// Makes a call that tells: where to, for how many there is room, and what is to be done. What there was no room for is taken behind it. It is
+    /// always in line, as the calls of each stage are, so that no more is read of C's reply than is asked of it.
+    #[inline(always)]
+    fn call(&mut self, call: impl FnOnce(*mut sys::cf_handle, *mut sys::cf_told, usize, *mut sys::cf_todo) -> u32) -> Result<(), Refused> {
+        let Todo { settled, rest } = &mut self.todo;
+        if settled.capacity() == 0 {
+            make_room(settled);
+        }
+        settled.clear();
+        // A call that is refused writes nothing.
+        (rest.told, rest.news) = (0, 0);
+        let (told, room) = (settled.as_mut_ptr(), settled.capacity());
+        let answer = self.handle.call(|h| call(h, told, room, rest));
+        // SAFETY: pointers: the call has written as many of the elements for which there is room.
+        unsafe { settled.set_len(rest.told.min(room)) };
+        if rest.told > room {
+            self.tell_more()?;
+        }
+        answer
+    }
+
+    /// Takes what there was no room for.
+    #[cold]
+    fn tell_more(&mut self) -> Result<(), Refused> {
+        let Todo { settled, rest } = &mut self.todo;
+        let news = rest.news;
+        settled.reserve(rest.told - settled.len());
+        let more = settled.spare_capacity_mut();
+        let (told, room) = (more.as_mut_ptr().cast(), more.len());
+        // SAFETY: alone, pointers: `h` and what is told to are this call's, and `told` points to as many elements as said.
+        self.handle.call(|h| unsafe { sys::cf_request_told(h, told, room, rest) })?;
+        // The moment is what the call before has left.
+        rest.news |= news;
+        // SAFETY: pointers: the call has written as many behind the others.
+        unsafe { settled.set_len(settled.len() + rest.told.min(room)) };
+        Ok(())
     }
 
     /// Does the event of a word as a ledger does, and settles the stages that follow one that is settled now. A stage that it attaches is of this
     /// lane. `NO_LANE`, `NO_WORD`, `NO_STAGE`, `NO_ROOM`, `NO_MEMORY`: nothing is changed then.
     #[inline(always)]
-    pub fn apply(&mut self, word: u64, lane: u8, told: &mut SettledStages) -> Result<Reply, Refused> {
-        let mut applied = sys::cf_applied::default();
-        let to = &mut applied;
-        told.tell(&mut self.0, |h, rows, room, n| {
-            // SAFETY: alone, pointers: `h` and what is told to are this call's, and `rows` points to as many elements as said.
-            let code = unsafe { sys::cf_request_apply(h, word, lane, to, rows, room) };
-            // SAFETY: pointers: `n` is this call's.
-            unsafe { *n = to.told };
-            code
-        })?;
-        Ok(reply_of_word(word, applied.reply))
+    pub fn apply(&mut self, word: u64, lane: u8) -> Result<Reply, Refused> {
+        let mut reply = sys::cf_reply::default();
+        let to = &mut reply;
+        // SAFETY: alone, pointers: `h` and what is told to are this call's, and `told` points to as many elements as said.
+        self.call(|h, told, room, todo| unsafe { sys::cf_request_apply(h, word, lane, to, told, room, todo) })?;
+        Ok(reply_of_word(word, reply))
     }
 
     /// Attaches a stage that waits for all of these stages, or for one of them, whatever their number, by a caller: [`Form::AllOf`] or
@@ -209,70 +306,58 @@ impl Request {
     /// `who` is above 63, `NO_STAGE`, `NO_ROOM`, `NO_MEMORY`.
     ///
     /// ```
-    /// use cf_graph::{Call, Event, Form, Of, Outcome, PlanBuilder, Request, RequestSizes, SettledStages, Value};
+    /// use cf_graph::{Call, Event, Form, Of, Outcome, PlanBuilder, Request, RequestSizes, Value};
     /// # fn main() -> Result<(), cf_graph::Refused> {
     /// let sizes = RequestSizes { room: 5, lanes: 1, own: 63 };
-    /// let (mut request, mut told) = (Request::new(&mut PlanBuilder::new()?.build()?, sizes, &[])?, SettledStages::default());
+    /// let mut request = Request::new(&mut PlanBuilder::new()?.build()?, sizes, &[])?;
     /// for _ in 0..3 {
-    ///     request.apply(Event { who: 0, call: Call::Attach(Form::Source, Of::None, None) }.word()?, 0, &mut told)?;
+    ///     request.apply(Event { who: 0, call: Call::Attach(Form::Source, Of::None, None) }.word()?, 0)?;
     /// }
-    /// assert_eq!(request.gather(0, Form::AnyOf, &[0, 1, 2], &mut told)?, 4);
-    /// request.apply(Event { who: 0, call: Call::Complete(2, Value::Int(7)) }.word()?, 0, &mut told)?;
-    /// assert_eq!(told.iter().collect::<Vec<_>>(), [(2, Outcome::Value(Value::Int(7))), (4, Outcome::Value(Value::Int(7)))]);
+    /// assert_eq!(request.gather(0, Form::AnyOf, &[0, 1, 2])?, 4);
+    /// request.apply(Event { who: 0, call: Call::Complete(2, Value::Int(7)) }.word()?, 0)?;
+    /// assert!(request.todo().settled().map(|told| (told.stage, told.outcome)).eq([2, 4].map(|stage| (stage, Outcome::Value(Value::Int(7))))));
     /// # Ok(())
     /// # }
     /// ```
-    pub fn gather(&mut self, who: u8, form: Form, sources: &[u16], told: &mut SettledStages) -> Result<u16, Refused> {
+    pub fn gather(&mut self, who: u8, form: Form, sources: &[u16]) -> Result<u16, Refused> {
         let mut step = sys::cf_request_gathering { who, form: form as u32, ..Default::default() };
         let (first, many, to) = (sources.as_ptr(), sources.len(), &mut step);
-        told.tell(&mut self.0, |h, rows, room, n| {
-            // SAFETY: alone, pointers: `h` and what is told to are this call's, and `first` and `rows` point to as many elements as said.
-            let code = unsafe { sys::cf_request_gather(h, to, first, many, rows, room) };
-            // SAFETY: pointers: `n` is this call's.
-            unsafe { *n = to.told };
-            code
-        })?;
+        // SAFETY: alone, pointers: `h` and what is told to are this call's, and `first` and `told` point to as many elements as said.
+        self.call(|h, told, room, todo| unsafe { sys::cf_request_gather(h, to, first, many, told, room, todo) })?;
         Ok(step.root)
     }
 
     /// One step of a caller of a lane: finishes the stage that it holds with this answer, settles the stages that follow one that is settled now,
     /// and claims the lowest ready stage of the lane. `NO_LANE`, `NO_WORD` where `who` is above 63, `NO_STAGE`, `NOT_HELD`, `NO_MEMORY`: nothing is
     /// changed then.
-    pub fn claim_next(&mut self, who: u8, lane: u8, held: Option<(u16, Answer)>, told: &mut SettledStages) -> Result<Stepped, Refused> {
+    pub fn claim_next(&mut self, who: u8, lane: u8, held: Option<(u16, Answer)>) -> Result<Stepped, Refused> {
         let mut task = Task(task_in(held));
-        self.step(who, lane, &mut task, told)?;
+        self.step(who, lane, &mut task)?;
         Ok(step_out(held, &task.0))
     }
 
     /// The same, with what the caller has in its hands, and then has.
     ///
     /// ```
-    /// use cf_graph::{Answer, Call, Event, Finished, Form, Of, PlanBuilder, Request, RequestSizes, Task, SettledStages, Value};
+    /// use cf_graph::{Answer, Call, Event, Finished, Form, Of, PlanBuilder, Request, RequestSizes, Task, Value};
     /// # fn main() -> Result<(), cf_graph::Refused> {
     /// let sizes = RequestSizes { room: 1, lanes: 1, own: 63 };
-    /// let (mut request, mut told) = (Request::new(&mut PlanBuilder::new()?.build()?, sizes, &[])?, SettledStages::default());
-    /// request.apply(Event { who: 0, call: Call::Attach(Form::Supply, Of::None, Some(0)) }.word()?, 0, &mut told)?;
+    /// let mut request = Request::new(&mut PlanBuilder::new()?.build()?, sizes, &[])?;
+    /// request.apply(Event { who: 0, call: Call::Attach(Form::Supply, Of::None, Some(0)) }.word()?, 0)?;
     /// let mut task = Task::default();
-    /// request.step(3, 0, &mut task, &mut told)?;
+    /// request.step(3, 0, &mut task)?;
     /// assert_eq!(task.stage(), Some(0));
     /// task.set_answer(Answer::Give(Value::Int(7)));
-    /// request.step(3, 0, &mut task, &mut told)?;
-    /// assert_eq!((task.last_finish(), task.stage(), told.at(0).0), (Finished::Won, None, 0));
+    /// request.step(3, 0, &mut task)?;
+    /// assert_eq!((task.last_finish(), task.stage(), request.todo().settled_at(0).stage), (Finished::Won, None, 0));
     /// # Ok(())
     /// # }
     /// ```
     #[inline(always)]
-    pub fn step(&mut self, who: u8, lane: u8, task: &mut Task, told: &mut SettledStages) -> Result<(), Refused> {
-        let mut step = sys::cf_request_step { who, lane, told: 0 };
-        let to = (&mut step, &mut task.0);
-        let answer = told.tell(&mut self.0, |h, rows, room, n| {
-            // SAFETY: alone, pointers: `h` and what is told to are this call's, and `rows` points to as many elements as said.
-            let code = unsafe { sys::cf_request_next(h, to.0, to.1, rows, room) };
-            // SAFETY: pointers: `n` is this call's.
-            unsafe { *n = to.0.told };
-            code
-        });
-        match answer {
+    pub fn step(&mut self, who: u8, lane: u8, task: &mut Task) -> Result<(), Refused> {
+        let task = &mut task.0;
+        // SAFETY: alone, pointers: `h` and what is told to are this call's, and `told` points to as many elements as said.
+        match self.call(|h, told, room, todo| unsafe { sys::cf_request_next(h, who, lane, task, told, room, todo) }) {
             Err(Refused::NOTHING) => Ok(()),
             answer => answer,
         }
@@ -280,45 +365,48 @@ impl Request {
 
     /// From now on a stage ends as another stage of the request does, unless it is settled before: with the same value, or the same cause and code.
     /// `NO_STAGE`, `NO_MEMORY`.
-    pub fn follow(&mut self, relay: u16, stage: u16, told: &mut SettledStages) -> Result<(), Refused> {
-        // SAFETY: alone, pointers: `h` and what is told to are this call's, and `rows` points to as many elements as said.
-        told.tell(&mut self.0, |h, rows, room, n| unsafe { sys::cf_request_follow(h, relay, stage, rows, room, n) })
+    pub fn follow(&mut self, relay: u16, stage: u16) -> Result<(), Refused> {
+        // SAFETY: alone, pointers: `h` and what is told to are this call's, and `told` points to as many elements as said.
+        self.call(|h, told, room, todo| unsafe { sys::cf_request_follow(h, relay, stage, told, room, todo) })
     }
 
     /// Sets a moment by which a stage has to be settled: [`pass_time_to`](Request::pass_time_to) does this to it if it is open then. `NO_STAGE`,
     /// `NO_MEMORY`.
     pub fn set_deadline(&mut self, stage: u16, moment: u64, limit: Limit) -> Result<(), Refused> {
         let (kind, code, value) = limit_in(limit);
-        // SAFETY: alone: `h` is this call's.
-        self.0.call(|h| unsafe { sys::cf_request_deadline(h, stage, moment, kind, code, value) })
+        let Todo { settled, rest } = &mut self.todo;
+        settled.clear();
+        rest.news = 0;
+        // SAFETY: alone, pointers: `h` and what is told to are this call's.
+        self.handle.call(|h| unsafe { sys::cf_request_deadline(h, stage, moment, kind, code, value, rest) })
     }
 
     /// Passes time to a moment: all open stages whose deadline has come are settled, in the order of their moments, and those of one
     /// moment in the order in which the deadlines were set. `PAST_MOMENT` where it is before the last one, `NO_MEMORY`.
     ///
     /// ```
-    /// use cf_graph::{Call, Cause, Event, Form, Limit, Of, Outcome, PlanBuilder, Request, RequestSizes, SettledStages};
+    /// use cf_graph::{Call, Cause, Event, Form, Limit, Of, Outcome, PlanBuilder, Request, RequestSizes};
     /// # fn main() -> Result<(), cf_graph::Refused> {
     /// let sizes = RequestSizes { room: 1, lanes: 1, own: 63 };
-    /// let (mut request, mut told) = (Request::new(&mut PlanBuilder::new()?.build()?, sizes, &[])?, SettledStages::default());
-    /// request.apply(Event { who: 0, call: Call::Attach(Form::Source, Of::None, None) }.word()?, 0, &mut told)?;
+    /// let mut request = Request::new(&mut PlanBuilder::new()?.build()?, sizes, &[])?;
+    /// request.apply(Event { who: 0, call: Call::Attach(Form::Source, Of::None, None) }.word()?, 0)?;
     /// request.set_deadline(0, 5_000, Limit::Timeout(7))?;
     /// assert_eq!(request.next_deadline()?.map(|next| next.moment), Some(5_000));
-    /// request.pass_time_to(5_000, &mut told)?;
-    /// assert_eq!(told.at(0), (0, Outcome::Fault { cause: Cause::TimedOut(7), wrapped: false }));
+    /// request.pass_time_to(5_000)?;
+    /// assert_eq!(request.todo().settled_at(0).outcome, Outcome::Fault { cause: Cause::TimedOut(7), wrapped: false });
     /// assert_eq!(request.next_deadline()?, None);
     /// # Ok(())
     /// # }
     /// ```
-    pub fn pass_time_to(&mut self, moment: u64, told: &mut SettledStages) -> Result<(), Refused> {
-        // SAFETY: alone, pointers: `h` and what is told to are this call's, and `rows` points to as many elements as said.
-        told.tell(&mut self.0, |h, rows, room, n| unsafe { sys::cf_request_pass(h, moment, rows, room, n) })
+    pub fn pass_time_to(&mut self, moment: u64) -> Result<(), Refused> {
+        // SAFETY: alone, pointers: `h` and what is told to are this call's, and `told` points to as many elements as said.
+        self.call(|h, told, room, todo| unsafe { sys::cf_request_pass(h, moment, told, room, todo) })
     }
 
     /// The deadline that comes next, of those whose stage is open.
     pub fn next_deadline(&mut self) -> Result<Option<Deadline>, Refused> {
         // SAFETY: alone, pointers: `h` and what is told to are this call's.
-        let next = self.0.tell(|h, told: *mut sys::cf_deadline| unsafe { sys::cf_request_next_deadline(h, told) });
+        let next = self.handle.tell(|h, told: *mut sys::cf_deadline| unsafe { sys::cf_request_next_deadline(h, told) });
         let limit = |next: sys::cf_deadline| match next.kind {
             sys::CF_GIVE_VALUE => Limit::Give(value_out(next.value)),
             _ => Limit::Timeout(next.code),
@@ -328,94 +416,90 @@ impl Request {
 
     /// Refuses a lane that no caller runs any more: its ready stages fail with this code, and so do those that become ready by that. `NO_LANE`,
     /// `NO_MEMORY`.
-    pub fn refuse_lane(&mut self, lane: u8, code: u32, told: &mut SettledStages) -> Result<(), Refused> {
-        // SAFETY: alone, pointers: `h` and what is told to are this call's, and `rows` points to as many elements as said.
-        told.tell(&mut self.0, |h, rows, room, n| unsafe { sys::cf_request_refuse(h, lane, code, rows, room, n) })
+    pub fn refuse_lane(&mut self, lane: u8, code: u32) -> Result<(), Refused> {
+        // SAFETY: alone, pointers: `h` and what is told to are this call's, and `told` points to as many elements as said.
+        self.call(|h, told, room, todo| unsafe { sys::cf_request_refuse(h, lane, code, told, room, todo) })
     }
 
     /// Cancels all stages that are open, from the lowest on, by words of a caller. `NO_WORD` where `who` is above 63, `NO_MEMORY`.
-    pub fn cancel_all(&mut self, who: u8, told: &mut SettledStages) -> Result<(), Refused> {
-        // SAFETY: alone, pointers: `h` and what is told to are this call's, and `rows` points to as many elements as said.
-        told.tell(&mut self.0, |h, rows, room, n| unsafe { sys::cf_request_cancel_all(h, who, rows, room, n) })
+    pub fn cancel_all(&mut self, who: u8) -> Result<(), Refused> {
+        // SAFETY: alone, pointers: `h` and what is told to are this call's, and `told` points to as many elements as said.
+        self.call(|h, told, room, todo| unsafe { sys::cf_request_cancel_all(h, who, told, room, todo) })
     }
 
     /// Tells the stages that are settled and weren't told: those that were settled as it was opened or restarted.
-    pub fn tell_rest(&mut self, told: &mut SettledStages) -> Result<(), Refused> {
-        // SAFETY: alone, pointers: `h` and what is told to are this call's, and `rows` points to as many elements as said.
-        told.tell(&mut self.0, |h, rows, room, n| unsafe { sys::cf_request_told(h, rows, room, n) })
+    pub fn tell_rest(&mut self) -> Result<(), Refused> {
+        // SAFETY: alone, pointers: `h` and what is told to are this call's, and `told` points to as many elements as said.
+        self.call(|h, told, room, todo| unsafe { sys::cf_request_told(h, told, room, todo) })
     }
 
     /// The number of a lane's ready stages. `NO_LANE`.
     #[inline]
     pub fn ready_count(&mut self, lane: u8) -> Result<u16, Refused> {
         // SAFETY: alone, pointers: `h` and what is told to are this call's.
-        self.0.tell(|h, told| unsafe { sys::cf_request_ready(h, lane, told) })
+        self.handle.tell(|h, told| unsafe { sys::cf_request_ready(h, lane, told) })
     }
 
     /// Makes calls one after another, each as it is made alone, up to the first that is refused, and tells once. Its refusal where one is refused:
     /// those before it are made then, [`done_count`](Calls::done_count) of them, and what they settled is told.
     ///
     /// ```
-    /// use cf_graph::{Answer, Call, Calls, Event, Form, Of, PlanBuilder, Reply, Request, RequestSizes, SettledStages, Value};
+    /// use cf_graph::{Answer, Call, Calls, Event, Form, Of, PlanBuilder, Reply, Request, RequestSizes, Value};
     /// # fn main() -> Result<(), cf_graph::Refused> {
     /// let sizes = RequestSizes { room: 1, lanes: 1, own: 63 };
-    /// let (mut request, mut told) = (Request::new(&mut PlanBuilder::new()?.build()?, sizes, &[])?, SettledStages::default());
+    /// let mut request = Request::new(&mut PlanBuilder::new()?.build()?, sizes, &[])?;
     /// let mut calls = Calls::default();
     /// calls.apply(Event { who: 0, call: Call::Attach(Form::Supply, Of::None, Some(0)) }.word()?, 0);
     /// calls.claim_next(3, 0, None);
     /// calls.claim_next(3, 0, Some((0, Answer::Give(Value::Int(7)))));
-    /// request.run(&mut calls, &mut told)?;
+    /// request.run(&mut calls)?;
     /// assert_eq!(calls.reply(0), Reply::Attached(Some(0)));
-    /// assert_eq!((calls.step(1).taken.unwrap().stage, calls.step(2).taken, told.at(0).0), (0, None, 0));
+    /// assert_eq!((calls.step(1).taken.unwrap().stage, calls.step(2).taken, request.todo().settled_at(0).stage), (0, None, 0));
     /// # Ok(())
     /// # }
     /// ```
     #[inline]
-    pub fn run(&mut self, calls: &mut Calls, told: &mut SettledStages) -> Result<(), Refused> {
-        let mut done = sys::cf_request_done::default();
-        let (first, many, to) = (calls.rows.as_mut_ptr(), calls.rows.len(), &mut done);
-        let answer = told.tell(&mut self.0, |h, rows, room, n| {
-            // SAFETY: alone, pointers: `h` and what is told to are this call's, and `first` and `rows` point to as many elements as said.
-            let code = unsafe { sys::cf_request_do(h, first, many, to, rows, room) };
-            // SAFETY: pointers: `n` is this call's.
-            unsafe { *n = to.told };
-            code
-        });
-        calls.done = done.calls;
-        answer
+    pub fn run(&mut self, calls: &mut Calls) -> Result<(), Refused> {
+        let (first, many, done) = (calls.rows.as_mut_ptr(), calls.rows.len(), &mut calls.done);
+        *done = 0;
+        // SAFETY: alone, pointers: `h` and what is told to are this call's, and `first` and `told` point to as many elements as said.
+        self.call(|h, told, room, todo| unsafe { sys::cf_request_do(h, first, many, done, told, room, todo) })
     }
 
     /// Makes room for more stages, by doing all words again: for as many more as there are by now, and for 16 more at least, as far as the bounds let
     /// them in. Nothing else changes. `ROOM` if not even one more could come, `NO_MEMORY`.
     pub fn grow(&mut self) -> Result<(), Refused> {
         // SAFETY: alone: `h` is this call's.
-        self.0.call(|h| unsafe { sys::cf_request_grow(h) })
+        self.handle.call(|h| unsafe { sys::cf_request_grow(h) })
     }
 
-    /// Starts again as it was opened, with the memory that it has.
+    /// Starts again as it was opened, with the memory that it has. No job is on its way then.
     pub fn restart(&mut self) -> Result<(), Refused> {
         // SAFETY: alone: `h` is this call's.
-        self.0.call(|h| unsafe { sys::cf_request_restart(h) })
+        self.handle.call(|h| unsafe { sys::cf_request_restart(h) })?;
+        self.todo.settled.clear();
+        self.todo.rest = sys::cf_todo::default();
+        Ok(())
     }
 
     /// The words of all that was done, in their one order, also of what the request settled itself.
     pub fn words(&mut self) -> Result<Vec<u64>, Refused> {
-        ledger::words(&mut self.0)
+        ledger::words(&mut self.handle)
     }
 
     /// The state of a stage. `NO_STAGE`.
     pub fn stage(&mut self, stage: u16) -> Result<Stage, Refused> {
-        ledger::stage(&mut self.0, stage)
+        ledger::stage(&mut self.handle, stage)
     }
 
     /// The number of stages.
     pub fn stage_count(&mut self) -> Result<u16, Refused> {
-        ledger::stage_count(&mut self.0)
+        ledger::stage_count(&mut self.handle)
     }
 
     /// The lowest ready stage from this number on, of any lane.
     pub fn lowest_ready(&mut self, from: u16) -> Result<Option<u16>, Refused> {
-        ledger::lowest_ready(&mut self.0, from)
+        ledger::lowest_ready(&mut self.handle, from)
     }
 }
 
@@ -524,7 +608,12 @@ impl Calls {
 }
 
 #[inline]
-fn settled_stage_out(told: &sys::cf_told) -> (u16, Outcome) {
+fn settled_stage_out(told: &sys::cf_told) -> SettledStage {
     // A stage is told only once it has an outcome.
-    (told.stage, settled_out(&told.outcome))
+    SettledStage { stage: told.stage, outcome: settled_out(&told.outcome), stop: told.stop.checked_sub(1).map(|who| who as u8) }
+}
+
+#[cold]
+fn make_room(settled: &mut Vec<sys::cf_told>) {
+    settled.reserve(ROOM);
 }

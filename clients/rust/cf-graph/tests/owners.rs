@@ -27,7 +27,7 @@ fn owners_go_to_threads_and_are_never_two() {
     macro_rules! owners {
         ($($owner:ty)*) => { $(goes::<$owner>(); <$owner as IsNoClone<_>>::stands();)* };
     }
-    owners!(PlanBuilder Plan Graph Sweep Ledger Changes Request SettledStages Task Calls Tale Desk Caller Closed NotClosed);
+    owners!(PlanBuilder Plan Graph Sweep Ledger Changes Request Todo Task Calls Tale Desk Caller Closed NotClosed);
     <cf_sys::cf_handle as IsNoClone<_>>::stands();
 }
 

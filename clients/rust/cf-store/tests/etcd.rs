@@ -360,6 +360,6 @@ fn connections_are_cut_while_it_is_worked_on() {
 fn python_goes_on_with_it() {
     let Some(server) = Server::start("python") else { return };
     if common::python_goes_on(&server.address(), || server.store()).is_none() {
-        eprintln!("left out: CF_PYTHON and CF_LIBRARY name no client for Python with its library");
+        eprintln!("left out: CF_PYTHON names no client for Python with its C module");
     }
 }

@@ -302,7 +302,7 @@ fn python_begins_the_same_flow() {
         .with("inc", 1, |number: i64| Ok::<_, String>(number + 100))
         .composing("composes", 1, |request: &Request, number: i64| request.supply_named("pay", &[json!(number)], &map(json!({"to": "rust"}))));
     let Some(child) = python(STARTS, &[place.address(), "0"]) else {
-        eprintln!("left out: CF_PYTHON and CF_LIBRARY name no client for Python with its library");
+        eprintln!("left out: CF_PYTHON names no client for Python with its C module");
         return;
     };
     let composed = printed(child).parse().unwrap();

@@ -346,7 +346,7 @@ fn what_is_no_row_is_told() {
 fn python_goes_on_with_it() {
     let place = Place::new("python");
     if common::python_goes_on(place.address(), || place.store()).is_none() {
-        eprintln!("left out: CF_PYTHON and CF_LIBRARY name no client for Python with its library");
+        eprintln!("left out: CF_PYTHON names no client for Python with its C module");
     }
 }
 

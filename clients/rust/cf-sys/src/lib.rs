@@ -302,10 +302,16 @@ pub const CF_REPORT: u32 = 4;
 pub const CF_NO_FUNCTION: u32 = u32::MAX;
 /// Stands for no caller.
 pub const CF_NOBODY: u32 = u32::MAX;
+/// Of what is to be done: jobs are to be started.
+pub const CF_NEWS_READY: u32 = 1;
+/// Of what is to be done: the next moment is another one.
+pub const CF_NEWS_MOMENT: u32 = 2;
+/// Stands for no moment.
+pub const CF_NEVER: u64 = u64::MAX;
 /// The major version of the header that is declared here.
-pub const CF_VERSION_MAJOR: u32 = 1;
+pub const CF_VERSION_MAJOR: u32 = 2;
 /// The minor version of the header that is declared here.
-pub const CF_VERSION_MINOR: u32 = 9;
+pub const CF_VERSION_MINOR: u32 = 0;
 
 /// A value: nothing (Java's null), or a number.
 #[repr(C)]
@@ -521,14 +527,39 @@ pub struct cf_step {
     pub claim: u64,
 }
 
-/// A stage that is told: its number, and its outcome.
+/// A stage that is told.
 #[repr(C)]
 #[derive(Clone, Copy, Debug, Default, PartialEq, Eq)]
 pub struct cf_told {
     /// The number of the stage.
     pub stage: u16,
+    /// The caller that still runs its function, plus 1, or 0.
+    pub stop: u16,
     /// Its outcome.
     pub outcome: cf_outcome,
+}
+
+/// What the host of a request has to do next. It keeps one for each request.
+#[repr(C)]
+#[derive(Clone, Copy, Debug, PartialEq, Eq)]
+pub struct cf_todo {
+    /// How many stages there were to tell.
+    pub told: usize,
+    /// The moment at which cf_request_pass is due next, or CF_NEVER.
+    pub moment: u64,
+    /// CF_NEWS_READY, CF_NEWS_MOMENT, both or 0.
+    pub news: u32,
+    /// How many jobs of each lane are on their way. The host writes it.
+    pub jobs: [u16; 16],
+    /// How many stages of each lane are ready beyond its jobs.
+    pub ready: [u16; 16],
+}
+
+impl Default for cf_todo {
+    /// As it is at first: nothing is to be done.
+    fn default() -> cf_todo {
+        cf_todo { told: 0, moment: CF_NEVER, news: 0, jobs: [0; 16], ready: [0; 16] }
+    }
 }
 
 /// What a request is opened with.
@@ -543,16 +574,6 @@ pub struct cf_request_sizes {
     pub own: u8,
 }
 
-/// What cf_request_apply has done: the reply of the word, and how many stages there were to tell.
-#[repr(C)]
-#[derive(Clone, Copy, Debug, Default, PartialEq, Eq)]
-pub struct cf_applied {
-    /// The reply of the word.
-    pub reply: cf_reply,
-    /// How many stages there were to tell.
-    pub told: usize,
-}
-
 /// What cf_request_gather is asked, and what it has attached.
 #[repr(C)]
 #[derive(Clone, Copy, Debug, Default, PartialEq, Eq)]
@@ -563,8 +584,6 @@ pub struct cf_request_gathering {
     pub form: u32,
     /// Gets the number of the root.
     pub root: u16,
-    /// Gets how many stages there were to tell.
-    pub told: usize,
 }
 
 /// What cf_request_compose is asked, and what it has attached.
@@ -585,11 +604,9 @@ pub struct cf_request_composing {
     pub relay: u16,
     /// Gets the number of the compose.
     pub stage: u16,
-    /// Gets how many stages there were to tell.
-    pub told: usize,
 }
 
-/// What cf_request_link is asked, and how many stages there were to tell.
+/// What cf_request_link is asked.
 #[repr(C)]
 #[derive(Clone, Copy, Debug, Default, PartialEq, Eq)]
 pub struct cf_request_linking {
@@ -599,20 +616,6 @@ pub struct cf_request_linking {
     pub relay: u16,
     /// The stage that the compose's function answered.
     pub stage: u16,
-    /// Gets how many stages there were to tell.
-    pub told: usize,
-}
-
-/// What cf_request_next is asked, and how many stages there were to tell.
-#[repr(C)]
-#[derive(Clone, Copy, Debug, Default, PartialEq, Eq)]
-pub struct cf_request_step {
-    /// The caller, 0 to 63.
-    pub who: u8,
-    /// The lane in which it works.
-    pub lane: u8,
-    /// Gets how many stages there were to tell.
-    pub told: usize,
 }
 
 /// A deadline: the stage, the moment, CF_TIMEOUT or CF_GIVE_VALUE, the code, which is 0 for CF_GIVE_VALUE, and the value, which is CF_NIL for
@@ -660,16 +663,6 @@ pub struct cf_request_call {
     pub reply: cf_reply,
     /// What the caller of a step holds, before and after it.
     pub task: cf_task,
-}
-
-/// How many of its calls cf_request_do has done, and how many stages there were to tell then.
-#[repr(C)]
-#[derive(Clone, Copy, Debug, Default, PartialEq, Eq)]
-pub struct cf_request_done {
-    /// How many were done.
-    pub calls: usize,
-    /// How many stages there were to tell.
-    pub told: usize,
 }
 
 /// An entry of a row: a word, and the token that says who put it.
@@ -870,37 +863,37 @@ extern "C" {
     /// Opens a request of a plan.
     pub fn cf_request_new(plan: *mut cf_handle, sizes: *const cf_request_sizes, lanes: *const u8, n: usize, request: *mut cf_handle) -> u32;
     /// Does a word, as cf_ledger_apply does.
-    pub fn cf_request_apply(request: *mut cf_handle, word: u64, lane: u8, applied: *mut cf_applied, told: *mut cf_told, room: usize) -> u32;
+    pub fn cf_request_apply(request: *mut cf_handle, word: u64, lane: u8, reply: *mut cf_reply, told: *mut cf_told, room: usize, todo: *mut cf_todo) -> u32;
     /// Attaches a stage that waits for all of these stages, or for one of them, whatever their number.
-    pub fn cf_request_gather(request: *mut cf_handle, step: *mut cf_request_gathering, sources: *const u16, n: usize, told: *mut cf_told, room: usize) -> u32;
+    pub fn cf_request_gather(request: *mut cf_handle, step: *mut cf_request_gathering, sources: *const u16, n: usize, told: *mut cf_told, room: usize, todo: *mut cf_todo) -> u32;
     /// Attaches a compose whose function may answer any stage of the request, also one that is attached later.
-    pub fn cf_request_compose(request: *mut cf_handle, step: *mut cf_request_composing, told: *mut cf_told, room: usize) -> u32;
+    pub fn cf_request_compose(request: *mut cf_handle, step: *mut cf_request_composing, told: *mut cf_told, room: usize, todo: *mut cf_todo) -> u32;
     /// Finishes the compose that the task holds with a stage of the request, whichever it is.
-    pub fn cf_request_link(request: *mut cf_handle, step: *mut cf_request_linking, task: *mut cf_task, told: *mut cf_told, room: usize) -> u32;
+    pub fn cf_request_link(request: *mut cf_handle, step: *const cf_request_linking, task: *mut cf_task, told: *mut cf_told, room: usize, todo: *mut cf_todo) -> u32;
     /// One step of a caller's loop, as cf_next does it.
-    pub fn cf_request_next(request: *mut cf_handle, step: *mut cf_request_step, task: *mut cf_task, told: *mut cf_told, room: usize) -> u32;
+    pub fn cf_request_next(request: *mut cf_handle, who: u8, lane: u8, task: *mut cf_task, told: *mut cf_told, room: usize, todo: *mut cf_todo) -> u32;
     /// From now on a stage ends as another stage of the request does, unless it is settled before.
-    pub fn cf_request_follow(request: *mut cf_handle, relay: u16, stage: u16, told: *mut cf_told, room: usize, n: *mut usize) -> u32;
+    pub fn cf_request_follow(request: *mut cf_handle, relay: u16, stage: u16, told: *mut cf_told, room: usize, todo: *mut cf_todo) -> u32;
     /// Sets a moment by which a stage has to be settled.
-    pub fn cf_request_deadline(request: *mut cf_handle, stage: u16, moment: u64, kind: u32, code: u32, value: cf_value) -> u32;
+    pub fn cf_request_deadline(request: *mut cf_handle, stage: u16, moment: u64, kind: u32, code: u32, value: cf_value, todo: *mut cf_todo) -> u32;
     /// Lets time pass up to a moment.
-    pub fn cf_request_pass(request: *mut cf_handle, moment: u64, told: *mut cf_told, room: usize, n: *mut usize) -> u32;
+    pub fn cf_request_pass(request: *mut cf_handle, moment: u64, told: *mut cf_told, room: usize, todo: *mut cf_todo) -> u32;
     /// Tells the deadline that comes next, of those whose stage is open.
     pub fn cf_request_next_deadline(request: *mut cf_handle, deadline: *mut cf_deadline) -> u32;
     /// Nobody runs a lane any more: its ready stages fail, and so do those that become ready by this.
-    pub fn cf_request_refuse(request: *mut cf_handle, lane: u8, code: u32, told: *mut cf_told, room: usize, n: *mut usize) -> u32;
-    /// Tells the stages that are settled and weren't told yet.
-    pub fn cf_request_told(request: *mut cf_handle, told: *mut cf_told, room: usize, n: *mut usize) -> u32;
+    pub fn cf_request_refuse(request: *mut cf_handle, lane: u8, code: u32, told: *mut cf_told, room: usize, todo: *mut cf_todo) -> u32;
+    /// Tells the stages that are settled and weren't told yet, and what is to be done next.
+    pub fn cf_request_told(request: *mut cf_handle, told: *mut cf_told, room: usize, todo: *mut cf_todo) -> u32;
     /// Tells how many stages of a lane are ready.
     pub fn cf_request_ready(request: *mut cf_handle, lane: u8, ready: *mut u16) -> u32;
     /// Cancels all stages that are open, from the lowest on, by words of a caller.
-    pub fn cf_request_cancel_all(request: *mut cf_handle, who: u8, told: *mut cf_told, room: usize, n: *mut usize) -> u32;
+    pub fn cf_request_cancel_all(request: *mut cf_handle, who: u8, told: *mut cf_told, room: usize, todo: *mut cf_todo) -> u32;
     /// Makes room for more stages, by doing all words again.
     pub fn cf_request_grow(request: *mut cf_handle) -> u32;
     /// Starts the request again, as it was opened: nothing is done, follows or is due, and the moment is 0.
     pub fn cf_request_restart(request: *mut cf_handle) -> u32;
     /// Makes calls one after another, each as it is made alone, up to the first that is refused.
-    pub fn cf_request_do(request: *mut cf_handle, calls: *mut cf_request_call, n: usize, done: *mut cf_request_done, told: *mut cf_told, room: usize) -> u32;
+    pub fn cf_request_do(request: *mut cf_handle, calls: *mut cf_request_call, n: usize, done: *mut usize, told: *mut cf_told, room: usize, todo: *mut cf_todo) -> u32;
     /// Opens a view of a row, of which nothing was read yet.
     pub fn cf_row_new(plan: *mut cf_handle, opening: *const cf_row_opening, view: *mut cf_handle) -> u32;
     /// Plans a put of words behind all that was seen, and finds the memory that the view needs if it lands.
@@ -940,7 +933,7 @@ extern "C" {
     pub fn cf_history_say(history: *mut cf_handle, what: u32, text: *const u8, n: usize, ends: *const usize, count: usize) -> u32;
     /// Tells a history as a text.
     pub fn cf_history_text(history: *mut cf_handle, kind: u32, text: *mut u8, room: usize, length: *mut usize) -> u32;
-    /// Answers the version of the library, such as "1.9.0".
+    /// Answers the version of the library, such as "2.0.0".
     pub fn cf_version() -> *const u8;
     /// Answers whether a program that was written for this version of the header runs with the library.
     pub fn cf_fits(major: u32, minor: u32) -> bool;
@@ -983,16 +976,14 @@ pub fn mismatch() -> Option<&'static str> {
         known!(cf_news: stage now),
         known!(cf_given: stage value),
         known!(cf_step: who from place finish claim),
-        known!(cf_told: stage outcome),
+        known!(cf_told: stage stop outcome),
+        known!(cf_todo: told moment news jobs ready),
         known!(cf_request_sizes: room lanes own),
-        known!(cf_applied: reply told),
-        known!(cf_request_gathering: who form root told),
-        known!(cf_request_composing: who lane form source function relay stage told),
-        known!(cf_request_linking: who relay stage told),
-        known!(cf_request_step: who lane told),
+        known!(cf_request_gathering: who form root),
+        known!(cf_request_composing: who lane form source function relay stage),
+        known!(cf_request_linking: who relay stage),
         known!(cf_deadline: stage moment kind code value),
         known!(cf_request_call: call who lane stage relay code word moment kind value reply task),
-        known!(cf_request_done: calls told),
         known!(cf_entry: word token),
         known!(cf_row_opening: room first session),
         known!(cf_row_claim: session stage),

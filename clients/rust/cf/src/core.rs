@@ -5,7 +5,7 @@ use crate::clock::{retry_ringer, Alarm, Clock};
 use crate::context::carry_context;
 use crate::error::{Error, Panic, Refusal};
 use crate::history::History;
-use crate::inner::{content_of, After, Feed, Hands, Inner, Notices, Remains};
+use crate::inner::{content_of, After, AskedAlarm, Feed, Hands, Inner, Link, Notices, Remains, StageOf, WeakStageOf};
 use crate::ledger::Ledger;
 use crate::name::Made;
 use crate::slot::Held;
@@ -122,33 +122,33 @@ impl Core {
         known_hold(self.inner.lock().unwrap_or_else(PoisonError::into_inner))
     }
 
-    /// Takes the lock for a worker that comes back from a function. Gives the time, and whether the worker gives way: one worker runs short functions
-    /// sooner than several that compete for the lock.
+    /// Takes the lock for a worker that comes back from a function. It may give way: one worker runs short functions sooner than several that compete
+    /// for the lock.
     #[inline(always)]
-    fn lock_after_function(&self, since: u64) -> (Hold<'_>, u64, bool) {
+    fn lock_after_function(&self, since: u64) -> WorkerHold<'_> {
         let now = self.now();
         let (inner, was_taken) = self.lock_seeing();
         let gives_way = was_taken && now.saturating_sub(since) < SHORT && self.busy.load(Ordering::Relaxed) > 1;
-        (inner, now, gives_way)
+        WorkerHold { inner, now, gives_way }
     }
 
     /// Takes the lock for a worker without a stage, which doesn't give way again. Busy workers come first, since they may run what is ready sooner.
     #[inline(never)]
-    fn lock_at_leisure(&self) -> (Hold<'_>, u64, bool) {
+    fn lock_at_leisure(&self) -> WorkerHold<'_> {
         #[cfg(test)]
         crate::search::turn();
         for look in 0..LEISURELY_LOOKS {
             let now = self.now();
             match self.inner.try_lock() {
-                Ok(inner) => return (known_hold(inner), now, false),
-                Err(TryLockError::Poisoned(inner)) => return (known_hold(inner.into_inner()), now, false),
+                Ok(inner) => return WorkerHold { inner: known_hold(inner), now, gives_way: false },
+                Err(TryLockError::Poisoned(inner)) => return WorkerHold { inner: known_hold(inner.into_inner()), now, gives_way: false },
                 Err(TryLockError::WouldBlock) if self.busy.load(Ordering::Relaxed) == 0 => break,
                 Err(TryLockError::WouldBlock) if look == 0 => std::hint::spin_loop(),
                 Err(TryLockError::WouldBlock) => std::thread::sleep(SLEEP),
             }
         }
         let now = self.now();
-        (self.lock_contended(), now, false)
+        WorkerHold { inner: self.lock_contended(), now, gives_way: false }
     }
 
     /// Counts a worker as busy, or not any more. The caller has the lock.
@@ -175,14 +175,14 @@ impl Core {
         inner.ledger.record.advance(now);
         let done = act(&mut inner, &mut behind.after);
         inner.cancel_relays(&mut behind.after);
-        inner.hire(self, false, &mut behind.after);
+        inner.follow_todo(self, &mut behind.after);
         if behind.after.jobs > 0 && self.is_inline && is_inline_free() {
             self.begin_inline(behind, inner);
         } else {
             drop(inner);
-            let (jobs, news) = behind.into_parts();
-            if jobs > 0 || news.is_some() {
-                self.tell_now(jobs, news);
+            let after = behind.into_after();
+            if !after.is_nothing() {
+                self.tell_now(after);
             }
         }
         #[cfg(feature = "testing")]
@@ -195,10 +195,10 @@ impl Core {
     #[inline(never)]
     fn begin_inline(self: &Arc<Core>, mut behind: TellsOnDrop<'_>, mut inner: Hold<'_>) {
         let mut hands = Hands::empty();
+        inner.ledger.begin_job();
         let first = inner.step(worker_number(), &mut hands, &mut behind.after).expect("a stage is ready for which a job is asked");
-        inner.coming -= 1;
         drop(inner);
-        let (mut panicked, (_, mut news)) = (None, behind.into_parts());
+        let (mut panicked, mut news) = (None, behind.into_after().news);
         self.ask_for_alarm(&mut news, &mut panicked);
         run_inline(|| as_worker(|who| self.work_on(who, Core::TURN, &mut hands, Some(first))), &mut panicked);
         if let Some(news) = news {
@@ -287,7 +287,7 @@ impl Core {
                 let _ = to.settle(RELAY, relay, told);
             }
             None => {
-                own.extra(stage).feeds.push((Arc::clone(&to), relay));
+                own.extra(stage).feeds.push(StageOf { core: Arc::clone(&to), stage: relay });
                 drop(own);
                 if !to.stand_for(relay, self, stage) {
                     self.unhang_relay(stage, &to, relay);
@@ -302,7 +302,7 @@ impl Core {
         if inner.slot(relay).is_settled() {
             return false;
         }
-        inner.extra(relay).of = Some((Arc::downgrade(of), stage));
+        inner.extra(relay).of = Some(WeakStageOf { core: Arc::downgrade(of), stage });
         let helpers = take(&mut inner.helpers);
         drop(inner);
         helpers.into_iter().for_each(Waker::wake);
@@ -445,7 +445,7 @@ impl Core {
         while job.state != JobState::Over {
             let mut behind = TellsOnDrop::new(self);
             let after = &mut behind.after;
-            let (mut inner, now, gives_way) = match next {
+            let WorkerHold { mut inner, now, gives_way } = match next {
                 Some(call) => {
                     left -= 1;
                     match catch_unwind(AssertUnwindSafe(|| call(&hands.given))) {
@@ -458,6 +458,9 @@ impl Core {
             };
             since = now;
             inner.ledger.record.advance(now);
+            if job.state == JobState::Coming {
+                job.enter(JobState::Begun, &mut inner);
+            }
             let may_claim = left > 0 && !gives_way;
             next = if may_claim {
                 inner.step(who, hands, after)
@@ -471,14 +474,12 @@ impl Core {
                 None => JobState::Over,
             };
             inner.cancel_relays(after);
-            let has_begun = job.state == JobState::Coming && state == JobState::Busy;
             job.enter(state, &mut inner);
-            // Where a step finds nothing, nothing is ready.
-            inner.hire(self, has_begun || left == 0, after);
+            inner.follow_todo(self, after);
             drop(inner);
-            let (jobs, news) = behind.into_parts();
-            if jobs > 0 || news.is_some() {
-                self.tell_all(jobs, news, &mut panicked);
+            let after = behind.into_after();
+            if !after.is_nothing() {
+                self.tell_all(after, &mut panicked);
             }
         }
         if let Some(payload) = panicked {
@@ -521,19 +522,19 @@ impl Core {
                 let needs = find(inner);
                 match needs.first {
                     Some(First::Function(stage)) => {
-                        let (stage, call, args) = inner.claim(who, stage, after);
-                        return Ok(Begun::Function(stage, call, inner.call_args(args)));
+                        let claimed = inner.claim(who, stage, after);
+                        return Ok(Begun::Function(stage, claimed.call, inner.call_args(claimed.args)));
                     }
                     Some(First::Future(task)) => return Ok(Begun::Future(task)),
                     None => {}
                 }
                 inner.helpers.extend(waker.filter(|waker| !inner.helpers.iter().any(|kept| kept.will_wake(waker))));
-                Err((needs.elsewhere, needs.is_open))
+                Err(Help::Waits { elsewhere: needs.elsewhere, is_open: needs.is_open })
             })
         });
         let mut panicked = None;
         match found {
-            Err((elsewhere, is_open)) => return Help::Waits(elsewhere, is_open),
+            Err(waits) => return waits,
             Ok(Begun::Future(task)) => as_worker(|_| Polling::poll_again(self, task)),
             Ok(Begun::Function(stage, call, given)) => {
                 let _running = mark_running(self, false);
@@ -571,7 +572,7 @@ impl Core {
     /// Lets another job come in place of one whose function waits.
     pub(crate) fn begin_rest(self: &Arc<Core>) {
         self.resting.fetch_add(1, Ordering::SeqCst);
-        swallow_panic(|| self.change(|inner, after| inner.hire(self, true, after)));
+        swallow_panic(|| self.change(|_, _| ()));
     }
 
     pub(crate) fn end_rest(&self) {
@@ -602,27 +603,27 @@ impl Core {
     }
 
     /// Does what follows from a change. A panic of a waker or a `Drop` goes on to the caller.
-    fn tell_now(self: &Arc<Core>, jobs: usize, news: Option<Box<Notices>>) {
+    fn tell_now(self: &Arc<Core>, after: After) {
         let mut panicked = None;
-        self.tell_all(jobs, news, &mut panicked);
+        self.tell_all(after, &mut panicked);
         if let Some(payload) = panicked {
             resume_unwind(payload);
         }
     }
 
     /// Does what follows from changes. The lock is free. If a waker or a `Drop` panics, the rest is done all the same, and the first panic is kept.
-    fn tell_all(self: &Arc<Core>, jobs: usize, mut news: Option<Box<Notices>>, panicked: &mut Option<Payload>) {
-        self.ask_for_alarm(&mut news, panicked);
-        for _ in 0..jobs {
+    fn tell_all(self: &Arc<Core>, mut after: After, panicked: &mut Option<Payload>) {
+        self.ask_for_alarm(&mut after.news, panicked);
+        for _ in 0..after.jobs {
             catch_panic(panicked, || self.spawn(Job::new(JobKind::Work(Arc::clone(self)))));
         }
-        if let Some(news) = news {
+        if let Some(news) = after.news {
             self.tell_notices(news, panicked);
         }
     }
 
     fn ask_for_alarm(self: &Arc<Core>, news: &mut Option<Box<Notices>>, panicked: &mut Option<Payload>) {
-        if let Some((number, wait)) = news.as_mut().and_then(|news| news.alarm.take()) {
+        if let Some(AskedAlarm { number, wait }) = news.as_mut().and_then(|news| news.alarm.take()) {
             catch_panic(panicked, || self.clock.ring_after(wait, Alarm { core: Arc::downgrade(self), number, wait }));
         }
     }
@@ -634,17 +635,17 @@ impl Core {
         while let Some(task) = news.tasks.pop() {
             catch_panic(panicked, || task.stop(self));
         }
-        while let Some((core, relay, told)) = news.feeds.pop() {
+        while let Some(Feed { relay: StageOf { core, stage }, told }) = news.feeds.pop() {
             let feeds = &mut news.feeds;
-            catch_panic(panicked, || core.settle_relay(relay, told, feeds));
+            catch_panic(panicked, || core.settle_relay(stage, told, feeds));
             catch_panic(panicked, || drop(core));
         }
-        while let Some((of, stage, relay)) = news.links.pop() {
-            catch_panic(panicked, || of.feed_relay(stage, Arc::clone(self), relay));
-            catch_panic(panicked, || drop(of));
+        while let Some(Link { to: StageOf { core, stage }, relay }) = news.links.pop() {
+            catch_panic(panicked, || core.feed_relay(stage, Arc::clone(self), relay));
+            catch_panic(panicked, || drop(core));
         }
-        while let Some((of, stage, relay)) = news.ends.pop() {
-            catch_panic(panicked, || of.upgrade().into_iter().for_each(|of| of.unhang_relay(stage, self, relay)));
+        while let Some(Link { to: WeakStageOf { core, stage }, relay }) = news.ends.pop() {
+            catch_panic(panicked, || core.upgrade().into_iter().for_each(|core| core.unhang_relay(stage, self, relay)));
         }
         while let Some(dropped) = news.dropped.pop() {
             catch_panic(panicked, || drop(dropped));
@@ -661,7 +662,7 @@ impl Core {
     pub(crate) fn refuse_ready(self: &Arc<Core>) {
         self.change(|inner, after| {
             inner.jobs -= 1;
-            inner.coming -= 1;
+            inner.ledger.begin_job();
             for stage in inner.ready_without_job(self.resting.load(Ordering::SeqCst)) {
                 let _ = inner.settle(CLOCK, stage, Err(Refusal::Closed.into()), after);
             }
@@ -682,19 +683,26 @@ impl<'a> TellsOnDrop<'a> {
     }
 
     #[inline(always)]
-    fn into_parts(mut self) -> (usize, Option<Box<Notices>>) {
+    fn into_after(mut self) -> After {
         let after = take(&mut self.after);
         forget(self);
-        after.into_parts()
+        after
     }
 }
 
 impl Drop for TellsOnDrop<'_> {
     #[cold]
     fn drop(&mut self) {
-        let (jobs, news) = take(&mut self.after).into_parts();
-        swallow_panic(|| self.core.tell_now(jobs, news));
+        let after = take(&mut self.after);
+        swallow_panic(|| self.core.tell_now(after));
     }
+}
+
+/// A hold that a worker took, when it did, and whether the worker gives way.
+struct WorkerHold<'a> {
+    inner: Hold<'a>,
+    now: u64,
+    gives_way: bool,
 }
 
 /// A job that the request counts. One that panics under the lock is over.
@@ -706,9 +714,9 @@ struct CountedJob<'a> {
 /// Where a job stands.
 #[derive(Clone, Copy, PartialEq, Eq)]
 enum JobState {
-    /// It was asked for, and has claimed nothing yet.
+    /// It was asked for, and is on its way.
     Coming,
-    /// It began with a stage in its hands, and isn't counted as busy yet.
+    /// It has come, and isn't counted as busy yet.
     Begun,
     /// It has a stage in its hands.
     Busy,
@@ -724,7 +732,7 @@ impl CountedJob<'_> {
     fn enter(&mut self, state: JobState, inner: &mut Inner) {
         let before = replace(&mut self.state, state);
         if before == JobState::Coming {
-            inner.coming -= 1;
+            inner.ledger.begin_job();
         }
         if state == JobState::Over {
             inner.jobs -= 1;
@@ -769,10 +777,14 @@ thread_local! {
 }
 
 impl Drop for Core {
-    /// Hands the history to the hook of [`Ends`](crate::Ends). Then drops the slots in turn: they may hold the last handle of another request, and a
+    /// Hands the history to the hook of [`Ends`](crate::Ends), and to the [`Meter`](crate::Meter). Then drops the slots in turn: they may hold the last handle of another request, and a
     /// chain of requests must take no stack.
     fn drop(&mut self) {
-        let ending = self.inner.get_mut().unwrap_or_else(PoisonError::into_inner).ending.take();
+        let inner = self.inner.get_mut().unwrap_or_else(PoisonError::into_inner);
+        let (ending, metered) = (inner.ending.take(), inner.metered.take());
+        if let Some(metered) = metered {
+            metered.tell_end(History::take_from(self).0);
+        }
         if let Some(ending) = ending {
             let (history, describe) = History::take_from(self);
             ending.ends.tell_end(history, describe, ending.within);
@@ -788,7 +800,10 @@ impl Drop for Core {
 pub(crate) enum Help {
     Did,
     /// Stages of other requests, and whether an open promise or future is needed.
-    Waits(Vec<(Arc<Core>, u16)>, bool),
+    Waits {
+        elsewhere: Vec<StageOf>,
+        is_open: bool,
+    },
 }
 
 /// What an open stage needs.
@@ -797,7 +812,7 @@ pub(crate) struct Needs {
     /// The work that a worker can do for it.
     pub(crate) first: Option<First>,
     /// The stages of other requests for which relays stand.
-    pub(crate) elsewhere: Vec<(Arc<Core>, u16)>,
+    pub(crate) elsewhere: Vec<StageOf>,
     /// Whether it needs a promise or a future, which any function may settle or wake.
     pub(crate) is_open: bool,
 }

@@ -5,6 +5,7 @@
 //! thread that stands in for it runs other functions ([`StandIn`](crate::spawn::StandIn)); only where there is none the worker runs any of its
 //! executor's.
 use crate::core::{Core, Help};
+use crate::inner::StageOf;
 use crate::spawn::{caller_number, requests_run_here, CALLER};
 use std::collections::VecDeque;
 use std::sync::{Arc, Weak};
@@ -30,8 +31,8 @@ impl Helper<'_> {
         let waker = (!is_stood_in).then_some(self.waker);
         let own = requests_run_here();
         let is_own = |core: &Core| own.iter().any(|own| own.place == core.place);
-        let (mut row, mut seen, mut may_need_any) = (vec![(Arc::clone(core), stage)], Vec::new(), false);
-        while let Some((core, stage)) = row.pop() {
+        let (mut row, mut seen, mut may_need_any) = (vec![StageOf { core: Arc::clone(core), stage }], Vec::new(), false);
+        while let Some(StageOf { core, stage }) = row.pop() {
             let it = (Arc::as_ptr(&core), stage);
             if seen.contains(&it) {
                 continue;
@@ -40,7 +41,7 @@ impl Helper<'_> {
             self.ask_request(&core, waker.is_some());
             match core.help_stage(stage, is_own(&core), waker) {
                 Help::Did => return true,
-                Help::Waits(elsewhere, is_open) => {
+                Help::Waits { elsewhere, is_open } => {
                     row.extend(elsewhere);
                     may_need_any |= is_open;
                 }
@@ -62,7 +63,7 @@ impl Helper<'_> {
             self.ask_request(&core, true);
             match core.help_any(is_own(&core), self.waker) {
                 Help::Did => return true,
-                Help::Waits(followed, _) => followed.into_iter().for_each(|(core, _)| row.push_front(core)),
+                Help::Waits { elsewhere, .. } => elsewhere.into_iter().for_each(|it| row.push_front(it.core)),
             }
         }
         false

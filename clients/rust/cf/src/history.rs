@@ -5,7 +5,7 @@ use crate::describe::{escape_text, shorten, Describe};
 use crate::error::Error;
 #[cfg(feature = "serde")]
 use crate::json::Json;
-use crate::ledger::{is_replayed, new_tale, replay, Replied};
+use crate::ledger::{is_replayed, new_tale, replay, Followed, Replayed};
 use crate::record::EventTimes;
 use crate::spawn::{CALLER, CLOCK, FIRST_WORKER, RELAY};
 use crate::value::Val;
@@ -42,7 +42,7 @@ pub struct History {
     /// What stages gave, by their numbers, and what they failed with, by the codes.
     values: Vec<Option<KeptEnd<Val>>>,
     errors: Vec<Option<KeptEnd<Error>>>,
-    relays: Vec<(u16, u16)>,
+    relays: Vec<Followed>,
     /// When the request began.
     since: SystemTime,
 }
@@ -118,13 +118,13 @@ impl History {
     }
 
     /// What the events are answered, and what they settle, as they are done again.
-    pub(crate) fn replay(&self) -> Vec<Replied> {
+    pub(crate) fn replay(&self) -> Vec<Replayed> {
         replay(&self.words, self.names.len() as u16).expect("memory for a ledger")
     }
 
     /// The stages for which relays stand.
     pub(crate) fn relayed_stages(&self) -> impl Iterator<Item = u16> + '_ {
-        self.relays.iter().map(|(_, stage)| *stage)
+        self.relays.iter().map(|followed| followed.stage)
     }
 
     /// What is told of a cause.
@@ -227,7 +227,7 @@ impl History {
         let mut account = trim_newline(self.tell(TaleFormat::Account));
         if !self.relays.is_empty() {
             // The library doesn't tell which stages stand in for others.
-            let relays: Vec<String> = self.relays.iter().map(|(relay, stage)| format!("[{relay},{stage}]")).collect();
+            let relays: Vec<String> = self.relays.iter().map(|Followed { relay, stage }| format!("[{relay},{stage}]")).collect();
             account.truncate(account.len() - 1);
             account += &format!(",\"relays\":[{}]}}", relays.join(","));
         }
@@ -305,7 +305,7 @@ impl History {
     /// it as the clock.
     fn words_without_late(&self) -> Result<Vec<u64>, Refused> {
         let lost = self.names.len() as u64;
-        let apart = |(word, reply, _): Replied| {
+        let apart = |Replayed { word, reply, .. }| {
             let parts = word::decode(word);
             let is_kept = !matches!(reply, Reply::Flag(false) | Reply::Finished(Finished::Late | Finished::NotYours));
             match (parts.kind, parts.tag) {
@@ -317,7 +317,7 @@ impl History {
             }
         };
         let mut is_relay = vec![false; self.names.len()];
-        self.relays.iter().for_each(|(relay, _)| is_relay[usize::from(*relay)] = true);
+        self.relays.iter().for_each(|followed| is_relay[usize::from(followed.relay)] = true);
         let by_relay = |word| {
             let parts = word::decode(word);
             let is_relays = parts.who == CLOCK && parts.kind != ATTACH && is_relay[usize::from(parts.stage)];

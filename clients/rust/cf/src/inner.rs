@@ -8,7 +8,8 @@
 use crate::core::{Core, First, Needs};
 use crate::ends::Ending;
 use crate::error::{Error, Refusal};
-use crate::ledger::Ledger;
+use crate::ledger::{Dependencies, Ledger};
+use crate::meter::Metered;
 use crate::name::Made;
 use crate::slot::{code_of_error, stage_of_error, Held, Slot};
 use crate::spawn::{CLOCK, RELAY};
@@ -16,14 +17,13 @@ use crate::task::StageFuture;
 use crate::value::{CallArgs, Returned, StageFn, Val};
 use crate::wakers::Wakers;
 use crate::word::{self, WordForm, BAD_ANSWER, CANCEL, CLAIM, COMPLETE, FAIL, FAIL_AS, FINISH, LINKS, SOME, THROWS, TIMED_OUT};
-use cf_graph::{Answer, Args, Cause, Claimed, Finished, Outcome, Refused, Reply, Task as Claim, Value};
+use cf_graph::{Answer, Args, Cause, Claimed, Finished, Outcome, Refused, Reply, SettledStage, Task as Claim, Value};
 #[cfg(feature = "tokio")]
 use std::any::Any;
 use std::borrow::Cow;
 use std::cell::RefCell;
 use std::collections::BTreeMap;
 use std::mem::{forget, replace, take};
-use std::ops::Range;
 use std::sync::{Arc, Weak};
 use std::task::Waker;
 use std::time::Duration;
@@ -42,66 +42,52 @@ pub(crate) struct Inner {
     pub(crate) describe: crate::describe::Describe,
     /// The hook for the end of the request.
     pub(crate) ending: Option<Box<Ending>>,
+    pub(crate) metered: Option<Box<Metered>>,
     /// The wakers of handles that wait for a stage.
     pub(crate) waiting: Wakers,
     /// Wakers of workers that wait for a stage of this request, and could run functions meanwhile.
     pub(crate) helpers: Vec<Waker>,
-    /// The number of jobs that were asked for and aren't done, and of those that haven't begun.
+    /// The number of jobs that were asked for and aren't done.
     pub(crate) jobs: usize,
-    pub(crate) coming: usize,
     /// Whether a stage may have become ready under this hold: one was settled, or one was attached that doesn't wait.
     is_more: bool,
     /// What few stages have.
     extras: BTreeMap<u16, Extra>,
     /// Relays that nobody needs any more. They are cancelled before the lock is free.
     letting: Vec<u16>,
-    /// Deadlines by stage, and those of one stage in the order in which they were set. Those of settled stages are dropped once no other is left.
+    /// The limits of stages, by stage. Those of settled stages are dropped once no other is left.
     limits: Vec<StageLimit>,
     pub(crate) awaited: AwaitedAlarm,
 }
 
-/// The alarm at the first of the machine's deadlines.
+/// The last alarm for which the clock was asked.
+#[derive(Default)]
 pub(crate) struct AwaitedAlarm {
-    /// The number of the last alarm for which the clock was asked.
     number: u64,
-    /// Its moment, or [`NEVER`] if it isn't wanted any more.
-    moment: u64,
-    /// The number of open stages with deadlines.
-    stages: u16,
+    /// Its moment, as long as it is wanted: the machine's next moment, or one before that.
+    moment: Option<u64>,
     /// Stops its timer when dropped.
     #[cfg(feature = "tokio")]
     pub(crate) timer: Option<Box<dyn Any + Send>>,
 }
 
-const NEVER: u64 = u64::MAX;
-
 impl AwaitedAlarm {
-    fn none() -> AwaitedAlarm {
-        AwaitedAlarm {
-            number: 0,
-            moment: NEVER,
-            stages: 0,
-            #[cfg(feature = "tokio")]
-            timer: None,
-        }
-    }
-
     /// Whether the alarm of this number is awaited.
     pub(crate) fn is_for(&self, number: u64) -> bool {
-        self.number == number && self.moment != NEVER
+        self.number == number && self.moment.is_some()
     }
 
     /// Takes the moment: the alarm isn't wanted any more.
-    fn take_moment(&mut self, _after: &mut After) -> u64 {
+    fn take_moment(&mut self, _after: &mut After) -> Option<u64> {
         #[cfg(feature = "tokio")]
         if let Some(timer) = self.timer.take() {
             _after.notices().dropped.push(Held::Timer(timer));
         }
-        replace(&mut self.moment, NEVER)
+        self.moment.take()
     }
 }
 
-/// A deadline of a stage. The stage then gets a value, or times out with this wait.
+/// The first limit of a stage. The stage then gets a value, or times out with this wait.
 pub(crate) struct StageLimit {
     stage: u16,
     moment: u64,
@@ -109,13 +95,31 @@ pub(crate) struct StageLimit {
     gives: Option<Val>,
 }
 
+/// A stage of a request.
+pub(crate) struct StageOf {
+    pub(crate) core: Arc<Core>,
+    pub(crate) stage: u16,
+}
+
+/// A stage of a request, which may be gone.
+pub(crate) struct WeakStageOf {
+    pub(crate) core: Weak<Core>,
+    pub(crate) stage: u16,
+}
+
+impl WeakStageOf {
+    fn upgrade(&self) -> Option<StageOf> {
+        Some(StageOf { core: self.core.upgrade()?, stage: self.stage })
+    }
+}
+
 #[derive(Default)]
 pub(crate) struct Extra {
     pub(crate) task: Option<Arc<StageFuture>>,
     /// Relays of other requests that are settled as this one is.
-    pub(crate) feeds: Vec<(Arc<Core>, u16)>,
+    pub(crate) feeds: Vec<StageOf>,
     /// The stage of another request for which it stands as a relay.
-    pub(crate) of: Option<(Weak<Core>, u16)>,
+    pub(crate) of: Option<WeakStageOf>,
     /// Relays that nobody needs once it is settled.
     lets_go: Vec<u16>,
 }
@@ -163,7 +167,7 @@ fn take_rows(room: u16) -> (Vec<Slot>, Vec<Made>) {
 #[derive(Default)]
 pub(crate) struct After {
     pub(crate) jobs: usize,
-    news: Option<Box<Notices>>,
+    pub(crate) news: Option<Box<Notices>>,
 }
 
 /// What else is to be done.
@@ -173,19 +177,36 @@ pub(crate) struct Notices {
     pub(crate) dropped: Vec<Held>,
     pub(crate) feeds: Vec<Feed>,
     pub(crate) tasks: Vec<Arc<StageFuture>>,
-    /// A stage, and the relay that settles as it does.
-    pub(crate) links: Vec<(Arc<Core>, u16, u16)>,
-    /// A stage of another request, and its relay, which is settled.
-    pub(crate) ends: Vec<(Weak<Core>, u16, u16)>,
-    /// The alarm to ask the clock for, and its wait.
-    pub(crate) alarm: Option<(u64, Duration)>,
+    /// Stages of other requests that relays are to be hung on.
+    pub(crate) links: Vec<Link<StageOf>>,
+    /// Stages of other requests that settled relays are to be taken off.
+    pub(crate) ends: Vec<Link<WeakStageOf>>,
+    pub(crate) alarm: Option<AskedAlarm>,
 }
 
 /// A relay of another request, and its result.
-pub(crate) type Feed = (Arc<Core>, u16, Result<Val, Error>);
+pub(crate) struct Feed {
+    pub(crate) relay: StageOf,
+    pub(crate) told: Result<Val, Error>,
+}
 
-/// A claimed stage, its function, and the function's arguments.
-pub(crate) type Todo = (u16, StageFn, Args);
+/// A stage of another request, and the relay that settles as it does.
+pub(crate) struct Link<To> {
+    pub(crate) to: To,
+    pub(crate) relay: u16,
+}
+
+/// An alarm for which the clock is to be asked.
+pub(crate) struct AskedAlarm {
+    pub(crate) number: u64,
+    pub(crate) wait: Duration,
+}
+
+/// A claimed stage's function, and the function's arguments.
+pub(crate) struct ClaimedCall {
+    pub(crate) call: StageFn,
+    pub(crate) args: Args,
+}
 
 thread_local! {
     /// Empty lists of requests that ended on this thread, with their room.
@@ -202,10 +223,9 @@ impl After {
         self.news.get_or_insert_with(|| TOLD.try_with(|told| told.borrow_mut().pop()).ok().flatten().unwrap_or_default())
     }
 
-    /// The number of jobs to ask for, and the notices.
     #[inline]
-    pub(crate) fn into_parts(self) -> (usize, Option<Box<Notices>>) {
-        (self.jobs, self.news)
+    pub(crate) fn is_nothing(&self) -> bool {
+        self.jobs == 0 && self.news.is_none()
     }
 }
 
@@ -227,15 +247,15 @@ impl Inner {
             names: BTreeMap::new(),
             describe: crate::describe::Describe::All,
             ending: None,
+            metered: None,
             waiting: Wakers::default(),
             helpers: Vec::new(),
             jobs: 0,
-            coming: 0,
             is_more: false,
             extras: BTreeMap::new(),
             letting: Vec::new(),
             limits: Vec::new(),
-            awaited: AwaitedAlarm::none(),
+            awaited: AwaitedAlarm::default(),
         }
     }
 
@@ -404,7 +424,7 @@ impl Inner {
     /// Writes the stages that the last call settled to their slots.
     #[inline]
     fn show_settled(&mut self, after: &mut After) {
-        if !self.ledger.told.is_empty() {
+        if self.ledger.settled_count() > 0 {
             self.show_each_out_of_line(after);
         }
     }
@@ -416,15 +436,15 @@ impl Inner {
 
     #[inline(always)]
     fn show_each(&mut self, after: &mut After) {
-        for at in 0..self.ledger.told.len() {
-            let (stage, told) = self.ledger.told.at(at);
-            let slot = &mut self.slots[usize::from(stage)];
+        for at in 0..self.ledger.settled_count() {
+            let told = self.ledger.settled_at(at);
+            let slot = &mut self.slots[usize::from(told.stage)];
             // Most have a value, and nobody waits for them.
-            if !matches!(told, Outcome::Value(_)) || slot.needs_more_than_outcome() || self.waiting.has_waker(stage) {
-                return self.show_from(at, after, |_, _, _, _| false);
+            if !matches!(told.outcome, Outcome::Value(_)) || slot.needs_more_than_outcome() || self.waiting.has_waker(told.stage) {
+                return self.show_from(at, after, |_, _, _| false);
             }
             self.is_more = true;
-            slot.settle(told);
+            slot.settle(told.outcome);
             self.ledger.note_shown();
         }
     }
@@ -432,49 +452,51 @@ impl Inner {
     /// Writes the settled stages to their slots, from the one at `first` on. Counts an event for each relay, and for each stage with `has_event`: it
     /// is the lowest one that its event settled.
     #[cold]
-    fn show_from(&mut self, first: usize, after: &mut After, has_event: impl Fn(&mut Inner, u16, Outcome, &mut After) -> bool) {
-        for at in first..self.ledger.told.len() {
-            let (stage, outcome) = self.ledger.told.at(at);
-            if self.slots[usize::from(stage)].follows || has_event(self, stage, outcome, after) {
+    fn show_from(&mut self, first: usize, after: &mut After, has_event: impl Fn(&mut Inner, SettledStage, &mut After) -> bool) {
+        for at in first..self.ledger.settled_count() {
+            let told = self.ledger.settled_at(at);
+            if self.slots[usize::from(told.stage)].follows || has_event(self, told, after) {
                 self.ledger.record.note_events(1);
             }
-            self.mark_settled(stage, outcome, after);
+            self.mark_settled(told, after);
         }
     }
 
     /// Writes a settled stage to its slot.
     #[inline]
-    fn mark_settled(&mut self, stage: u16, outcome: Outcome, after: &mut After) {
+    fn mark_settled(&mut self, told: SettledStage, after: &mut After) {
         self.is_more = true;
-        let slot = &mut self.slots[usize::from(stage)];
-        slot.settle(outcome);
+        let slot = &mut self.slots[usize::from(told.stage)];
+        slot.settle(told.outcome);
         self.ledger.note_shown();
         if let Held::Call(_) = slot.held {
             after.notices().dropped.push(take(&mut slot.held));
         }
         if slot.has_extra {
-            self.finish_extra(stage, after);
+            self.finish_extra(told, after);
         }
-        if self.waiting.has_waker(stage) {
-            self.waiting.take_all(stage, &mut after.notices().wakers);
+        if self.waiting.has_waker(told.stage) {
+            self.waiting.take_all(told.stage, &mut after.notices().wakers);
         }
     }
 
-    fn finish_extra(&mut self, stage: u16, after: &mut After) {
-        self.forget_limits(stage, after);
+    fn finish_extra(&mut self, told: SettledStage, after: &mut After) {
+        let stage = told.stage;
+        if let Some(value) = self.limit_of(stage).and_then(|limit| limit.gives.take()) {
+            after.notices().dropped.push(Held::Value(value));
+        }
         let extra = match self.extras.remove(&stage) {
             Some(extra) => extra,
             None => return,
         };
-        if let Some(task) = extra.task {
-            after.notices().tasks.push(task);
-        }
+        // One that isn't stopped has ended.
+        after.notices().tasks.extend(extra.task.filter(|_| told.stop.is_some()));
         self.letting.extend(extra.lets_go);
-        if let Some((of, number)) = extra.of {
-            after.notices().ends.push((of, number, stage));
+        if let Some(to) = extra.of {
+            after.notices().ends.push(Link { to, relay: stage });
         }
-        for (to, relay) in extra.feeds {
-            after.notices().feeds.push((to, relay, self.end_of(stage).expect("the stage is settled")));
+        for relay in extra.feeds {
+            after.notices().feeds.push(Feed { relay, told: self.end_of(stage).expect("the stage is settled") });
         }
     }
 
@@ -503,104 +525,90 @@ impl Inner {
         }
     }
 
-    // Deadlines.
+    // Limits.
 
-    /// Sets a deadline of a stage. Gives the value back if the stage is settled.
+    /// Sets a limit of a stage. Gives the value back if the limit never acts: the stage is settled, or another limit of it comes before or as soon.
     pub(crate) fn set_limit(&mut self, stage: u16, wait: Duration, gives: Option<Val>, after: &mut After) -> Option<Val> {
-        if self.slot(stage).is_settled() {
-            return gives;
-        }
-        let moment = u64::try_from(wait.as_nanos()).map_or(NEVER, |wait| self.ledger.record.now().saturating_add(wait));
+        let moment = u64::try_from(wait.as_nanos()).ok().and_then(|wait| self.ledger.record.now().checked_add(wait)).filter(|&it| it < u64::MAX);
+        let (moment, place) = match (moment, self.limits.binary_search_by_key(&stage, |limit| limit.stage)) {
+            (None, _) => return gives,
+            (Some(moment), Ok(at)) if self.limits[at].moment <= moment => return gives,
+            (Some(_), _) if self.slot(stage).is_settled() => return gives,
+            (Some(moment), place) => (moment, place),
+        };
         if let Err(why) = self.ledger.set_deadline(stage, moment, gives.is_some()) {
             Inner::drop_later(gives.map_or(Held::Nothing, Held::Value), after);
             panic_refused(why);
         }
-        let others = self.limits_of(stage);
-        self.awaited.stages += u16::from(others.is_empty());
-        self.limits.insert(others.end, StageLimit { stage, moment, wait, gives });
+        let limit = StageLimit { stage, moment, wait, gives };
+        match place {
+            Ok(at) => return replace(&mut self.limits[at], limit).gives,
+            Err(at) => self.limits.insert(at, limit),
+        }
         self.slot(stage).has_extra = true;
-        self.await_alarm(moment, after);
         None
     }
 
-    /// The indices of a stage's deadlines.
-    fn limits_of(&self, stage: u16) -> Range<usize> {
-        let first = self.limits.partition_point(|limit| limit.stage < stage);
-        first..first + self.limits[first..].iter().take_while(|limit| limit.stage == stage).count()
+    fn limit_of(&mut self, stage: u16) -> Option<&mut StageLimit> {
+        let at = self.limits.binary_search_by_key(&stage, |limit| limit.stage).ok()?;
+        Some(&mut self.limits[at])
     }
 
-    /// Forgets the deadlines of a settled stage.
-    fn forget_limits(&mut self, stage: u16, after: &mut After) {
-        let limits = self.limits_of(stage);
-        if limits.is_empty() {
-            return;
-        }
-        for value in self.limits[limits].iter_mut().filter_map(|limit| limit.gives.take()) {
-            after.notices().dropped.push(Held::Value(value));
-        }
-        self.awaited.stages -= 1;
-        if self.awaited.stages == 0 {
-            self.limits.clear();
-            self.awaited.take_moment(after);
-        }
-    }
-
-    /// Asks for an alarm at a moment, unless an earlier one is awaited.
-    fn await_alarm(&mut self, moment: u64, after: &mut After) {
-        if moment < self.awaited.moment {
-            self.awaited.take_moment(after);
-            self.awaited.number += 1;
-            self.awaited.moment = moment;
-            let wait = Duration::from_nanos(moment.saturating_sub(self.ledger.record.now()));
-            after.notices().alarm = Some((self.awaited.number, wait));
+    /// Asks for an alarm at the machine's next moment, unless one that comes before is awaited: as that rings, it asks again.
+    #[inline(never)]
+    fn follow_moment(&mut self, next: Option<u64>, after: &mut After) {
+        match next {
+            None => {
+                self.limits.clear();
+                self.awaited.take_moment(after);
+            }
+            Some(next) if self.awaited.moment.map_or(true, |awaited| next < awaited) => {
+                self.awaited.take_moment(after);
+                self.awaited.number += 1;
+                self.awaited.moment = Some(next);
+                let wait = Duration::from_nanos(next.saturating_sub(self.ledger.record.now()));
+                after.notices().alarm = Some(AskedAlarm { number: self.awaited.number, wait });
+            }
+            Some(_) => {}
         }
     }
 
     /// Passes time to the moment of an alarm that rings.
     pub(crate) fn ring_alarm(&mut self, alarm: u64, after: &mut After) {
         if self.awaited.is_for(alarm) {
-            let moment = self.awaited.take_moment(after);
-            self.pass_time_to(moment, after);
+            if let Some(moment) = self.awaited.take_moment(after) {
+                self.pass_time_to(moment, after);
+            }
         }
     }
 
-    /// Passes time to a moment, and asks for the next alarm.
+    /// Passes time to a moment.
     pub(crate) fn pass_time_to(&mut self, moment: u64, after: &mut After) {
         let passed = self.ledger.pass_time_to(moment);
         self.show_from(0, after, Inner::keep_due_value);
         passed.unwrap_or_else(|why| panic_refused(why));
-        if let Some(next) = self.ledger.next_deadline() {
-            self.await_alarm(next, after);
-        }
     }
 
-    /// Whether a stage was settled by a deadline of its own. Then keeps the value or the error of that deadline.
-    fn keep_due_value(&mut self, stage: u16, outcome: Outcome, after: &mut After) -> bool {
-        let gives = match outcome {
-            Outcome::Value(Value::Int(number)) if number == i32::from(stage) => true,
-            Outcome::Fault { cause: Cause::TimedOut(code), .. } if code == code_of_error(stage) => false,
-            _ => return false,
+    /// Whether a stage was settled by its own limit. Then keeps the value or the error of that.
+    fn keep_due_value(&mut self, told: SettledStage, after: &mut After) -> bool {
+        let is_own = match told.outcome {
+            Outcome::Value(Value::Int(number)) => number == i32::from(told.stage),
+            Outcome::Fault { cause: Cause::TimedOut(code), .. } => code == code_of_error(told.stage),
+            _ => false,
         };
-        let limits = self.limits_of(stage);
-        let of_its_kind = self.limits[limits].iter_mut().filter(|limit| limit.gives.is_some() == gives);
-        // The first of those that were set for one moment.
-        let held = of_its_kind.min_by_key(|limit| limit.moment).map(|limit| match limit.gives.take() {
-            Some(value) => Held::Value(value),
-            None => Held::Error(Box::new(Error::TimedOut(limit.wait))),
-        });
-        match held {
-            Some(held) => self.keep_content(stage, held, after),
+        let held = match self.limit_of(told.stage).filter(|_| is_own) {
+            Some(limit) => limit.gives.take().map_or_else(|| Held::Error(Box::new(Error::TimedOut(limit.wait))), Held::Value),
             None => return false,
-        }
+        };
+        self.keep_content(told.stage, held, after);
         true
     }
 
-    /// Fails the stages that have deadlines, since their alarm never rings.
+    /// Fails the stages that have limits, since their alarm never rings.
     pub(crate) fn give_up_alarm(&mut self, alarm: u64, after: &mut After) {
         if !self.awaited.is_for(alarm) {
             return;
         }
-        self.awaited.take_moment(after);
         let limited: Vec<u16> = self.limits.iter().map(|limit| limit.stage).collect();
         for stage in limited {
             if !self.slot(stage).is_settled() {
@@ -626,7 +634,6 @@ impl Inner {
             None => {
                 // All that was ready by now was looked at.
                 self.is_more = false;
-                self.ledger.rest_if_over();
                 return None;
             }
         };
@@ -664,9 +671,9 @@ impl Inner {
     }
 
     /// Claims a ready stage.
-    pub(crate) fn claim(&mut self, who: u8, stage: u16, _after: &mut After) -> Todo {
+    pub(crate) fn claim(&mut self, who: u8, stage: u16, _after: &mut After) -> ClaimedCall {
         match self.ledger.act(word::encode(CLAIM, who, stage, 0)) {
-            Ok(Reply::Claimed(Claimed::Granted(args))) => (stage, self.take_function(stage), args),
+            Ok(Reply::Claimed(Claimed::Granted(args))) => ClaimedCall { call: self.take_function(stage), args },
             Err(why) => panic_refused(why),
             Ok(_) => unreachable!("the stage is ready"),
         }
@@ -685,7 +692,7 @@ impl Inner {
         }
         let hangs = self.ledger.dependencies();
         let (mut row, mut seen) = (vec![stage], vec![false; self.slots.len()]);
-        let relays: BTreeMap<u16, u16> = self.ledger.relays.iter().copied().collect();
+        let relays: BTreeMap<u16, u16> = self.ledger.relays.iter().map(|followed| (followed.relay, followed.stage)).collect();
         while let Some(stage) = row.pop() {
             if self.slot(stage).is_settled() || replace(&mut seen[usize::from(stage)], true) {
                 continue;
@@ -694,8 +701,8 @@ impl Inner {
                 needs.first = Some(First::Function(stage));
                 return needs;
             }
-            let (is_source, of) = hangs[usize::from(stage)];
-            row.extend(of.iter().flatten());
+            let Dependencies { is_source, sources, target } = hangs[usize::from(stage)];
+            row.extend(sources.into_iter().flatten().chain(target));
             let own = relays.get(&stage);
             row.extend(own);
             match self.extras.get(&stage) {
@@ -704,7 +711,7 @@ impl Inner {
                     return needs;
                 }
                 Some(Extra { task: Some(_), .. }) => needs.is_open = true,
-                Some(Extra { of: Some((core, number)), .. }) => needs.elsewhere.extend(core.upgrade().map(|core| (core, *number))),
+                Some(Extra { of: Some(of), .. }) => needs.elsewhere.extend(of.upgrade()),
                 _ => needs.is_open |= is_source && own.is_none(),
             }
         }
@@ -716,8 +723,7 @@ impl Inner {
         let ready = self.ledger.lowest_ready(0);
         let queued = || self.extras.values().filter_map(|extra| extra.task.as_ref()).find(|task| task.is_queued()).map(Arc::clone);
         let first = if is_own { ready.map(First::Function).or_else(|| queued().map(First::Future)) } else { None };
-        let relays = self.extras.values().filter_map(|extra| extra.of.as_ref());
-        let elsewhere = relays.filter_map(|(core, stage)| Some((core.upgrade()?, *stage))).collect();
+        let elsewhere = self.extras.values().filter_map(|extra| extra.of.as_ref()?.upgrade()).collect();
         Needs { first, elsewhere, is_open: true }
     }
 
@@ -764,7 +770,7 @@ impl Inner {
         if !is_own {
             self.names.insert(target, format!("relay of {number} of {}", of.name).into());
             self.cancel_relays_with(Some(stage), vec![target]);
-            after.notices().links.push((of, number, target));
+            after.notices().links.push(Link { to: StageOf { core: of, stage: number }, relay: target });
             return;
         }
         self.names.insert(target, format!("relay of {number}").into());
@@ -773,30 +779,23 @@ impl Inner {
         self.show_settled(after);
     }
 
-    /// Asks for one more job if more stages are ready than jobs are coming, and wakes the waiting workers. A job that begins asks for the next one,
-    /// so no caller wakes many.
+    /// Does what the machine says is to be done next, at the end of a hold: asks for one more job if more stages are ready than jobs are coming, and
+    /// for an alarm. A job that begins asks for the next one, so no caller wakes many. Also wakes the waiting workers.
     #[inline]
-    pub(crate) fn hire(&mut self, core: &Core, begins: bool, after: &mut After) {
-        let is_more = take(&mut self.is_more);
-        if is_more || begins {
-            let may_hire = self.jobs < core.job_limit();
-            if may_hire || !self.helpers.is_empty() {
-                self.hire_one(is_more, may_hire, after);
-            }
-            self.ledger.rest_if_over();
-        }
-    }
-
-    fn hire_one(&mut self, is_more: bool, may_hire: bool, after: &mut After) {
-        let ready = self.ledger.ready_count();
-        if is_more && ready > 0 && !self.helpers.is_empty() {
+    pub(crate) fn follow_todo(&mut self, core: &Core, after: &mut After) {
+        if take(&mut self.is_more) && !self.helpers.is_empty() && self.ledger.lowest_ready(0).is_some() {
             after.notices().wakers.append(&mut self.helpers);
         }
-        if ready > self.coming && may_hire {
+        if self.ledger.wants_job() && self.jobs < core.job_limit() {
+            self.ledger.start_job();
             self.jobs += 1;
-            self.coming += 1;
             after.jobs += 1;
         }
+        let next = self.ledger.next_moment();
+        if next != self.awaited.moment {
+            self.follow_moment(next, after);
+        }
+        self.ledger.rest_if_over();
     }
 
     /// Takes out all that may hold other requests.
@@ -814,8 +813,8 @@ impl Inner {
     /// Takes a relay off a stage, and gives the relay's request.
     pub(crate) fn take_feed(&mut self, stage: u16, to: &Arc<Core>, relay: u16) -> Option<Arc<Core>> {
         let feeds = &mut self.extras.get_mut(&stage)?.feeds;
-        let is_it = |feed: &(Arc<Core>, u16)| feed.1 == relay && Arc::ptr_eq(&feed.0, to);
-        feeds.iter().rposition(is_it).map(|at| feeds.remove(at).0)
+        let is_it = |feed: &StageOf| feed.stage == relay && Arc::ptr_eq(&feed.core, to);
+        feeds.iter().rposition(is_it).map(|at| feeds.remove(at).core)
     }
 
     /// The ready stages, if no job is left to run them. A job that waits may wait for them.
@@ -896,7 +895,8 @@ impl Hands {
 #[cfg(test)]
 mod tests {
     use super::*;
-    use crate::{Inline, Request};
+    use crate::{Inline, Job, Request, Spawn};
+    use std::sync::Mutex;
 
     /// Also where a worker settles the last stage, and not a call.
     #[test]
@@ -911,6 +911,30 @@ mod tests {
             assert!(over.0.lock().ledger.is_resting(), "{}", over.name());
             drop(over.promise::<i32>());
             assert!(!over.0.lock().ledger.is_resting(), "{}", over.name());
+        }
+    }
+
+    /// The job finds nothing to do, or is dropped.
+    #[test]
+    fn large_requests_rest_behind_their_last_job() {
+        #[derive(Clone, Default)]
+        struct Keeps(Arc<Mutex<Vec<Job>>>);
+        impl Spawn for Keeps {
+            fn spawn(&self, job: Job) -> Result<(), Job> {
+                self.0.lock().unwrap().push(job);
+                Ok(())
+            }
+        }
+        for ends in [Job::run, drop] {
+            let keeps = Keeps::default();
+            let request = Request::new("keeps", keeps.clone());
+            (0..=SLOTS).for_each(|_| drop(request.supply(|| 1)));
+            request.cancel_all();
+            assert!(!request.0.lock().ledger.is_resting());
+            let jobs = take(&mut *keeps.0.lock().unwrap());
+            assert_eq!(jobs.len(), 1);
+            jobs.into_iter().for_each(ends);
+            assert!(request.0.lock().ledger.is_resting());
         }
     }
 

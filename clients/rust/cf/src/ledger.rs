@@ -5,9 +5,8 @@ use crate::record::EventTimes;
 use crate::slot::code_of_error;
 use crate::spawn::CLOCK;
 use crate::word::{self, WordForm};
-use cf_graph::{Ledger as Words, Limit, Outcome, Plan, PlanBuilder, Refused, Reply, Request, RequestSizes, SettledStages, State, Tale, Task, Value};
+use cf_graph::{Ledger as Words, Limit, Outcome, Plan, PlanBuilder, Refused, Reply, Request, RequestSizes, SettledStage, State, Tale, Task, Value};
 use std::cell::RefCell;
-use std::mem::take;
 use std::sync::{Mutex, MutexGuard, PoisonError};
 
 /// How many stages a request can have.
@@ -19,8 +18,6 @@ const LANE: u8 = 0;
 pub(crate) struct Ledger {
     /// Not there where it rests.
     machine: Option<Request>,
-    /// What its last call settled.
-    pub(crate) told: SettledStages,
     /// For how many stages there was room at first.
     room: u16,
     pub(crate) stages: u16,
@@ -30,8 +27,8 @@ pub(crate) struct Ledger {
     /// has no machine, which takes three times as much. If something is done to it nevertheless, a new machine does all words again.
     words: Vec<u64>,
     rests_from: u16,
-    /// Which stage each relay of this request follows.
-    pub(crate) relays: Vec<(u16, u16)>,
+    /// The relays of this request's own stages.
+    pub(crate) relays: Vec<Followed>,
     pub(crate) record: EventTimes,
     /// The last moment up to which time has passed for deadlines.
     passed: u64,
@@ -41,15 +38,31 @@ pub(crate) struct Ledger {
 struct Spare {
     machine: Request,
     room: u16,
-    told: SettledStages,
     moments: Vec<u32>,
 }
 
-/// A word, what it was answered, and what it settled.
-pub(crate) type Replied = (u64, Reply, Vec<(u16, Outcome)>);
+/// A relay, and the stage of the same request that it follows.
+#[derive(Clone, Copy, Debug)]
+pub(crate) struct Followed {
+    pub(crate) relay: u16,
+    pub(crate) stage: u16,
+}
 
-/// Of each stage whether it is a source, and the stages that it hangs on: its sources, and the one to which a finish linked it.
-pub(crate) type Hangs = Vec<(bool, [Option<u16>; 3])>;
+/// A word that was done again, what it was answered, which stages it made ready, and what it settled.
+pub(crate) struct Replayed {
+    pub(crate) word: u64,
+    pub(crate) reply: Reply,
+    pub(crate) ready: Vec<u16>,
+    pub(crate) settled: Vec<(u16, Outcome)>,
+}
+
+/// What a stage hangs on.
+pub(crate) struct Dependencies {
+    pub(crate) is_source: bool,
+    pub(crate) sources: [Option<u16>; 2],
+    /// The stage to which a finish linked it.
+    pub(crate) target: Option<u16>,
+}
 
 /// The plan that has no stages, of which all requests are.
 fn empty_plan() -> Result<MutexGuard<'static, Option<Plan>>, Refused> {
@@ -70,21 +83,25 @@ pub(crate) fn new_tale(words: &[u64], stages: u16) -> Result<Tale, Refused> {
 }
 
 /// The words done again on a ledger of their own.
-pub(crate) fn replay(words: &[u64], stages: u16) -> Result<Vec<Replied>, Refused> {
+pub(crate) fn replay(words: &[u64], stages: u16) -> Result<Vec<Replayed>, Refused> {
     let mut again = match empty_plan()?.as_mut() {
         Some(plan) => Words::new(plan, stages)?,
         None => return Err(Refused::NO_MEMORY),
     };
     let mut is_told = vec![false; usize::from(stages)];
     let mut apply = |word: &u64| {
-        let (reply, mut told) = (again.apply(*word)?, Vec::new());
+        let (reply, mut ready, mut settled) = (again.apply(*word)?, Vec::new(), Vec::new());
         for news in again.news() {
-            if let (State::Settled(outcome), false) = (news.now.state, is_told[usize::from(news.stage)]) {
-                is_told[usize::from(news.stage)] = true;
-                told.push((news.stage, outcome));
+            match (news.now.state, is_told[usize::from(news.stage)]) {
+                (State::Settled(outcome), false) => {
+                    is_told[usize::from(news.stage)] = true;
+                    settled.push((news.stage, outcome));
+                }
+                (State::Ready, _) => ready.push(news.stage),
+                _ => {}
             }
         }
-        Ok((*word, reply, told))
+        Ok(Replayed { word: *word, reply, ready, settled })
     };
     words.iter().map(&mut apply).collect()
 }
@@ -92,8 +109,8 @@ pub(crate) fn replay(words: &[u64], stages: u16) -> Result<Vec<Replied>, Refused
 /// Whether the words settle stages just as these were, as they are done again.
 pub(crate) fn is_replayed(words: &[u64], outcomes: &[Option<Outcome>]) -> Result<bool, Refused> {
     let mut same = vec![None; outcomes.len()];
-    for (_, _, told) in replay(words, outcomes.len() as u16)? {
-        told.into_iter().for_each(|(stage, outcome)| same[usize::from(stage)] = Some(outcome));
+    for replayed in replay(words, outcomes.len() as u16)? {
+        replayed.settled.into_iter().for_each(|(stage, outcome)| same[usize::from(stage)] = Some(outcome));
     }
     Ok(same == outcomes)
 }
@@ -101,10 +118,9 @@ pub(crate) fn is_replayed(words: &[u64], outcomes: &[Option<Outcome>]) -> Result
 impl Ledger {
     pub(crate) fn new(room: u16) -> Result<Ledger, Refusal> {
         let room = room.clamp(1, MOST_STAGES);
-        let Spare { machine, room, told, moments } = take_spare(room).map_or_else(|| open_machine(room), Ok).map_err(|_| Refusal::NoLedger)?;
+        let Spare { machine, room, moments } = take_spare(room).map_or_else(|| open_machine(room), Ok).map_err(|_| Refusal::NoLedger)?;
         Ok(Ledger {
             machine: Some(machine),
-            told,
             room,
             stages: 0,
             settled: 0,
@@ -116,15 +132,14 @@ impl Ledger {
         })
     }
 
-    /// The machine, and where it tells what it settles.
     #[inline(always)]
-    fn machine(&mut self) -> Result<(&mut Request, &mut SettledStages), Refused> {
+    fn machine(&mut self) -> Result<&mut Request, Refused> {
         #[cfg(test)]
         crate::held::memory()?;
         if self.machine.is_none() {
             self.resume()?;
         }
-        Ok((self.machine.as_mut().expect("it was resumed"), &mut self.told))
+        Ok(self.machine.as_mut().expect("it was resumed"))
     }
 
     /// The same, or nothing where it rests: then no stage is ready, and none is due.
@@ -137,9 +152,10 @@ impl Ledger {
     #[cold]
     #[inline(never)]
     fn rest(&mut self) {
-        if let Some(Ok(words)) = self.machine.as_mut().map(Request::words) {
+        let idle = self.machine.as_mut().filter(|machine| machine.todo().coming(LANE) == 0);
+        if let Some(Ok(words)) = idle.map(Request::words) {
             self.words = words;
-            self.keep_machine(SettledStages::default(), Vec::new());
+            self.keep_machine(Vec::new());
         }
     }
 
@@ -149,14 +165,14 @@ impl Ledger {
     }
 
     /// Keeps the machine for a later request of this thread, with the room that it has got, unless enough are kept.
-    fn keep_machine(&mut self, told: SettledStages, moments: Vec<u32>) {
+    fn keep_machine(&mut self, moments: Vec<u32>) {
         let (machine, room) = (self.machine.take(), self.room.max(self.stages));
         let _ = KEPT.try_with(|kept| {
             let mut kept = kept.borrow_mut();
             let is_kept = kept.len() < MOST_KEPT && kept.iter().map(|it| it.room).sum::<u16>() + room <= MOST_ROOM;
             if let Some(mut machine) = machine.filter(|_| is_kept) {
                 if machine.restart().is_ok() {
-                    kept.push(Spare { machine, room, told, moments });
+                    kept.push(Spare { machine, room, moments });
                 }
             }
         });
@@ -169,7 +185,7 @@ impl Ledger {
         let twice = MOST_STAGES.min(2 * self.stages);
         let mut machine = take_spare(twice).map_or_else(|| open_machine(twice), Ok)?.machine;
         for word in &self.words {
-            machine.apply(*word, LANE, &mut self.told)?;
+            machine.apply(*word, LANE)?;
         }
         self.words = Vec::new();
         self.machine = Some(machine);
@@ -180,8 +196,7 @@ impl Ledger {
     /// Does the event of a word.
     #[inline]
     pub(crate) fn act(&mut self, word: u64) -> Result<Reply, Refused> {
-        let (machine, told) = self.machine()?;
-        let reply = machine.apply(word, LANE, told)?;
+        let reply = self.machine()?.apply(word, LANE)?;
         self.record.note_events(1);
         Ok(reply)
     }
@@ -190,48 +205,64 @@ impl Ledger {
     #[inline(always)]
     pub(crate) fn step(&mut self, who: u8, task: &mut Task) -> Result<(), Refused> {
         let held = task.stage().is_some();
-        let (machine, told) = self.machine()?;
-        machine.step(who, LANE, task, told)?;
+        self.machine()?.step(who, LANE, task)?;
         self.record.note_events(u64::from(held) + u64::from(task.stage().is_some()));
         Ok(())
     }
 
     /// Lets a stage end as another one does.
     pub(crate) fn follow(&mut self, relay: u16, stage: u16) -> Result<(), Refused> {
-        let (machine, told) = self.machine()?;
-        machine.follow(relay, stage, told)?;
-        self.relays.push((relay, stage));
+        self.machine()?.follow(relay, stage)?;
+        self.relays.push(Followed { relay, stage });
         Ok(())
     }
 
     /// Sets a deadline of a stage, at which that gets the value of its own number, or times out with the code of its error.
     pub(crate) fn set_deadline(&mut self, stage: u16, moment: u64, gives: bool) -> Result<(), Refused> {
         let limit = if gives { Limit::Give(Value::Int(i32::from(stage))) } else { Limit::Timeout(code_of_error(stage)) };
-        self.machine()?.0.set_deadline(stage, moment, limit)
+        self.machine()?.set_deadline(stage, moment, limit)
     }
 
     /// Lets time pass up to a moment. A clock may have told of a later one by now. Where memory is refused, what was due before that is told.
     pub(crate) fn pass_time_to(&mut self, moment: u64) -> Result<(), Refused> {
         let passed = self.passed.max(moment);
         self.passed = passed;
-        match &mut self.machine {
-            Some(machine) => machine.pass_time_to(passed, &mut self.told),
-            None => {
-                self.told = SettledStages::default();
-                Ok(())
-            }
-        }
+        self.machine_if_awake().map_or(Ok(()), |machine| machine.pass_time_to(passed))
     }
 
-    /// The moment of the deadline that comes next.
-    pub(crate) fn next_deadline(&mut self) -> Option<u64> {
-        self.machine_if_awake()?.next_deadline().expect("the machine is there").map(|next| next.moment)
-    }
-
-    /// How many stages are ready.
+    /// The number of stages that the last call settled.
     #[inline]
-    pub(crate) fn ready_count(&mut self) -> usize {
-        self.machine_if_awake().map_or(0, |machine| usize::from(machine.ready_count(LANE).expect("the lane is there")))
+    pub(crate) fn settled_count(&self) -> usize {
+        self.machine.as_ref().map_or(0, |machine| machine.todo().settled_count())
+    }
+
+    /// A stage that the last call settled.
+    #[inline]
+    pub(crate) fn settled_at(&self, at: usize) -> SettledStage {
+        self.machine.as_ref().expect("it has settled a stage").todo().settled_at(at)
+    }
+
+    /// The moment to which time is to pass next.
+    #[inline]
+    pub(crate) fn next_moment(&self) -> Option<u64> {
+        self.machine.as_ref()?.todo().next_moment()
+    }
+
+    /// Whether more stages are ready than jobs are on their way.
+    #[inline]
+    pub(crate) fn wants_job(&self) -> bool {
+        self.machine.as_ref().map_or(false, |machine| machine.todo().wanted(LANE) > 0)
+    }
+
+    /// A job is on its way.
+    pub(crate) fn start_job(&mut self) {
+        self.machine.as_mut().expect("it wants a job").start_jobs(LANE, 1);
+    }
+
+    /// A job has come, or never will.
+    #[inline]
+    pub(crate) fn begin_job(&mut self) {
+        self.machine.as_mut().expect("it rests only where no job is on its way").begin_job(LANE);
     }
 
     /// The lowest stage from a number on that is ready.
@@ -249,7 +280,7 @@ impl Ledger {
         self.settled += 1;
     }
 
-    /// Keeps the words alone of a large request whose stages are all settled.
+    /// Keeps the words alone of a large request whose stages are all settled, once no job is on its way.
     #[inline]
     pub(crate) fn rest_if_over(&mut self) {
         if self.settled == self.stages && self.stages >= self.rests_from {
@@ -265,11 +296,11 @@ impl Ledger {
             return Err(Refusal::Full);
         }
         let word = word::encode_attach(who, form, of, if has_function { number } else { 0 });
-        let (machine, told) = self.machine().map_err(|_| Refusal::NoLedger)?;
-        let mut applied = machine.apply(word, LANE, told);
+        let machine = self.machine().map_err(|_| Refusal::NoLedger)?;
+        let mut applied = machine.apply(word, LANE);
         if applied == Err(Refused::NO_ROOM) {
             machine.grow().map_err(|_| Refusal::NoLedger)?;
-            applied = machine.apply(word, LANE, told);
+            applied = machine.apply(word, LANE);
         }
         if applied == Err(Refused::NO_MEMORY) {
             return Err(Refusal::NoLedger);
@@ -285,9 +316,9 @@ impl Ledger {
         if of.len() > usize::from(self.room_left()) + 1 || self.room_left() == 0 {
             return Err(Refusal::Full);
         }
-        let (machine, told) = self.machine().map_err(|_| Refusal::NoLedger)?;
+        let machine = self.machine().map_err(|_| Refusal::NoLedger)?;
         let root = loop {
-            match machine.gather(who, form, of, told) {
+            match machine.gather(who, form, of) {
                 Err(Refused::NO_ROOM) => machine.grow().map_err(|_| Refusal::NoLedger)?,
                 Err(Refused::NO_MEMORY) => return Err(Refusal::NoLedger),
                 gathered => break gathered.expect("a form, and sources that are there"),
@@ -304,15 +335,16 @@ impl Ledger {
     }
 
     /// What each stage hangs on.
-    pub(crate) fn dependencies(&mut self) -> Hangs {
-        let mut hangs = Vec::with_capacity(usize::from(self.stages));
+    pub(crate) fn dependencies(&mut self) -> Vec<Dependencies> {
+        let mut hangs: Vec<Dependencies> = Vec::with_capacity(usize::from(self.stages));
         for word in self.words() {
             let parts = word::decode(word);
             if parts.kind == word::ATTACH {
                 let (form, of, _) = parts.attach_parts();
-                hangs.push((form == WordForm::Source as usize, [of.first().copied(), of.get(1).copied(), None]));
+                let sources = [of.first().copied(), of.get(1).copied()];
+                hangs.push(Dependencies { is_source: form == WordForm::Source as usize, sources, target: None });
             } else if parts.kind == word::FINISH && parts.tag == word::LINKS {
-                hangs[usize::from(parts.stage)].1[2] = Some(parts.low as u16);
+                hangs[usize::from(parts.stage)].target = Some(parts.low as u16);
             }
         }
         hangs
@@ -328,8 +360,8 @@ impl Ledger {
 
 impl Drop for Ledger {
     fn drop(&mut self) {
-        let (told, moments) = (take(&mut self.told), self.record.take_room());
-        self.keep_machine(told, moments);
+        let moments = self.record.take_room();
+        self.keep_machine(moments);
     }
 }
 
@@ -359,7 +391,7 @@ fn open_machine(room: u16) -> Result<Spare, Refused> {
         Some(plan) => Request::new(plan, RequestSizes { room, lanes: LANE + 1, own: CLOCK }, &[])?,
         None => return Err(Refused::NO_MEMORY),
     };
-    Ok(Spare { machine, room, told: SettledStages::default(), moments: Vec::new() })
+    Ok(Spare { machine, room, moments: Vec::new() })
 }
 
 #[cfg(test)]
@@ -422,10 +454,11 @@ mod tests {
     /// Shows what the last call settled.
     fn show(ledger: &mut Ledger, outcomes: &mut Vec<Option<Outcome>>) {
         outcomes.resize(usize::from(ledger.stages), None);
-        for (stage, outcome) in ledger.told.iter() {
-            outcomes[usize::from(stage)] = Some(outcome);
+        for at in 0..ledger.settled_count() {
+            let told = ledger.settled_at(at);
+            outcomes[usize::from(told.stage)] = Some(told.outcome);
+            ledger.note_shown();
         }
-        (0..ledger.told.len()).for_each(|_| ledger.note_shown());
         ledger.rest_if_over();
     }
 
@@ -452,8 +485,8 @@ mod tests {
         // It is asked, and goes on resting.
         ledger.pass_time_to(5).unwrap();
         assert_eq!(
-            (ledger.told.len(), ledger.ready_count(), ledger.lowest_ready(0), ledger.is_ready(late), ledger.next_deadline()),
-            (0, 0, None, false, None)
+            (ledger.settled_count(), ledger.wants_job(), ledger.lowest_ready(0), ledger.is_ready(late), ledger.next_moment()),
+            (0, false, None, false, None)
         );
         let events = 2 * usize::from(SLOTS + 1);
         assert_eq!((ledger.words().len(), ledger.dependencies().len()), (events, usize::from(SLOTS + 1)));
@@ -487,7 +520,7 @@ mod tests {
         let mut outcomes = vec![None; 2];
         for word in [word::encode(COMPLETE, 0, 0, SOME), word::encode(COMPLETE, 0, 0, SOME | 1), word::encode(CANCEL, 0, 1, 0)] {
             ledger.act(word).unwrap();
-            ledger.told.iter().for_each(|(stage, outcome)| outcomes[usize::from(stage)] = Some(outcome));
+            show(&mut ledger, &mut outcomes);
         }
         let words = ledger.words();
         assert!(words.len() == 5 && is_replayed(&words, &outcomes).unwrap());

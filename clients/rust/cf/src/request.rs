@@ -6,6 +6,7 @@ use crate::describe::Describe;
 use crate::ends::{Ending, Ends};
 use crate::error::{BoxError, Error, Refusal};
 use crate::history::History;
+use crate::meter::Meter;
 use crate::name::Made;
 use crate::spawn::{caller_number, run_in_drop, Spawn};
 use crate::stage::{sealed::Adopted, sealed::Sealed, AnyStage, Stage};
@@ -124,6 +125,24 @@ impl Request {
         let ending = Box::new(Ending { ends: ends.clone(), within: Context::captured() });
         let before = self.0.lock().ending.replace(ending);
         drop(before);
+        self
+    }
+
+    /// The request itself, of which this tells while it is open, and counts what happened once it is over. The meter that was named before forgets
+    /// it.
+    ///
+    /// ```
+    /// let meter = cf::Meter::new();
+    /// let basket = cf::Request::new("basket 3", cf::Inline).metered(&meter);
+    /// let _price = basket.promise::<u32>();
+    /// assert_eq!(meter.open_requests()[0].request.name(), "basket 3");
+    /// ```
+    pub fn metered(self, meter: &Meter) -> Request {
+        let metered = Box::new(meter.note_open(&self.0));
+        let before = self.0.lock().metered.replace(metered);
+        if let Some(before) = before {
+            before.forget();
+        }
         self
     }
 

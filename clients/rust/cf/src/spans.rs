@@ -207,6 +207,12 @@ impl History {
     pub fn spans(&self) -> Vec<Span> {
         Reading::new(self).spans()
     }
+
+    /// Whether a stage has failed that no other one waits for.
+    pub(crate) fn has_failed(&self) -> bool {
+        let reading = Reading::new(self);
+        reading.ends.iter().any(|(stage, ended)| !reading.inner[usize::from(*stage)] && matches!(ended, Outcome::Fault { .. }))
+    }
 }
 
 /// What spans need of a history.
@@ -231,9 +237,9 @@ impl<'a> Reading<'a> {
         let (shapes, calls) = (Vec::new(), BTreeMap::new());
         let mut it = Reading { history, times, shapes, calls, ends: BTreeMap::new(), failed: BTreeMap::new(), inner };
         let mut running = [0_usize; 64];
-        for (place, (word, reply, told)) in history.replay().into_iter().enumerate() {
-            it.read(place, word::decode(word), reply, &mut running);
-            it.ends.extend(told);
+        for (place, done) in history.replay().into_iter().enumerate() {
+            it.read(place, word::decode(done.word), done.reply, &mut running);
+            it.ends.extend(done.settled);
         }
         let waited: Vec<u16> = it.shapes.iter().flat_map(|(_, of)| of.clone()).chain(history.relayed_stages()).collect();
         waited.into_iter().for_each(|stage| it.inner[usize::from(stage)] = true);

@@ -39,7 +39,8 @@
 //!    `Inner::show_settled` takes that: of each stage the slot is written, its function is kept for dropping, and its wakers are taken.
 //!    Polls read slots under the same lock, so whoever is told an outcome can also see the outcomes of all earlier words.
 //! 3. `Inner::cancel_relays` cancels relays that nobody needs any more, each by a word, which may settle more.
-//! 4. `Inner::hire` asks for one job, if the machine has more ready stages than jobs are coming, and fewer jobs run than may.
+//! 4. `Inner::follow_todo` does what the machine says is to be done next: it asks for one job, if more stages are ready than jobs are
+//!    coming, and fewer jobs run than may, and for an alarm, if the next moment comes before that of the awaited one.
 //! 5. Where `Inline` would begin the job at once, it is begun under the same hold (`Core::begin_inline`): the thread claims the
 //!    stage, and runs the job in the place where the executor would.
 //! 6. The lock is given back. `Core::tell_all` tells what came of it, in this order: the clock is asked for an alarm, jobs go to the
@@ -57,8 +58,8 @@
 //! dropped.
 //!
 //! **Futures.** Where a function gives a future (`then_async`, `Request::spawn`), its stage stays claimed, and the future is a
-//! `Task`, which is polled by jobs, each after a wake. The finish comes with its end. A stage that is settled otherwise drops
-//! the future.
+//! `Task`, which is polled by jobs, each after a wake. The finish comes with its end. Of a stage that is settled otherwise the
+//! machine tells that its function still runs, and the future is dropped.
 //!
 //! **Waiting.** `poll` keeps the handle's waker under the lock, or reads the slot. `wait` parks its thread behind such a
 //! waker. Where the thread is a worker, a `Helper` (help.rs) first lets it run what the stage needs; while it parks, its job
@@ -70,12 +71,12 @@
 //! below it. Its finish links to the stage that its function gave, where that is a lower one of the request, and else to the
 //! relay.
 //!
-//! **Deadlines.** The machine keeps them, by moments in nanoseconds since the request began, and settles by the caller `CLOCK`
-//! what is due. A stage's `StageLimit`s say what it gets then: a value, or an error with the while that it had. The request asks its
-//! clock for one `Alarm` at a time, at the first deadline (`AwaitedAlarm`), and for another where an earlier deadline comes.
-//! `Core::ring_alarm` lets time pass up to the alarm's moment, and asks for the next one. An alarm keeps no request alive. It is
-//! wanted until it is rung, another is asked for, or all stages that have deadlines are settled. One that is wanted and dropped
-//! lets these stages fail with `Refusal::NoClock`.
+//! **Deadlines.** The machine keeps them, by moments in nanoseconds since the request began, settles by the caller `CLOCK` what is
+//! due, and tells the next moment. A `StageLimit` says what its stage gets then: a value, or an error with the while that it had. The
+//! request asks its clock for one `Alarm` at a time, at the next moment (`AwaitedAlarm`). `Core::ring_alarm` lets time pass up to the
+//! alarm's moment. Where the first deadline is gone by then, it comes for nothing, and another is asked for. An alarm keeps no
+//! request alive. It is wanted until it is rung, another is asked for, or there is no next moment. One that is wanted and dropped
+//! lets the stages that have deadlines fail with `Refusal::NoClock`.
 //!
 //! **Room.** A request has at most 4,096 stages. The machine has room for some of them at first, and grows where
 //! there is none. Where there is none, the call gives a handle of a stage that has failed with `Refusal::Full`: its `at` is an

@@ -100,9 +100,9 @@ fn a_request_asks_for_one_alarm_at_a_time() {
     assert_eq!((settled(), waits()), (vec![0, 0, 0, 1, 0], vec![(4, true)]));
     ring(0);
     assert_eq!((settled(), waits()), (vec![0, 0, 0, 1, 1], vec![(5, true)]));
-    // The clock's own time hasn't come so far.
+    // The clock's own time hasn't come so far: what would be due before that comes with the last alarm's moment.
     let early = timed.promise::<i32>().or_timeout(seconds(1));
-    assert_eq!(waits(), [(5, false), (1, true)]);
+    assert_eq!(waits(), [(5, false), (4, true)]);
     ring(1);
     assert!(early.wait().unwrap_err().is_timeout());
     assert!(stages[0].cancel() && stages[1].complete(1).is_ok() && stages[2].cancel());

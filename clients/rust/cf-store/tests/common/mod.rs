@@ -266,11 +266,11 @@ pub fn quick() -> Options {
     options
 }
 
-/// Runs a program in Python over `cf.store`, with these arguments. `None` where the client for Python isn't there, or its library.
+/// Runs a program in Python over `cf.store`, with these arguments. `None` where the client for Python isn't there, or its C module.
 pub fn python(program: &str, args: &[&str]) -> Option<Child> {
-    let (client, _library) = (std::env::var_os("CF_PYTHON")?, std::env::var_os("CF_LIBRARY").filter(|it| std::path::Path::new(it).exists())?);
+    let client = std::env::var_os("CF_PYTHON").filter(|it| std::path::Path::new(it).join("cf/_cf.abi3.so").exists())?;
     let mut command = Command::new(std::env::var_os("CF_INTERPRETER").unwrap_or_else(|| "python3".into()));
-    command.args(["-B", "-c", program]).args(args).env("PYTHONPATH", client).env("CF_NO_MODULE", "1").stdout(Stdio::piped());
+    command.args(["-B", "-c", program]).args(args).env("PYTHONPATH", client).stdout(Stdio::piped());
     command.spawn().ok()
 }
 

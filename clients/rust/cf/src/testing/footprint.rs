@@ -133,7 +133,7 @@ mod tests {
 
     #[test]
     fn what_is_touched_alike_may_change_places_unless_it_is_changed() {
-        let (one, two) = (Thing::Stage((0, 1)), Thing::Stage((0, 2)));
+        let (one, two) = (Thing::Stage(Place::new(0, 1)), Thing::Stage(Place::new(0, 2)));
         let ways = [Access::Reads, Access::Changes, Access::Leads];
         for mine in ways {
             for theirs in ways {
@@ -148,10 +148,10 @@ mod tests {
     /// 1 and 2 stand behind 0, and 3 behind 1, which is settled.
     #[test]
     fn what_is_settled_hides_what_stands_behind_it() {
-        let mut behind = Dependents::default();
-        [(1, 0), (2, 0), (3, 1)].iter().for_each(|(stage, of)| behind.add((0, *stage), (0, *of)));
+        let (mut behind, at) = (Dependents::default(), |stage| Place::new(0, stage));
+        [(1, 0), (2, 0), (3, 1)].iter().for_each(|(stage, of)| behind.add(at(*stage), at(*of)));
         let mut reached = Vec::new();
-        behind.reach(&[(0, 0)], |place| place == (0, 1), |place, how| reached.push((place, how)));
-        assert_eq!(reached, [((0, 1), Access::Reads), ((0, 2), Access::Leads)]);
+        behind.reach(&[at(0)], |place| place == at(1), |place, how| reached.push((place, how)));
+        assert_eq!(reached, [(at(1), Access::Reads), (at(2), Access::Leads)]);
     }
 }

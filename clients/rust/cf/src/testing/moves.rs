@@ -3,7 +3,17 @@ use std::fmt;
 use std::str::FromStr;
 
 /// The number of a request in its run, and that of its stage.
-pub(crate) type Place = (u16, u16);
+#[derive(Clone, Copy, Debug, PartialEq, Eq, PartialOrd, Ord, Hash)]
+pub(crate) struct Place {
+    pub(crate) request: u16,
+    pub(crate) stage: u16,
+}
+
+impl Place {
+    pub(crate) fn new(request: u16, stage: u16) -> Place {
+        Place { request, stage }
+    }
+}
 
 /// Somebody whose code goes on over several moves.
 #[derive(Clone, Copy, Debug, PartialEq, Eq, PartialOrd, Ord, Hash)]
@@ -116,17 +126,23 @@ impl Move {
             Move::Go(who) | Move::Choose(who, _) => Actor::Who(who),
             Move::Come(number, _) => Actor::Outside(number),
             Move::By(number, _) => Actor::Who(Who::Caller(number)),
-            Move::Limit((request, _), _) => Actor::Clock(request),
+            Move::Limit(place, _) => Actor::Clock(place.request),
             Move::Stop => Actor::Nobody,
             Move::Stored(stored) => stored.actor(),
         }
     }
 }
 
+impl fmt::Display for Place {
+    fn fmt(&self, f: &mut fmt::Formatter<'_>) -> fmt::Result {
+        write!(f, "{}.{}", self.request, self.stage)
+    }
+}
+
 impl fmt::Display for Who {
     fn fmt(&self, f: &mut fmt::Formatter<'_>) -> fmt::Result {
         match self {
-            Who::Function((request, stage)) => write!(f, "{request}.{stage}"),
+            Who::Function(place) => place.fmt(f),
             Who::Caller(number) => write!(f, "caller.{number}"),
             Who::Test => f.write_str("test"),
             Who::Thread(process, thread) => write!(f, "p{process}.{thread}"),
@@ -153,15 +169,15 @@ impl fmt::Display for StoreMove {
 impl fmt::Display for Move {
     fn fmt(&self, f: &mut fmt::Formatter<'_>) -> fmt::Result {
         match self {
-            Move::Begin((request, stage)) => write!(f, "begin.{request}.{stage}"),
-            Move::Call((request, stage)) => write!(f, "call.{request}.{stage}"),
-            Move::Poll((request, stage)) => write!(f, "poll.{request}.{stage}"),
+            Move::Begin(place) => write!(f, "begin.{place}"),
+            Move::Call(place) => write!(f, "call.{place}"),
+            Move::Poll(place) => write!(f, "poll.{place}"),
             Move::Go(who) => write!(f, "go.{who}"),
             Move::Choose(who, way) => write!(f, "choose.{who}.{way}"),
-            Move::End((request, stage)) => write!(f, "end.{request}.{stage}"),
+            Move::End(place) => write!(f, "end.{place}"),
             Move::Come(number, way) => write!(f, "come.{number}.{way}"),
             Move::By(number, call) => write!(f, "by.{number}.{call}"),
-            Move::Limit((request, stage), number) => write!(f, "limit.{request}.{stage}.{number}"),
+            Move::Limit(place, number) => write!(f, "limit.{place}.{number}"),
             Move::Stop => f.write_str("stop"),
             Move::Stored(stored) => stored.fmt(f),
         }
@@ -172,12 +188,16 @@ fn number<T: FromStr>(part: &str) -> Result<T, ()> {
     part.parse().map_err(|_| ())
 }
 
+fn place(request: &str, stage: &str) -> Result<Place, ()> {
+    Ok(Place::new(number(request)?, number(stage)?))
+}
+
 fn who(parts: &[&str]) -> Result<Who, ()> {
     match parts {
         ["test"] => Ok(Who::Test),
         ["caller", caller] => Ok(Who::Caller(number(caller)?)),
         [its, thread] if its.starts_with('p') => Ok(Who::Thread(process(its)?, number(thread)?)),
-        [request, stage] => Ok(Who::Function((number(request)?, number(stage)?))),
+        [request, stage] => Ok(Who::Function(place(request, stage)?)),
         _ => Err(()),
     }
 }
@@ -207,15 +227,15 @@ impl FromStr for Move {
     fn from_str(text: &str) -> Result<Move, ()> {
         let parts: Vec<&str> = text.split('.').collect();
         Ok(match parts[..] {
-            ["begin", request, stage] => Move::Begin((number(request)?, number(stage)?)),
-            ["call", request, stage] => Move::Call((number(request)?, number(stage)?)),
-            ["poll", request, stage] => Move::Poll((number(request)?, number(stage)?)),
-            ["end", request, stage] => Move::End((number(request)?, number(stage)?)),
+            ["begin", request, stage] => Move::Begin(place(request, stage)?),
+            ["call", request, stage] => Move::Call(place(request, stage)?),
+            ["poll", request, stage] => Move::Poll(place(request, stage)?),
+            ["end", request, stage] => Move::End(place(request, stage)?),
             ["go", ..] => Move::Go(who(&parts[1..])?),
             ["choose", .., way] => Move::Choose(who(&parts[1..parts.len() - 1])?, number(way)?),
             ["come", arrival, way] => Move::Come(number(arrival)?, number(way)?),
             ["by", caller, call] => Move::By(number(caller)?, number(call)?),
-            ["limit", request, stage, limit] => Move::Limit((number(request)?, number(stage)?), number(limit)?),
+            ["limit", request, stage, limit] => Move::Limit(place(request, stage)?, number(limit)?),
             ["stop"] => Move::Stop,
             _ => Move::Stored(stored(&parts)?),
         })

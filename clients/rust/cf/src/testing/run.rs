@@ -68,11 +68,11 @@ impl Run {
         state.flights.iter().for_each(|(who, flight)| push_next_moves(*who, flight, &mut keys));
         if free_workers(state) > 0 {
             for (number, request) in (0..).zip(&state.requests) {
-                keys.extend(request.ready.iter().map(|stage| Move::Begin((number, *stage))));
+                keys.extend(request.ready.iter().map(|stage| Move::Begin(Place::new(number, *stage))));
             }
         }
         for (number, arrival) in (0..).zip(&state.outside) {
-            if !arrival.is_never && !arrival.core.lock().slot(arrival.place.1).is_settled() {
+            if !arrival.is_never && !arrival.core.lock().slot(arrival.place.stage).is_settled() {
                 keys.extend((0..arrival.ways.len() as u16).map(|way| Move::Come(number, way)));
             }
         }
@@ -128,7 +128,7 @@ impl Run {
             Move::Stop => {
                 let mut state = self.lock();
                 state.is_stopped = true;
-                let requests: BTreeSet<u16> = state.timers.iter().map(|timer| timer.place.0).collect();
+                let requests: BTreeSet<u16> = state.timers.iter().map(|timer| timer.place.request).collect();
                 requests.into_iter().for_each(|request| state.touch(Thing::Clock(request), Access::Changes));
             }
         }
@@ -152,11 +152,11 @@ impl Run {
         let who = FIRST_WORKER + (state.flights.len() % NUMBERS) as u8;
         let shares = state.shares(place);
         drop(state);
-        let core = self.core(place.0);
+        let core = self.core(place.request);
         let (name, call) = self.run_layer(|| {
             core.change(|inner, after| {
-                let (stage, call, args) = inner.claim(who, place.1, after);
-                (inner.name(stage), (call, inner.call_args(args)))
+                let claimed = inner.claim(who, place.stage, after);
+                (inner.name(place.stage), (claimed.call, inner.call_args(claimed.args)))
             })
         })?;
         let claim = Claim { who, call: Some(call), gave: None, woken: None };
@@ -181,7 +181,7 @@ impl Run {
         let claim = state.flight(who).and_then(|flight| flight.claim.as_mut()).expect("it is claimed");
         let ((call, given), number) = (claim.call.take().expect("it is called once"), claim.who);
         drop(state);
-        let (run, core) = (Arc::clone(self), self.core(place.0));
+        let (run, core) = (Arc::clone(self), self.core(place.request));
         let act = move || as_caller(number, || run.call_function(&core, place, number, || call(&given)));
         self.carry(who, Box::new(act), carriers)
     }
@@ -189,7 +189,7 @@ impl Run {
     /// Calls a function of a stage, and keeps what it gives.
     fn call_function(&self, core: &Arc<Core>, place: Place, number: u8, call: impl FnOnce() -> Returned) {
         match catch_unwind(AssertUnwindSafe(call)) {
-            Ok(Returned::Later(future)) => Polling::poll_first(core, number, place.1, future),
+            Ok(Returned::Later(future)) => Polling::poll_first(core, number, place.stage, future),
             Ok(gave) => self.take_returned(place, gave),
             Err(payload) => self.take_returned(place, Returned::Error(Error::Panicked(Panic::new(payload)))),
         }
@@ -246,8 +246,8 @@ impl Run {
             return Err(Stopped);
         }
         drop(state);
-        let core = self.core(place.0);
-        self.run_layer(|| core.finish(claim.who, place.1, gave))
+        let core = self.core(place.request);
+        self.run_layer(|| core.finish(claim.who, place.stage, gave))
     }
 
     fn settle_from_outside(self: &Arc<Run>, number: u16, way: u16) -> Result<(), Stopped> {
@@ -261,7 +261,7 @@ impl Run {
             Way::Error(error) => Err(error),
             Way::Never => return Ok(()),
         };
-        self.run_layer(|| drop(core.settle(CALLER, place.1, with)))
+        self.run_layer(|| drop(core.settle(CALLER, place.stage, with)))
     }
 
     fn make_call(self: &Arc<Run>, number: u16, carriers: &mut Carriers) -> Result<(), Stopped> {
@@ -281,13 +281,13 @@ impl Run {
     fn pass_limit(self: &Arc<Run>, place: Place, number: u32) -> Result<(), Stopped> {
         let mut guard = self.lock();
         let state = &mut *guard;
-        let at = state.timers.iter().position(|timer| timer.place.0 == place.0 && timer.number == number).expect("it is due");
+        let at = state.timers.iter().position(|timer| timer.place.request == place.request && timer.number == number).expect("it is due");
         let timer = state.timers.remove(at);
         state.passed.push(place);
-        state.touch(Thing::Clock(place.0), Access::Changes);
+        state.touch(Thing::Clock(place.request), Access::Changes);
         let others: Vec<Place> = state.passed.iter().chain(state.timers.iter().map(|timer| &timer.place)).copied().collect();
-        others.into_iter().filter(|other| other.0 == place.0).for_each(|other| state.touch(Thing::Stage(other), Access::Reads));
-        let request = state.request(place.0);
+        others.into_iter().filter(|other| other.request == place.request).for_each(|other| state.touch(Thing::Stage(other), Access::Reads));
+        let request = state.request(place.request);
         request.now = request.now.max(timer.due);
         match timer.rings {
             Rings::Limit => {
@@ -528,7 +528,7 @@ impl Run {
         let settled = std::mem::take(&mut state.settled);
         let came = if let Move::Come(number, _) = key { Some(state.outside[usize::from(number)].place) } else { None };
         let others = settled.into_iter().filter(|place| Some(*place) != came);
-        let told: Vec<String> = others.filter_map(|(number, stage)| end_text(&state.request(number).core, stage)).collect();
+        let told: Vec<String> = others.filter_map(|place| end_text(&state.request(place.request).core, place.stage)).collect();
         let sharing = state.sharing.clone();
         drop(state);
         told.into_iter().chain(sharing.map_or(Vec::new(), |sharing| sharing.take_told())).collect()
@@ -548,7 +548,7 @@ impl Run {
         }
         let flight = |state: &mut State, who: Who| state.flight(who).map_or(String::new(), |flight| flight.name.clone());
         match key {
-            Move::Begin((request, stage)) => format!("{} is claimed", stage_name(&state.request(request).core, stage)),
+            Move::Begin(place) => format!("{} is claimed", stage_name(&state.request(place.request).core, place.stage)),
             Move::Call(place) => format!("{} is called", flight(&mut state, Who::Function(place))),
             Move::Poll(place) => format!("the future of {} is polled", flight(&mut state, Who::Function(place))),
             Move::Go(who) => format!("{} goes on", flight(&mut state, who)),
@@ -571,7 +571,7 @@ impl Run {
             }
             Move::Come(number, way) => {
                 let arrival = &state.outside[usize::from(number)];
-                let (name, describe) = (stage_name(&arrival.core, arrival.place.1), arrival.core.lock().describe.clone());
+                let (name, describe) = (stage_name(&arrival.core, arrival.place.stage), arrival.core.lock().describe.clone());
                 match &arrival.ways[usize::from(way)] {
                     Way::Value(value) => format!("{name} comes: {}", describe.tell(Ok(value))),
                     Way::Error(error) => format!("{name} fails: {}", describe.tell(Err(error))),
@@ -587,14 +587,14 @@ impl Run {
                 }
             }
             Move::Limit(place, number) => {
-                let timer = state.timers.iter().find(|timer| timer.place.0 == place.0 && timer.number == number);
+                let timer = state.timers.iter().find(|timer| timer.place.request == place.request && timer.number == number);
                 match timer.map(|timer| &timer.rings) {
                     Some(Rings::Wait(who, _, wait)) => {
                         let waits = state.flights.iter().find(|it| it.0 == *who).map(|it| &it.1);
                         let of = waits.and_then(|flight| flight.wait.as_ref()).map_or("", |wait| &wait.name);
                         format!("{} has waited {wait:?} for {of}", waits.map_or("", |flight| &flight.name))
                     }
-                    _ => format!("the limit of {} passes", stage_name(&state.request(place.0).core, place.1)),
+                    _ => format!("the limit of {} passes", stage_name(&state.request(place.request).core, place.stage)),
                 }
             }
             Move::Stop => "no limit passes any more".into(),
@@ -668,7 +668,7 @@ fn next_limits(state: &mut State) -> Vec<Move> {
     if state.is_stopped {
         return Vec::new();
     }
-    let mut due: Vec<(u16, u64, u32, Place)> = state.timers.iter().map(|timer| (timer.place.0, timer.due, timer.number, timer.place)).collect();
+    let mut due: Vec<(u16, u64, u32, Place)> = state.timers.iter().map(|timer| (timer.place.request, timer.due, timer.number, timer.place)).collect();
     due.sort_unstable();
     due.dedup_by_key(|it| it.0);
     due.into_iter().map(|(_, _, number, place)| Move::Limit(place, number)).collect()

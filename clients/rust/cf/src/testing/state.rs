@@ -8,7 +8,7 @@ use super::moves::{Place, Who};
 use super::stored::Sharing;
 use crate::core::Core;
 use crate::error::Error;
-use crate::ledger::replay;
+use crate::ledger::{replay, Replayed};
 use crate::task::Polling;
 use crate::value::{CallArgs, Returned, StageFn, Val};
 use crate::word::{self, ATTACH, CLAIM, FINISH, LINKS};
@@ -122,7 +122,7 @@ pub(crate) enum Until {
 impl Wait {
     pub(crate) fn is_over(&self) -> bool {
         match &self.until {
-            Until::Settled(core, (_, stage)) => core.lock().slot(*stage).is_settled(),
+            Until::Settled(core, place) => core.lock().slot(place.stage).is_settled(),
             Until::Now => true,
             Until::So(is_so) => is_so(),
             Until::Chosen(_) | Until::Asks(..) => false,
@@ -257,8 +257,8 @@ impl State {
     }
 
     pub(crate) fn add_timer(&mut self, place: Place, wait: Duration, rings: Rings) {
-        self.touch(Thing::Clock(place.0), Access::Changes);
-        let request = self.request(place.0);
+        self.touch(Thing::Clock(place.request), Access::Changes);
+        let request = self.request(place.request);
         request.timers_made += 1;
         let (due, number) = (request.now.saturating_add(u64::try_from(wait.as_nanos()).unwrap_or(u64::MAX)), request.timers_made);
         self.timers.push(WorldTimer { due, number, place, rings });
@@ -267,7 +267,7 @@ impl State {
     /// Whether nobody wants a timer any more.
     pub(crate) fn is_lost(&self, timer: &WorldTimer) -> bool {
         match &timer.rings {
-            Rings::Limit => self.requests[usize::from(timer.place.0)].core.lock().slot(timer.place.1).is_settled(),
+            Rings::Limit => self.requests[usize::from(timer.place.request)].core.lock().slot(timer.place.stage).is_settled(),
             Rings::Wait(who, waits, _) => {
                 let flight = self.flights.iter().find(|it| it.0 == *who).map(|it| &it.1);
                 flight.map_or(true, |flight| flight.waits != *waits || flight.wait.as_ref().map_or(true, Wait::is_over))
@@ -299,33 +299,35 @@ impl State {
         let ready: Vec<u16> = std::iter::successors(inner.ledger.lowest_ready(0), |stage| inner.ledger.lowest_ready(stage + 1)).collect();
         drop(inner);
         self.request(number).seen = (words.len(), relays + followed.len());
-        followed.iter().for_each(|(relay, stage)| self.note_link((number, *relay), (number, *stage)));
+        followed.iter().for_each(|it| self.note_link(Place::new(number, it.relay), Place::new(number, it.stage)));
         let mut news = Vec::new();
         let replies = if words.len() > events { replay(&words, stages).expect("memory for a ledger") } else { Vec::new() };
-        for (word, reply, told) in replies.into_iter().skip(events) {
+        for Replayed { word, reply, settled, .. } in replies.into_iter().skip(events) {
             self.note_consequences(&std::mem::take(&mut news));
             self.note_event(number, word, reply, &mut news);
-            for (stage, _) in told {
-                self.are_settled.insert((number, stage));
-                self.settled.push((number, stage));
-                news.push((number, stage));
+            for (stage, _) in settled {
+                let place = Place::new(number, stage);
+                self.are_settled.insert(place);
+                self.settled.push(place);
+                news.push(place);
             }
         }
         let before = std::mem::replace(&mut self.request(number).ready, ready.clone());
-        news.extend(ready.into_iter().filter(|stage| !before.contains(stage)).map(|stage| (number, stage)));
+        news.extend(ready.into_iter().filter(|stage| !before.contains(stage)).map(|stage| Place::new(number, stage)));
         self.note_consequences(&news);
     }
 
     /// What an event touches.
     fn note_event(&mut self, number: u16, word: u64, reply: Reply, news: &mut Vec<Place>) {
         let parts = word::decode(word);
-        let place = (number, parts.stage);
+        let place = Place::new(number, parts.stage);
         match (parts.kind, reply) {
             (ATTACH, Reply::Attached(Some(stage))) => {
-                let stage = (number, stage);
+                let stage = Place::new(number, stage);
                 for of in parts.attach_parts().1 {
-                    self.behind.add(stage, (number, of));
-                    self.touch(Thing::Stage((number, of)), Access::Reads);
+                    let of = Place::new(number, of);
+                    self.behind.add(stage, of);
+                    self.touch(Thing::Stage(of), Access::Reads);
                 }
                 self.touch(Thing::Attach(number), Access::Changes);
                 self.touch(Thing::Stage(stage), Access::Changes);
@@ -334,7 +336,7 @@ impl State {
             (FINISH, _) => {
                 self.touch(Thing::Stage(place), Access::Changes);
                 if parts.tag == LINKS && reply == Reply::Finished(Finished::Won) {
-                    let target = (number, parts.low as u16);
+                    let target = Place::new(number, parts.low as u16);
                     self.behind.add(place, target);
                     self.touch(Thing::Stage(target), Access::Reads);
                     news.push(place);

@@ -2,7 +2,7 @@
 //! world.
 use super::carrier::{leave_code, Carrier};
 use super::footprint::{Access, Thing};
-use super::moves::Who;
+use super::moves::{Place, Who};
 use super::run::Run;
 use super::state::{Rings, Until, Wait};
 use crate::clock::{Alarm, Clock};
@@ -104,14 +104,14 @@ impl Watch {
         let is_settled = core.lock().slot(stage).is_settled();
         let mut state = self.run.lock();
         if !is_settled && !state.is_closed {
-            state.add_timer((self.number, stage), wait, Rings::Limit);
+            state.add_timer(Place::new(self.number, stage), wait, Rings::Limit);
         }
     }
 
     /// Somebody reads a stage.
     pub(crate) fn note_read(&self, stage: u16) {
         if self.here().is_some() {
-            self.run.lock().touch(Thing::Stage((self.number, stage)), Access::Reads);
+            self.run.lock().touch(Thing::Stage(Place::new(self.number, stage)), Access::Reads);
         }
     }
 
@@ -120,14 +120,14 @@ impl Watch {
         if self.here().is_some() {
             let mut state = self.run.lock();
             state.touch(Thing::Attach(self.number), Access::Reads);
-            (0..stages as u16).for_each(|stage| state.touch(Thing::Stage((self.number, stage)), Access::Reads));
+            (0..stages as u16).for_each(|stage| state.touch(Thing::Stage(Place::new(self.number, stage)), Access::Reads));
         }
     }
 
     /// A relay of another request is to end as a stage does.
     pub(crate) fn note_link(&self, stage: u16, to: &Core, relay: u16) {
         if let Some(number) = to.watch.as_ref().and_then(|watch| watch.number_in(&self.run)) {
-            self.run.lock().note_link((number, relay), (self.number, stage));
+            self.run.lock().note_link(Place::new(number, relay), Place::new(self.number, stage));
         }
     }
 
@@ -141,14 +141,14 @@ impl Watch {
         }
         if wait != Some(Duration::ZERO) {
             let name = core.lock().name(stage);
-            self.run.wait(Wait { name, until: Until::Settled(Arc::clone(core), (self.number, stage)) }, wait);
+            self.run.wait(Wait { name, until: Until::Settled(Arc::clone(core), Place::new(self.number, stage)) }, wait);
         }
         true
     }
 
     /// What a future gave in the end.
     pub(crate) fn take_returned(&self, stage: u16, gave: Returned) {
-        self.run.take_returned((self.number, stage), gave);
+        self.run.take_returned(Place::new(self.number, stage), gave);
     }
 }
 
@@ -174,7 +174,7 @@ impl Spawn for Executor {
         let turn = job.into_kind();
         let mut state = self.0.lock();
         if let (Some(JobKind::Poll(polling)), false) = (&turn, state.is_closed) {
-            let who = Who::Function((number, polling.core_and_stage().1));
+            let who = Who::Function(Place::new(number, polling.core_and_stage().1));
             state.touch(Thing::Flight(who), Access::Changes);
             if let Some(claim) = state.flight(who).and_then(|flight| flight.claim.as_mut()) {
                 claim.woken = Some(Arc::clone(polling));

@@ -1,4 +1,5 @@
 //! What a test is given: an executor and a clock that are the search's, and a world outside that it describes.
+use super::moves::Place;
 use super::run::Run;
 use super::state::{Arrival, Check, NotSettled, OtherCaller, Until, Wait, Way};
 use super::watch::{Executor, WorldClock};
@@ -101,8 +102,8 @@ impl World {
         promise
     }
 
-    fn place<T>(&self, stage: &Stage<T>) -> Option<(u16, u16)> {
-        Some((stage.core.watch.as_ref()?.number_in(&self.0)?, stage.at.ok()?))
+    fn place<T>(&self, stage: &Stage<T>) -> Option<Place> {
+        Some(Place::new(stage.core.watch.as_ref()?.number_in(&self.0)?, stage.at.ok()?))
     }
 
     /// A call that another caller makes at any moment. What it panics with fails the order.
