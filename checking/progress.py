@@ -51,10 +51,7 @@ def may_keep_proofs() -> bool:
 
 
 def keeps_proofs() -> bool:
-    """Whether rt kept a proof of an earlier run on this machine. If it kept none, everything is to be proved, and there is work for each
-    processor to the end; then rt is told to do one check more at a time than there are processors. By itself it leaves one idle if it
-    thinks that memory won't suffice, since it counts some 6 GB for a check that takes 2. If little is left to prove, rt isn't told: it gives idle
-    processors to a proof that is running."""
+    """Whether rt kept a proof of an earlier run on this machine."""
     return any(rt_path().parents[2].glob("rattle-kept/proof-*"))
 
 
@@ -169,14 +166,16 @@ def prove_first() -> None:
 
 def run_gate(tell: Callable[[str], object]) -> int:
     """Runs rt ci over the checkout, prints what it prints, and answers its status; rt ci ends when this does. `tell` is called with the name
-    of each crate once it is proved, and built if it is a program. If rt kept no proof, it is told how many checks to do at a time. That is
-    slower for the first crates, so an rt ci that isn't told proves those first, if this rt keeps them."""
+    of each crate once it is proved, and built if it is a program. Where memory is ample, rt is told to do one check more at a time than there
+    are processors, so that none rests while a long proof ends. By itself it counts two or three times the memory that a check takes, and a
+    large crate, on which others wait, comes last. But it gives idle processors to a proof that is running, which it doesn't if it is told. So
+    if nothing is kept, an rt ci that isn't told proves the first crates, if this rt keeps them."""
     environment = dict(os.environ)
     jobs = at_once(AMPLE)
-    if jobs == len(os.sched_getaffinity(0)) and not keeps_proofs():
-        if may_keep_proofs():
+    if jobs == len(os.sched_getaffinity(0)):
+        if may_keep_proofs() and not keeps_proofs():
             prove_first()
-        environment.setdefault("RT_JOBS", str(jobs + 1))  # one more, so that no processor rests while a long proof ends
+        environment.setdefault("RT_JOBS", str(jobs + 1))
     gate, began = Gate(), time.monotonic()
     told = began
     with subprocess.Popen(["rt", "ci"], cwd=str(TOP), env=environment, stdout=subprocess.PIPE) as running:

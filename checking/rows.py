@@ -4,7 +4,8 @@ from pathlib import Path
 from typing import List, NamedTuple, Optional, Sequence, Tuple
 
 from checking.crates import TOP, edits_of_gate, own
-from checking.tools import DEBIANS, JUNIT, POSTGRES, POSTGRES_JDBC, SQLITE_JDBC, Tools
+from checking.tools import ASGI, BUILDS_WHEELS, DEBIANS, DJANGO, JUNIT, MAVEN, MODULE, NAMESPACES, PACKS, POSTGRES, POSTGRES_JDBC, PROMETHEUS
+from checking.tools import PYTEST, SLF4J, SQLITE_JDBC, Tools
 
 HEADER = "crates/cf_c/include"
 WARNED = ["-Wall", "-Wextra", "-pedantic", "-Werror"]
@@ -35,14 +36,14 @@ def wanted(folder: str, name: str) -> Optional[str]:
 def rows_of_c(tools: Tools, made: Path) -> List[Row]:
     rows = []
     for name in sorted(path.name for path in (TOP / "clients/c").glob("*.c")):
-        plain, checked = str(made / name[:-2]), str(made / (name[:-2] + ".asan"))
+        plain, checked, watched = (str(made / (name[:-2] + end)) for end in ("", ".asan", ".valgrind"))
         rest = ["-std=c11", "-O1", SEEN, "-pthread", *WARNED, "-I" + HEADER, "clients/c/" + name, str(made / "libcf.a"), "-o"]
-        build, prints = [tools["clang"], *rest, plain], ("clients/c", name)
-        under = [tools["valgrind"], *UNDER]
-        rows.append(Row(name, ["library", "clang"], [build, [plain]], prints))
+        prints = ("clients/c", name)
+        rows.append(Row(name, ["library", "clang"], [[tools["clang"], *rest, plain], [plain]], prints))
         sanitized = [tools["address sanitizer"], "-fsanitize=address,undefined", "-fno-sanitize-recover=undefined", *rest, checked]
         rows.append(Row(name + " with the sanitizers", ["library", "address sanitizer"], [sanitized, [checked]], prints))
-        rows.append(Row(name + " under valgrind", ["library", "clang", "valgrind"], [build, [*under, plain]], prints))
+        under = [[tools["clang"], *rest, watched], [tools["valgrind"], *UNDER, watched]]
+        rows.append(Row(name + " under valgrind", ["library", "clang", "valgrind"], under, prints))
     return rows
 
 
@@ -57,21 +58,23 @@ OVER_STORES = ["test_stores", "test_transactions", "test_durable_stages", "test_
 
 
 def rows_of_python(tools: Tools, made: Path) -> List[Row]:
-    """The wheel is built and installed once, with the C module. What runs over the module runs there, and the same by ctypes in the tree."""
-    python, builds, tested = tools["python3"], "setuptools and wheel for Python", "Python's own tests"
-    installed, by_module = made / "python", ["env", "CF_INSTALLED=1", str(made / "python/venv/bin/python")]
-    programs = [tools["cf"], tools["cf_look"]]
+    """They run in the tree, where `check` builds the C module, and one of them as the wheel installs it."""
+    python, tested = tools["python3"], "Python's own tests"
 
     def example(name: str, file: str, page: str = "clients/python") -> Row:
         """A program of the client's pages, run in the tree."""
-        return Row(name, ["library", "python3"], [["env", "PYTHONPATH=clients/python", python, f"clients/python/examples/{file}"]], (page, file))
+        return Row(name, [MODULE, "python3"], [["env", "PYTHONPATH=clients/python", python, f"clients/python/examples/{file}"]], (page, file))
+
+    def over(name: str, needed: str, test: str) -> Row:
+        """A test of what stands over others' packages, run by the interpreter that has them."""
+        return Row(name, [MODULE, "python3", needed], [[python if needed == "systemd-analyze" else tools[needed], f"clients/python/tests/{test}"]])
 
     durable = f"{python} {TOP}/clients/python/examples/durable.py"  # (which leaves a file where it runs)
     killed = f"cd {made} && rm -f orders.db* && ({durable} killed; {durable})"
     return [
         Row(
             "Python's order whose process is killed",
-            ["library", "python3"],
+            [MODULE, "python3"],
             [["env", f"PYTHONPATH={TOP}/clients/python", "sh", "-c", killed]],
             ("clients/python", "durable.py"),
         ),
@@ -86,59 +89,57 @@ def rows_of_python(tools: Tools, made: Path) -> List[Row]:
         example("Python's orders that charge once", "once.py", "clients/python/examples"),
         example("Python's order over a store that charges twice", "killed.py", "docs/TESTING.md"),
         example("Python's orders over a store that charge once", "keyed.py", "clients/python/examples"),
+        over("Python's application of ASGI", ASGI, "frameworks/test_asgi.py"),
+        over("Python's view of Django", DJANGO, "frameworks/test_django.py"),
+        over("Python's metrics as Prometheus reads them", PROMETHEUS, "frameworks/test_prometheus.py"),
+        over("the units of systemd for worker and page", "systemd-analyze", "frameworks/test_systemd.py"),
         Row(
-            "services of Python's in every order",
-            ["library", "python3"],
-            [["env", "CF_NO_MODULE=1", python, "-m", "unittest", "discover", "-s", "clients/python/tests/testing"]],
+            "Python's test of pytest in every order",
+            [MODULE, PYTEST],
+            [["env", "PYTHONPATH=clients/python", tools[PYTEST], "-m", "pytest", "-qp", "no:cacheprovider", "clients/python/examples/test_order.py"]],
+        ),
+        Row(
+            "services of Python's in every order", [MODULE, "python3"], [[python, "-m", "unittest", "discover", "-s", "clients/python/tests/testing"]]
         ),
         Row(
             "random orders of Python's service beside explore",
-            ["library", "python3", "cf_look"],
-            [["env", "CF_NO_MODULE=1", python, "conformance/clients/python-orders", "short", "0", "100", tools["cf_look"]]],
+            [MODULE, "python3", "cf_look"],
+            [[python, "conformance/clients/python-orders", "short", "0", "100", tools["cf_look"]]],
         ),
         Row(
-            "Python's service by ctypes",
-            ["library", "python3"],
-            [["env", "CF_NO_MODULE=1", "CF_REQUESTS=2000", python, "-m", "unittest", "discover", "-s", "clients/python/tests/service"]],
+            "Python's service",
+            [MODULE, "python3"],
+            [["env", "CF_REQUESTS=2000", python, "-m", "unittest", "discover", "-s", "clients/python/tests/service"]],
+        ),
+        Row("what waits in Python's service, in every order", [MODULE, "python3"], [[python, "clients/python/tests/waits/test_waits.py"]]),
+        Row(
+            "Python's service as its wheel installs it",
+            ["library", BUILDS_WHEELS],
+            [[tools[BUILDS_WHEELS], "clients/python/tests/installed.py", str(made / "python")]],
         ),
         Row(
-            "what waits in Python's service, in every order",
-            ["library", "python3"],
-            [["env", "CF_NO_MODULE=1", python, "clients/python/tests/waits/test_waits.py"]],
+            "random requests of Python's service",
+            [MODULE, "python3", "cf", "cf_look"],
+            [[python, "conformance/clients/python-service", "0", "1000", tools["cf"], tools["cf_look"]]],
         ),
-        Row(
-            "Python's service over the C module, installed",
-            ["library", builds],
-            [[tools[builds], "clients/python/tests/installed.py", str(installed)]],
-        ),
-        Row(
-            "random requests of Python's service by ctypes",
-            ["library", "python3", "cf", "cf_look"],
-            [["env", "CF_NO_MODULE=1", python, "conformance/clients/python-service", "0", "100", *programs]],
-        ),
-        Row(
-            "random requests of Python's service over the C module",
-            ["library", builds, "cf", "cf_look"],
-            [[*by_module, "conformance/clients/python-service", "0", "1000", *programs]],
-        ),
-        Row("Python's requests in SQLite", ["library", "python3"], [[python, "-m", "unittest", "discover", "-s", "clients/python/tests/store"]]),
+        Row("Python's requests in SQLite", [MODULE, "python3"], [[python, "-m", "unittest", "discover", "-s", "clients/python/tests/store"]]),
         Row(
             "Python's requests in PostgreSQL",
-            ["library", "python3", POSTGRES],
+            [MODULE, "python3", POSTGRES],
             [["env", "PYTHONPATH=clients/python/tests/store", tools[POSTGRES], "conformance/stores/over", "python3", "-m", "unittest", *OVER_STORES]],
         ),
         Row(
             "requests in SQLite whose processes are killed",
-            ["library", "python3", "cf_look"],
+            [MODULE, "python3", "cf_look"],
             [[python, "conformance/stores/engines", "short", str(made / "engines"), tools["cf_look"]]],
         ),
         Row(
             "some of CPython's tests over Python's service",
-            ["library", tested],
+            [MODULE, tested],
             [[tools[tested], "conformance/clients/python-suites", "FutureTests", "ThreadPoolExecutorTest", "ToThreadTests"]],
         ),
-        Row("Python's ledgers, steps and workers", ["library", "python3"], [[python, "-m", "unittest", "discover", "-s", "clients/python/tests"]]),
-        Row("the reference of Python's package", ["library", "python3"], [[python, "clients/python/reference", str(made / "reference")]]),
+        Row("Python's ledgers, steps and workers", [MODULE, "python3"], [[python, "-m", "unittest", "discover", "-s", "clients/python/tests"]]),
+        Row("the reference of Python's package", [MODULE, "python3"], [[python, "clients/python/reference", str(made / "reference")]]),
         Row(
             "the types of Python's module",
             ["mypy", "python3"],
@@ -180,7 +181,7 @@ def rows_of_rust(tools: Tools, made: Path) -> List[Row]:
     features += [f"cf-store/{it}" for it in ["etcd", "postgres", "sqlite", "testing"]]  # (all but `dynamic` of cf-sys)
     over_debian, with_all = [python, offline, "--debian"], ["-q", "--workspace", "--features", ",".join(features)]
     stored, order, orders = [*needs, DEBIANS], made / "cargo/debian/debug/examples/order", made / "rust-orders.db"
-    built = [*over_debian, "build", *with_all, *(word for name in ["handler", "killed", "keyed"] for word in ("--example", name))]
+    built = [*over_debian, "build", *with_all, *(word for name in ["handler", "killed", "keyed", "served"] for word in ("--example", name))]
     every = ["--workspace", "--all-features"]
     lints = [*every, "--all-targets", "--", "-D", "warnings"]
     over_stores = ["again", "ends", "flows", "postgres", "questions", "sqlite", "transactions", "whole"]
@@ -200,12 +201,12 @@ def rows_of_rust(tools: Tools, made: Path) -> List[Row]:
         Row("Rust's tests", needs, [[python, offline, "test", "-q", "--lib", "--tests", "--examples"]]),
         Row(
             "Rust's tests with all features, over SQLite, over etcd and in every order",
-            [*stored, "cf_look"],
+            [*stored, MODULE, "cf_look"],
             [["env", f"CF_LOOK={tools['cf_look']}", *over_debian, "test", *with_all, "--lib", "--tests"]],
         ),
         Row(
             "Rust's requests in PostgreSQL",
-            [*stored, POSTGRES],
+            [*stored, MODULE, POSTGRES],
             [
                 [tools[POSTGRES], "conformance/stores/over", "python3", offline, "--debian", "test", *with_all]
                 + [word for name in over_stores for word in ("--test", name)]
@@ -234,6 +235,7 @@ def rows_of_rust(tools: Tools, made: Path) -> List[Row]:
             [[python, "conformance/clients/rust-orders", "short", "0", "100", tools["cf_look"]]],
         ),
         example("Rust's order whose bank is away", "retry", "clients/rust/GUIDE.md", "-p", "cf"),
+        over_all("Rust's server of hyper's, whose client hangs up", "served", "clients/rust/cf/examples"),
         example("Rust's spans", "traced", "clients/rust/cf/examples", "-p", "cf"),
         example("Rust's first program", "first", "clients/rust", "-p", "cf"),
         Row(
@@ -263,6 +265,7 @@ def rows_of_java(tools: Tools, made: Path) -> List[Row]:
     needs = ["library", "C compiler", "JDK of 17 or later"]
     sources = sorted(str(path) for part in ["test", "example", "opentelemetry"] for path in (TOP / "clients/java" / part).rglob("*.java"))
     junit, every_order = tools.found.get(JUNIT) or "", str(made / "java/junit")
+    slf4j, logged = tools.found.get(SLF4J) or "", str(made / "java/slf4j")
     built = [
         ["env", "JAVAC=" + javac, "CF_JUNIT=" + junit, "clients/java/build", "--quick", str(made / "java")],
         [javac, "-nowarn", "-encoding", "UTF-8", "-cp", jar, "-d", tests, *sources],
@@ -283,6 +286,25 @@ def rows_of_java(tools: Tools, made: Path) -> List[Row]:
         ),
         Row("the listings of Java's guide", needs, [[*java, "Guide"]]),
         Row("Java's spans", needs, [[*java, "Traced"]], ("clients/java/example", "Traced")),
+        Row("Java's meter, as a bean", needs, [[*java, "Metered"]], ("clients/java/example", "Metered")),
+        Row(
+            "Java's log by SLF4J",
+            [*needs, SLF4J],
+            [
+                [javac, "-Xlint:all,-path", "-Werror", "-encoding", "UTF-8", "-cp", f"{jar}:{slf4j}", "-d", logged, "clients/java/slf4j/Logged.java"],
+                [
+                    "sh",
+                    "-c",
+                    'exec "$@" 2>&1',
+                    "sh",
+                    *java[:-1],
+                    f"{jar}:{logged}:{slf4j}",
+                    "-Djava.util.logging.SimpleFormatter.format=%5$s%n",
+                    "Logged",
+                ],
+            ],
+            ("clients/java/slf4j", "Logged"),
+        ),
         Row(
             "Java's order that waits for an approval",
             [*needs, SQLITE_JDBC],
@@ -356,7 +378,7 @@ def rows_of_languages(tools: Tools, made: Path) -> List[Row]:
     return [
         Row(
             "requests in SQLite that three languages share",
-            ["library", "C compiler", "cargo", DEBIANS, "JDK of 17 or later", "python3", "cf_look"],
+            [MODULE, "C compiler", "cargo", DEBIANS, "JDK of 17 or later", "python3", "cf_look"],
             [
                 [python, "clients/rust/offline", "--debian", "build", "-q", "-p", "cf-store", "--features", "sqlite", "--example", "faults"],
                 ["env", "JAVAC=" + javac, "clients/java/build", "--quick", str(made / "languages")],
@@ -378,6 +400,35 @@ def rows_of_languages(tools: Tools, made: Path) -> List[Row]:
     ]
 
 
+def rows_of_packages(tools: Tools, made: Path) -> List[Row]:
+    """What others install is made twice, and is the same; then it is installed where nothing else is, and its page's first program runs."""
+    python, javac, builds = tools["python3"], "JDK of 17 or later", BUILDS_WHEELS
+    made_of = [
+        ("c", "C", ["pkg-config"], ("clients/c", "request.c")),
+        ("python", "Python", [builds], ("clients/python", "first.py")),
+        ("java", "Java", [javac], ("clients/java", "First")),
+        ("rust", "Rust", ["cargo", PACKS], ("clients/rust", "first.rs")),
+    ]
+    rows, needs = [], ["library", "rt", "C compiler", "binutils", "python3", NAMESPACES]
+    for language, name, more, prints in made_of:
+        folder, with_builds = str(made / "packages" / language), tools[builds] if language == "python" else python
+        make = ["env", "JAVAC=" + tools[javac], with_builds, "clients/packages/make", "--trial", "--quick", "--twice", "--only", language, folder]
+        rows.append(Row(f"the package for {name}", [*needs, *more], [make, [python, "clients/packages/try", language, folder]], prints))
+    for trial, name, languages, more, prints in [
+        ("sdist", "Python's source distribution over a library", ["c", "python"], [builds], ("clients/python", "first.py")),
+        ("maven", "a project of Maven over the package for Java", ["java"], [javac, MAVEN], ("clients/java", "First")),
+    ]:
+        folder, onlys = str(made / "packages" / trial), [word for it in languages for word in ("--only", it)]
+        maker = tools[builds] if builds in more else python
+        make = ["env", "JAVAC=" + tools[javac], maker, "clients/packages/make", "--trial", "--quick", *onlys, folder]
+        rows.append(Row(name, [*needs, *more], [make, [python, "clients/packages/try", trial, folder]], prints))
+    at = "clients/packages"
+    parts = [sorted(str(path.relative_to(TOP)) for path in (TOP / at).glob("*.py")), [f"{at}/make"], [f"{at}/try"], [f"{at}/container"]]
+    typed = [tools["mypy"], "--strict", "--follow-imports=silent", "--cache-dir", str(made / "mypy-packages")]
+    commands = [["env", f"MYPYPATH={at}:crates/cf_c/library:.", *typed, *its] for its in parts]
+    return [*rows, Row("the types of what makes packages", ["mypy", "python3"], commands)]
+
+
 def rows_of_mutants(tools: Tools, made: Path) -> List[Row]:
     """The rules by which sweeps/mutants/try changes the clients. It isn't run over them."""
     typed = [tools["mypy"], "--strict", "--follow-imports=silent", "--cache-dir", str(made / "mypy-mutants")]
@@ -396,7 +447,7 @@ def rows_of_mutants(tools: Tools, made: Path) -> List[Row]:
 
 
 def rows_of_lint() -> List[Row]:
-    python, c, java = ["black", "flake8"], ["clang-format"], ["JDK of 17 or later", JUNIT]
+    python, c, java = ["black", "flake8"], ["clang-format"], ["JDK of 17 or later", JUNIT, SLF4J]
     return [
         Row(f"{name} as its usual tools want it", ["git", "python3", *needs], [["sweeps/lint", name.lower()]])
         for name, needs in [("Python", python), ("C", c), ("Java", java)]
@@ -419,12 +470,15 @@ def rows(tools: Tools, made: Path, is_gate: bool) -> List[Row]:
         [*compiling, name + ".c", str(made / "libcf.a"), "-pthread", "-o", str(made / Path(name).name)]
         for name in ["sweeps/ample", "sweeps/bytes", "sweeps/meets", "conformance/desks/overlaps"]
     )
+    static = ["-static", "-std=c11", "-O1", "-I" + HEADER, "clients/c/request.c", str(made / "libcf.a")]
+    over_musl = [tools["musl-gcc"], *static, "-o", str(made / "request.musl")]
     return [
         *(rows_of_edits() if is_gate else []),
         Row("the edits of the crates, read", ["python3"], [["sweeps/edits/crates", "--read"]]),
         Row("the edits that spoil the clients, read", ["python3"], [["sweeps/edits/clients", "--read"]]),
         *rows_of_mutants(tools, made),
         *rows_of_lint(),
+        Row("rows that fail beside rt ci", ["python3"], [[tools["python3"], "-m", "unittest", "checking.test_running"]]),
         Row("what a program can check of the pages", ["python3"], [["sweeps/pages"]]),
         Row("where want of memory is told, and that nothing is kept from being freed", ["python3"], [["sweeps/memory"]]),
         Row("what of sweeps and conformance waits for a run", ["python3", "git"], [["sweeps/runs"]], is_shown=True),
@@ -434,6 +488,7 @@ def rows(tools: Tools, made: Path, is_gate: bool) -> List[Row]:
         *rows_of_c(tools, made),
         Row("the library as it is installed", ["library", "C compiler", "pkg-config"], [["crates/cf_c/library/installed.py"]]),
         Row("the library by CMake", ["library", "C compiler", "cmake"], [["crates/cf_c/library/installed.py", "--cmake"]]),
+        Row("a static program over musl", ["library", "musl-gcc"], [over_musl, [str(made / "request.musl")]], ("clients/c", "request.c")),
         Row("calls of all sizes in ample memory", ["library", "clang"], [ample, [str(made / "ample"), "short"]]),
         Row("the memory that calls ask for", ["library", "clang"], [asked, [str(made / "bytes")]]),
         Row("callers that meet while others leave", ["library", "clang"], [meets, [str(made / "meets")]]),
@@ -467,4 +522,5 @@ def rows(tools: Tools, made: Path, is_gate: bool) -> List[Row]:
         *rows_of_rust(tools, made),
         *rows_of_java(tools, made),
         *rows_of_languages(tools, made),
+        *rows_of_packages(tools, made),
     ]

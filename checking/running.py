@@ -8,10 +8,11 @@ from typing import Callable, Dict, List, Optional, Sequence, Set, Tuple
 
 from checking.crates import TOP, below, own
 from checking.rows import Row, wanted
-from checking.tools import DEBIANS, Tools
+from checking.tools import BUILDS_WHEELS, DEBIANS, Tools
 
 SECONDS = 600  # for a command of a row
-IN_TURN = [DEBIANS, "cargo", "JDK of 17 or later", "setuptools and wheel for Python"]  # rows that need one of these share files
+GATE_ENDED = "the end of rt ci"  # what a row waits for that failed beside rt ci
+IN_TURN = [DEBIANS, "cargo", "JDK of 17 or later", BUILDS_WHEELS]  # rows that need one of these share files
 
 
 def run(commands: Sequence[Sequence[str]], environment: dict, seconds: Optional[int]) -> Tuple[str, str]:
@@ -57,17 +58,24 @@ class Counts:
             self.failed += bool(fault)
             print(f"FAILED {name}{took}: {fault}" if fault else f"passed {name}{took}", flush=True)
 
-    def try_row(self, name: str, fault_of: Callable[[], str]) -> str:
-        """Runs a row. If it fails beside the gate, which may leave it too little time or memory, it is run again after the gate."""
+    def try_row(self, name: str, fault_of: Callable[[], str]) -> Optional[str]:
+        """Runs a row, and answers what is wrong. If it fails beside the gate, which may leave it too little time or memory, that doesn't
+        count. The answer is None then: the row is to be run again after the gate."""
         began = time.monotonic()
         fault = fault_of()
         if fault and not self.is_idle.is_set():
             print(f"check: {name} failed beside rt ci, and is run again once that has ended: {fault}", flush=True)
-            self.is_idle.wait()
-            began = time.monotonic()
-            fault = fault_of()
+            return None
         self.add(name, fault, began)
         return fault
+
+    def try_until_sure(self, name: str, fault_of: Callable[[], str]) -> str:
+        """The same for a row that others need: it waits for the gate's end itself."""
+        fault = self.try_row(name, fault_of)
+        if fault is not None:
+            return fault
+        self.is_idle.wait()
+        return self.try_until_sure(name, fault_of)
 
 
 class Proved:
@@ -140,27 +148,37 @@ class Rows:
                 self.changed.wait()
             return None
 
-    def put_back(self, group: List[Row]) -> None:
+    def wait(self, name: str) -> None:
+        """Waits until it is known whether a tool is there."""
         with self.changed:
-            if group:
-                self.free.insert(0, group)
+            self.changed.wait_for(lambda: name not in self.awaited)
+
+    def put_back(self, group: List[Row], failed: Sequence[Row] = ()) -> None:
+        """Takes what is left of a group, and of its rows those that failed beside rt ci, which come last and wait for its end."""
+        with self.changed:
+            self.left += len(failed)
+            left = [*group, *(row._replace(needs=[*row.needs, GATE_ENDED]) for row in failed)]
+            if left:
+                self.free.insert(0, left)
             self.changed.notify_all()
 
 
 def run_rows(rows_left: Rows, environment: dict, counts: Counts, is_beside: bool) -> None:
-    """Runs rows until none is left: also while the gate is at work, or only once it has ended."""
+    """Runs rows until none is left: at once, or only once the gate has ended and the library, for which most rows wait, was made."""
     if not is_beside:
         counts.is_idle.wait()
+        rows_left.wait("library")
     while True:
         group = rows_left.next()
         if group is None:
             return
-        row = group[0]
+        row, *rest = group
         missing = [name for name in row.needs if not rows_left.tools.found.get(name)]
+        failed: List[Row] = []
         try:
             if missing:
                 print(f"left out {row.name}: no {', no '.join(missing)}", flush=True)
-            else:
-                counts.try_row(row.name, lambda row=row: wrong(row, environment))
+            elif counts.try_row(row.name, lambda row=row: wrong(row, environment)) is None:
+                failed = [row]
         finally:
-            rows_left.put_back(group[1:])
+            rows_left.put_back(rest, failed)

@@ -9,9 +9,11 @@ from typing import List, Optional
 from checking.crates import TOP
 
 PROGRAMS = ["cf", "cf_look", "cf_bench"]  # that rows call
-PATHS = ["rt", "python3", "cargo", "valgrind", "pkg-config", "cmake", "mypy", "black", "flake8", "clang-format"]
+PATHS = ["rt", "python3", "cargo", "valgrind", "pkg-config", "cmake", "mypy", "black", "flake8", "clang-format", "musl-gcc", "systemd-analyze"]
+BUILDS_WHEELS, MODULE = "setuptools and wheel for Python", "Python's C module"
+ASGI, DJANGO, PYTEST, PROMETHEUS = "uvicorn and Starlette for Python", "Django for Python", "pytest for Python", "Prometheus's client for Python"
 DEBIAN = Path("/usr/share/cargo/registry")
-CRATES = ["base64", "futures", "getrandom", "rayon", "rusqlite", "rustix", "serde", "serde_json", "tokio", "tokio-postgres", "tracing"]
+CRATES = ["base64", "futures", "getrandom", "hyper", "rayon", "rusqlite", "rustix", "serde", "serde_json", "tokio", "tokio-postgres", "tracing"]
 DEBIANS = f"Debian's crates of {', '.join(CRATES)}"
 POSTGRES = "Debian's postgresql-15 and python3-psycopg2"
 JARS = Path("/usr/share/java")
@@ -20,6 +22,11 @@ SQLITE_JDBC, POSTGRES_JDBC = (
     f"the driver for Java of {engine}, as Debian's {package} has it"
     for engine, package in [("SQLite", "libxerial-sqlite-jdbc-java"), ("PostgreSQL", "libpostgresql-jdbc-java")]
 )
+MAVEN = "Maven with plugins, as Debian's libexec-maven-plugin-java, libmaven-compiler-plugin-java and libmaven-resources-plugin-java have it"
+PLUGINS = ["apache/maven/plugins/maven-compiler-plugin", "apache/maven/plugins/maven-resources-plugin", "codehaus/mojo/exec-maven-plugin"]
+SLF4J = "SLF4J, as Debian's libslf4j-java has it"
+NAMESPACES = "file system of its own, as unshare makes it"
+PACKS = "cargo that can package without a lock file"
 NOTHING = "int main(void) { return 0; }\n"
 
 
@@ -38,6 +45,9 @@ class Tools:
         self.found = {name: shutil.which(name) for name in PATHS}
         self.found["rustfmt"] = self.answering(["rustfmt", "--version"])
         self.found["clippy"] = self.answering(["cargo", "clippy", "--version"])
+        entered = ["unshare", "--mount", "--net", *(["--map-root-user"] if os.geteuid() else []), "mount", "-t", "tmpfs", "none", str(made)]
+        self.found[NAMESPACES] = self.answering(entered)
+        self.found[PACKS] = self.answering(["cargo", "package", "--exclude-lockfile", "--help"])
         self.found["git"] = shutil.which("git") if (TOP / ".git").exists() else None
         compilers = [self.of_kit(), "clang"]
         self.found["clang"] = self.first(compilers, "#include <stdbool.h>\n" + NOTHING, "-fsyntax-only")
@@ -52,8 +62,14 @@ class Tools:
         self.found[JUNIT] = junit()
         for name, jar in [(SQLITE_JDBC, JARS / "sqlite-jdbc.jar"), (POSTGRES_JDBC, JARS / "postgresql.jar")]:
             self.found[name] = str(jar) if jar.is_file() else None
+        logging = [JARS / name for name in ["slf4j-api.jar", "slf4j-jdk14.jar"]]
+        self.found[SLF4J] = ":".join(map(str, logging)) if all(jar.is_file() for jar in logging) else None
+        plugins = all(Path("/usr/share/maven-repo/org", name).is_dir() for name in PLUGINS)
+        self.found[MAVEN] = shutil.which("mvn") if plugins else None
         pythons = ["/usr/bin/python3", self["python3"]]
-        self.found["setuptools and wheel for Python"] = self.importing(pythons, "setuptools, wheel, venv, ensurepip")
+        self.found[BUILDS_WHEELS] = self.importing(pythons, "setuptools, wheel, venv, ensurepip")
+        for name, modules in [(ASGI, "uvicorn, starlette"), (DJANGO, "django"), (PYTEST, "pytest"), (PROMETHEUS, "prometheus_client")]:
+            self.found[name] = self.importing(pythons, modules)
         self.found["Python's own tests"] = self.importing(pythons, "test.test_concurrent_futures")
         self.found[POSTGRES] = Path("/usr/lib/postgresql/15/bin/initdb").is_file() and self.importing(pythons, "psycopg2") or None
         crates = [list(DEBIAN.glob(name + "-[0-9]*")) for name in CRATES]

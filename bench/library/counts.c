@@ -198,51 +198,52 @@ static void count_views(cf_handle *plan) {
 
 /* ---- Requests ---- */
 
-static cf_applied applied;
+static cf_reply answered;
 static cf_told told[4];
+static cf_todo todo = {.moment = CF_NEVER};
 
 COUNTED request_claim(cf_handle *request, uint64_t word) {
-  MUST(cf_request_apply(request, word, 0, &applied, told, 4));
-  must_be(applied.reply.answer == CF_GRANTED && applied.told == 0, "a request's claim");
+  MUST(cf_request_apply(request, word, 0, &answered, told, 4, &todo));
+  must_be(answered.answer == CF_GRANTED && todo.told == 0, "a request's claim");
 }
 
 COUNTED request_finish(cf_handle *request, uint64_t word) {
-  MUST(cf_request_apply(request, word, 0, &applied, told, 4));
-  must_be(applied.reply.answer == CF_WON && applied.told == 1, "a request's finish");
+  MUST(cf_request_apply(request, word, 0, &answered, told, 4, &todo));
+  must_be(answered.answer == CF_WON && todo.told == 1, "a request's finish");
 }
-
-static cf_request_step turn = {.who = ME};
 
 COUNTED request_next(cf_handle *request) {
   cf_task task = {0};
-  while (cf_request_next(request, &turn, &task, told, 4) == CF_OK) task.answer = answer(&task.args);
+  while (cf_request_next(request, ME, 0, &task, told, 4, &todo) == CF_OK) task.answer = answer(&task.args);
   must_be(!task.held && task.finished == CF_WON, "a request's last step");
 }
 
 COUNTED request_idle(cf_handle *request) {
   cf_task task = {0};
-  must_be(cf_request_next(request, &turn, &task, told, 4) == CF_NOTHING, "a step that finds nothing");
+  must_be(cf_request_next(request, ME, 0, &task, told, 4, &todo) == CF_NOTHING, "a step that finds nothing");
 }
 
-COUNTED request_deadline(cf_handle *request, uint16_t stage) { MUST(cf_request_deadline(request, stage, stage, CF_TIMEOUT, 0, number(0))); }
+COUNTED request_deadline(cf_handle *request, uint16_t stage) {
+  MUST(cf_request_deadline(request, stage, stage, CF_TIMEOUT, 0, number(0), &todo));
+}
 
-COUNTED request_attach(cf_handle *request, uint64_t word) { MUST(cf_request_apply(request, word, 0, &applied, told, 4)); }
+COUNTED request_attach(cf_handle *request, uint64_t word) { MUST(cf_request_apply(request, word, 0, &answered, told, 4, &todo)); }
 
 COUNTED request_run(cf_handle *request) {
   cf_task task = {0};
-  while (cf_request_next(request, &turn, &task, told, 4) == CF_OK) task.answer = answer(&task.args);
+  while (cf_request_next(request, ME, 0, &task, told, 4, &todo) == CF_OK) task.answer = answer(&task.args);
 }
 
 COUNTED request_do(cf_handle *request, cf_request_call *calls) {
-  cf_request_done done;
-  MUST(cf_request_do(request, calls, WORDS - 1, &done, told, 4));
+  size_t done;
+  MUST(cf_request_do(request, calls, WORDS - 1, &done, told, 4, &todo));
 }
 
 COUNTED request_grow(cf_handle *request) { MUST(cf_request_grow(request)); }
 
 COUNTED request_gather(cf_handle *request, const uint16_t *sources) {
   cf_request_gathering step = {.who = ME, .form = CF_ALL_OF};
-  MUST(cf_request_gather(request, &step, sources, CHAINED + 1, told, 4));
+  MUST(cf_request_gather(request, &step, sources, CHAINED + 1, told, 4, &todo));
   must_be(step.root == 2 * CHAINED, "a gathering's root");
 }
 
@@ -252,7 +253,7 @@ static cf_handle open_request(cf_handle *plan, uint16_t stages, uint16_t room) {
   const cf_request_sizes sizes = {.room = room, .lanes = 1, .own = ME};
   cf_handle request = {0};
   MUST(cf_request_new(plan, &sizes, lanes, stages, &request));
-  MUST(cf_request_apply(&request, words[0], 0, &applied, told, 4));
+  MUST(cf_request_apply(&request, words[0], 0, &answered, told, 4, &todo));
   return request;
 }
 
@@ -268,7 +269,7 @@ static void count_chained(void) {
   request = open_request(&plan, 1, 2 * CHAINED);
   for (uint16_t i = 0; i < CHAINED; i++)
     MUST(cf_request_apply(
-        &request, word_of((cf_event){.call = CF_CALL_ATTACH, .form = CF_APPLY, .sources = 1, .first = i}), 0, &applied, told, 4));
+        &request, word_of((cf_event){.call = CF_CALL_ATTACH, .form = CF_APPLY, .sources = 1, .first = i}), 0, &answered, told, 4, &todo));
   request_gather(&request, sources);
   cf_free(&request), cf_free(&plan);
   say("request_attach", CHAINED), say("request_run", CHAINED), say("request_gather", CHAINED);
@@ -288,8 +289,8 @@ static void count_request(cf_handle *plan) {
   request = open_request(plan, STAGES, 0);
   for (uint16_t i = 1; i < STAGES; i++) {
     request_deadline(&request, i);
-    MUST(cf_request_apply(&request, words[2 * i - 1], 0, &applied, told, 4));
-    MUST(cf_request_apply(&request, words[2 * i], 0, &applied, told, 4));
+    MUST(cf_request_apply(&request, words[2 * i - 1], 0, &answered, told, 4, &todo));
+    MUST(cf_request_apply(&request, words[2 * i], 0, &answered, told, 4, &todo));
   }
   cf_free(&request);
   request = open_request(plan, STAGES, 0);

@@ -15,6 +15,8 @@ Reply = Tuple[Any, ...]
 Stage = Tuple[Tuple[Any, ...], Optional[int]]
 GATHERING = ["allOf", "anyOf"]
 COMPOSING = ["compose", "exceptionallyCompose"]
+NEVER = 2**64 - 1  # as a moment: no open stage has a deadline
+NEWS_READY, NEWS_MOMENT = 1, 2
 MOST_CALLERS, MOST_FUNCTIONS, MOST_LANES, MOST_STAGES, MOST_EDGES = 64, 4096, 16, 4096, 16384
 LEAST_GROWTH = 16
 
@@ -47,10 +49,19 @@ class Taken(NamedTuple):
 
 
 class Told(NamedTuple):
-    """How many stages were told, and the first of them with their outcomes, which the host has taken by that."""
+    """How many stages were told, and the first of them, which the host has taken by that: each with the caller that still runs its function,
+    plus 1, or 0, and with its outcome."""
 
     total: int
-    taken: List[Tuple[int, Optional[Outcome]]]
+    taken: List[Tuple[int, int, Optional[Outcome]]]
+
+
+class Todo(NamedTuple):
+    """What the host has to do next: the moment of the next deadline, how many jobs it has to start in each lane, and whether that is news."""
+
+    moment: int
+    ready: List[int]
+    news: int
 
 
 class Next(NamedTuple):
@@ -105,6 +116,7 @@ class Machine:
         if any(lane >= count for lane in lanes):
             raise Refused("NO_LANE")
         self.check_caller(own)
+        self.todo = Todo(NEVER, [0] * count, 0)
         self.restart()
 
     def restart(self) -> None:
@@ -234,10 +246,27 @@ class Machine:
 
     # Its calls.
 
-    def call(self, name: str, given: Tuple[Any, ...], room: int) -> Tuple[Any, Told]:
-        """What a call answers, and what is told then."""
+    def call(self, name: str, given: Tuple[Any, ...], room: int, jobs: Sequence[int]) -> Tuple[Any, Told, List[Todo]]:
+        """What a call answers with so many jobs on their way in each lane, what is told then, and what the host has to do. A deadline tells
+        no stages, so what it says of that comes before what is told then."""
         answer = getattr(self, name)(*given)
-        return answer, self.tell(room)
+        todos = [self.look(jobs)] if name == "deadline" else []
+        told = self.tell(room)
+        is_idle = name == "next" and answer == Next(None, None) and not told.total
+        return answer, told, [*todos, self.look_idle() if is_idle else self.look(jobs)]
+
+    def look(self, jobs: Sequence[int]) -> Todo:
+        """What the host has to do next."""
+        deadline, before = self.next_deadline(), self.todo.moment
+        moment = deadline.moment if deadline else NEVER
+        ready = [max(0, count - coming) for count, coming in zip(self.ready_of_lanes(), jobs)]
+        self.todo = Todo(moment, ready, NEWS_READY * any(ready) + NEWS_MOMENT * (moment != before))
+        return self.todo
+
+    def look_idle(self) -> Todo:
+        """The same where a step had nothing to do: there is no news."""
+        self.todo = self.todo._replace(news=0)
+        return self.todo
 
     def rest(self) -> None:
         """Does nothing, so that the host only takes what is told."""
@@ -392,9 +421,18 @@ class Machine:
                 return answers, str(refused)
         return answers, None
 
+    def left(self) -> int:
+        """How many stages are told still."""
+        return len(self.told)
+
     def tell(self, room: int) -> Told:
         """Tells the first so many stages that were settled, in the order of the events that settled them, and those of one event rising.
         The host has taken them then."""
-        told = Told(len(self.told), [(stage, self.outcome(stage)) for stage in self.told[:room]])
+        told = Told(len(self.told), [(stage, self.stop(stage), self.outcome(stage)) for stage in self.told[:room]])
         del self.told[:room]
         return told
+
+    def stop(self, stage: int) -> int:
+        """The caller that has an open claim of a stage that is settled, plus 1, or 0."""
+        claimant: Optional[int] = self.state.claims[stage]
+        return 0 if claimant is None else claimant + 1

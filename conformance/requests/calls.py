@@ -1,6 +1,7 @@
 """Random requests and calls of their hosts, from a seed, and what two machines are told by the same call.
 
-A call is the name of a method of `machine.Machine`, what it is called with, and how many stages may be told then.
+A call is the name of a method of `machine.Machine`, what it is called with, how many stages may be told then, and how many jobs its host
+has on their way in each lane.
 """
 import random
 from collections import Counter
@@ -41,6 +42,7 @@ class Call(NamedTuple):
     name: str
     given: Tuple[Any, ...]
     room: int
+    jobs: List[int]
 
 
 class Opening(NamedTuple):
@@ -219,12 +221,18 @@ class Draws:
         """For how many stages there is room, mostly for all."""
         return self.rng.choice([0, 1, 2, 5]) if self.rng.random() < 0.2 else 64
 
+    def jobs(self) -> List[int]:
+        """How many jobs are on their way in each lane: mostly as many as stages are ready, or a few."""
+        if self.rng.random() < 0.3:
+            return self.plain.ready_of_lanes()
+        return [self.rng.choice([0, 0, 0, 1, 1, 2, 5, 65535]) for _ in range(self.plain.count)]
+
     def call(self, thread: int) -> Call:
         """The next call, which this thread makes."""
         who, kind = self.caller(thread), self.one_of(self.kinds)
         if self.rng.random() < 0.1 and all(self.plain.is_settled(i) for i in range(self.plain.stages())):
             kind = "restart"
-        return Call(kind, self.given(kind, who), self.room())
+        return Call(kind, self.given(kind, who), self.room(), self.jobs())
 
     def given(self, kind: str, who: int) -> Tuple[Any, ...]:
         """What a call of this kind is given."""
@@ -265,7 +273,7 @@ def answer_of(request: Request, call: Call) -> Any:
 def seen(request: Request) -> Dict[str, Any]:
     """What a host sees of a request after each call."""
     return {
-        "how many are told still": request.tell(0).total,
+        "how many are told still": request.left(),
         "the next deadline": request.next_deadline(),
         "the numbers of ready stages": request.ready_of_lanes(),
     }

@@ -49,15 +49,21 @@ class CSizes(c.Structure):
 
 
 class CTold(c.Structure):
-    _fields_ = [("stage", c.c_uint16), ("outcome", COutcome)]
+    _fields_ = [("stage", c.c_uint16), ("stop", c.c_uint16), ("outcome", COutcome)]
 
 
-class CApplied(c.Structure):
-    _fields_ = [("reply", CReply), ("told", c.c_size_t)]
+class CTodo(c.Structure):
+    _fields_ = [
+        ("told", c.c_size_t),
+        ("moment", c.c_uint64),
+        ("news", c.c_uint32),
+        ("jobs", c.c_uint16 * machine.MOST_LANES),
+        ("ready", c.c_uint16 * machine.MOST_LANES),
+    ]
 
 
 class CRequestGathering(c.Structure):
-    _fields_ = [("who", c.c_uint8), ("form", c.c_uint32), ("root", c.c_uint16), ("told", c.c_size_t)]
+    _fields_ = [("who", c.c_uint8), ("form", c.c_uint32), ("root", c.c_uint16)]
 
 
 class CRequestComposing(c.Structure):
@@ -69,16 +75,11 @@ class CRequestComposing(c.Structure):
         ("function", c.c_uint16),
         ("relay", c.c_uint16),
         ("stage", c.c_uint16),
-        ("told", c.c_size_t),
     ]
 
 
 class CRequestLinking(c.Structure):
-    _fields_ = [("who", c.c_uint8), ("relay", c.c_uint16), ("stage", c.c_uint16), ("told", c.c_size_t)]
-
-
-class CRequestStep(c.Structure):
-    _fields_ = [("who", c.c_uint8), ("lane", c.c_uint8), ("told", c.c_size_t)]
+    _fields_ = [("who", c.c_uint8), ("relay", c.c_uint16), ("stage", c.c_uint16)]
 
 
 class CDeadline(c.Structure):
@@ -102,25 +103,19 @@ class CCall(c.Structure):
     ]
 
 
-class CDone(c.Structure):
-    _fields_ = [("calls", c.c_size_t), ("told", c.c_size_t)]
-
-
 OWN = {
     "cf_request_sizes": CSizes,
     "cf_told": CTold,
-    "cf_applied": CApplied,
+    "cf_todo": CTodo,
     "cf_request_gathering": CRequestGathering,
     "cf_request_composing": CRequestComposing,
     "cf_request_linking": CRequestLinking,
-    "cf_request_step": CRequestStep,
     "cf_deadline": CDeadline,
     "cf_request_call": CCall,
-    "cf_request_done": CDone,
 }
 IN_ONE = ["apply", "next", "follow", "deadline", "pass_to", "refuse", "cancel_all"]  # the calls of cf_request_do by their numbers
 H, P, U8, U16, U32, U64, SIZE = c.POINTER(CHandle), c.POINTER, c.c_uint8, c.c_uint16, c.c_uint32, c.c_uint64, c.c_size_t
-TOLD = [P(CTold), SIZE]
+TOLD = [P(CTold), SIZE, P(CTodo)]
 CALLS: Dict[str, List[Any]] = {
     "cf_builder_new": [H, U16, U16],
     "cf_builder_stage": [H, U32, P(U16), SIZE, U32, P(U16)],
@@ -131,22 +126,22 @@ CALLS: Dict[str, List[Any]] = {
     "cf_ledger_stages": [H, P(U16)],
     "cf_ledger_words": [H, SIZE, P(U64), SIZE, P(SIZE)],
     "cf_request_new": [H, P(CSizes), P(U8), SIZE, H],
-    "cf_request_apply": [H, U64, U8, P(CApplied), *TOLD],
+    "cf_request_apply": [H, U64, U8, P(CReply), *TOLD],
     "cf_request_gather": [H, P(CRequestGathering), P(U16), SIZE, *TOLD],
     "cf_request_compose": [H, P(CRequestComposing), *TOLD],
     "cf_request_link": [H, P(CRequestLinking), P(CTask), *TOLD],
-    "cf_request_next": [H, P(CRequestStep), P(CTask), *TOLD],
-    "cf_request_follow": [H, U16, U16, *TOLD, P(SIZE)],
-    "cf_request_deadline": [H, U16, U64, U32, U32, CValue],
-    "cf_request_pass": [H, U64, *TOLD, P(SIZE)],
+    "cf_request_next": [H, U8, U8, P(CTask), *TOLD],
+    "cf_request_follow": [H, U16, U16, *TOLD],
+    "cf_request_deadline": [H, U16, U64, U32, U32, CValue, P(CTodo)],
+    "cf_request_pass": [H, U64, *TOLD],
     "cf_request_next_deadline": [H, P(CDeadline)],
-    "cf_request_refuse": [H, U8, U32, *TOLD, P(SIZE)],
-    "cf_request_told": [H, *TOLD, P(SIZE)],
+    "cf_request_refuse": [H, U8, U32, *TOLD],
+    "cf_request_told": [H, *TOLD],
     "cf_request_ready": [H, U8, P(U16)],
-    "cf_request_cancel_all": [H, U8, *TOLD, P(SIZE)],
+    "cf_request_cancel_all": [H, U8, *TOLD],
     "cf_request_grow": [H],
     "cf_request_restart": [H],
-    "cf_request_do": [H, P(CCall), SIZE, P(CDone), *TOLD],
+    "cf_request_do": [H, P(CCall), SIZE, P(SIZE), *TOLD],
 }
 
 
@@ -248,7 +243,7 @@ class Library:
 
     def __init__(self, opening: Opening) -> None:
         self.opening, self.plan, self.request = opening, CHandle(), CHandle()
-        self.row, self.total = (CTold * (LONGEST + 1))(), SIZE()
+        self.row, self.todo = (CTold * (LONGEST + 1))(), CTodo(moment=machine.NEVER)
         self.marked = bytes([MARK]) * c.sizeof(self.row)
         self.lanes = list(range(opening.of_lanes))
         try:
@@ -279,31 +274,46 @@ class Library:
 
     # What it tells.
 
-    def mark(self, room: int) -> Tuple[Any, int]:
-        """A row for so many told stages, filled with marks. One for none may be null."""
+    def mark(self, room: int) -> Tuple[Any, int, CTodo]:
+        """A row for so many told stages, filled with marks, and the todo. A row for none may be null."""
         c.memset(self.row, MARK, c.sizeof(self.row))
-        c.memset(c.byref(self.total), MARK, c.sizeof(self.total))
-        return self.row if room else None, room
+        self.todo.told = self.todo.news = MARK
+        self.before = bytes(self.todo)
+        return self.row if room else None, room, self.todo
 
-    def told(self, total: int, room: int) -> machine.Told:
+    def told(self, room: int) -> machine.Told:
         """What a call has told by the row. Behind that there are marks."""
+        total = self.todo.told
         count = min(total, room)
         end = count * c.sizeof(CTold)
         if bytes(self.row)[end:] != self.marked[end:]:
             raise Difference("the row is written behind the stages that are told")
-        return machine.Told(total, [(self.row[k].stage, outcome_of(self.row[k].outcome)) for k in range(count)])
+        return machine.Told(total, [(self.row[k].stage, self.row[k].stop, outcome_of(self.row[k].outcome)) for k in range(count)])
 
     def checked(self, code: int, *given: Tuple[Any, bytes]) -> None:
-        """Raises why a call is refused, and sees that it has left the row and what else it was given as it was."""
+        """Raises why a call is refused, and sees that it has left the row, the todo and what else it was given as it was."""
         if code:
-            left = bytes(self.row) == self.marked and bytes(self.total) == self.marked[: c.sizeof(self.total)]
+            left = bytes(self.row) == self.marked and bytes(self.todo) == self.before
             if not left or any(bytes(it) != before for it, before in given):
                 raise Difference(f"a call that is refused for {NAMES[code]} has written something")
             check(code)
 
     def tell(self, room: int) -> machine.Told:
-        self.checked(C.cf_request_told(self.request, *self.mark(room), self.total))
-        return self.told(self.total.value, room)
+        self.checked(C.cf_request_told(self.request, *self.mark(room)))
+        return self.told(room)
+
+    def left(self) -> int:
+        other = CTodo()
+        check(C.cf_request_told(self.request, None, 0, other))
+        told: int = other.told
+        return told
+
+    def next_todo(self, jobs: Sequence[int]) -> machine.Todo:
+        """What the host has to do. The library only reads its jobs, and writes no lane that isn't there."""
+        todo, count = self.todo, self.opening.of_lanes
+        if list(todo.jobs) != fill(jobs) or list(todo.ready)[count:] != fill([])[count:]:
+            raise Difference("a todo is written where it has to be left")
+        return machine.Todo(todo.moment, list(todo.ready)[:count], todo.news)
 
     def words(self) -> List[int]:
         count = SIZE()
@@ -343,32 +353,36 @@ class Library:
 
     # Its calls.
 
-    def call(self, name: str, given: Tuple[Any, ...], room: int) -> Tuple[Any, machine.Told]:
-        """What a call answers, and what is told by it, or else by the call for that."""
+    def call(self, name: str, given: Tuple[Any, ...], room: int, jobs: Sequence[int]) -> Tuple[Any, machine.Told, List[machine.Todo]]:
+        """What a call answers, and what is told by it, or else by the call for that, and what the host has to do."""
+        self.todo.jobs[:], self.todo.ready[len(jobs) :] = fill(jobs), fill([])[len(jobs) :]
         if name in TELLING:
             answer, told = getattr(self, name)(room, *given)
-            return answer, told
+            return answer, told, [self.next_todo(jobs)]
         answer = getattr(self, name)(*given)
-        return answer, self.tell(room)
+        todos = [self.next_todo(jobs)] if name == "deadline" else []
+        if todos and self.todo.told != self.left():
+            raise Difference("a deadline doesn't say how many stages are told still")
+        return answer, self.tell(room), [*todos, self.next_todo(jobs)]
 
     def apply(self, room: int, event: Union[int, machine.Event], lane: int) -> Tuple[Any, machine.Told]:
-        word, applied = event if isinstance(event, int) else histories.word_of(event), CApplied()
-        before = bytes(applied)
-        self.checked(C.cf_request_apply(self.request, word, lane, applied, *self.mark(room)), (applied, before))
-        return reply_of(histories.event_of(word)[0], applied.reply), self.told(applied.told, room)
+        word, reply = event if isinstance(event, int) else histories.word_of(event), CReply()
+        before = bytes(reply)
+        self.checked(C.cf_request_apply(self.request, word, lane, reply, *self.mark(room)), (reply, before))
+        return reply_of(histories.event_of(word)[0], reply), self.told(room)
 
     def gather(self, room: int, who: int, form: str, sources: Sequence[int]) -> Tuple[Any, machine.Told]:
         of = (U16 * len(sources))(*sources) if sources else None
         step = CRequestGathering(who=who, form=histories.FORMS.index(form))
         before = bytes(step)
         self.checked(C.cf_request_gather(self.request, step, of, len(sources), *self.mark(room)), (step, before))
-        return step.root, self.told(step.told, room)
+        return step.root, self.told(room)
 
     def compose(self, room: int, who: int, form: str, source: int, function: int, lane: int) -> Tuple[Any, machine.Told]:
         step = CRequestComposing(who=who, lane=lane, form=histories.FORMS.index(form), source=source, function=function)
         before = bytes(step)
         self.checked(C.cf_request_compose(self.request, step, *self.mark(room)), (step, before))
-        return machine.Composed(step.relay, step.stage), self.told(step.told, room)
+        return machine.Composed(step.relay, step.stage), self.told(room)
 
     def link(self, room: int, who: int, relay: int, held: Optional[int], stage: int) -> Tuple[Any, machine.Told]:
         step, task = CRequestLinking(who=who, relay=relay, stage=stage), CTask()
@@ -378,48 +392,49 @@ class Library:
         self.checked(C.cf_request_link(self.request, step, task, *self.mark(room)), *before)
         if task.held or task.stage != held:
             raise Difference("a task doesn't say that its compose is finished")
-        return FINISHES[task.finished], self.told(step.told, room)
+        return FINISHES[task.finished], self.told(room)
 
     def next(self, room: int, who: int, lane: int, held: Optional[Tuple[int, machine.Answer]]) -> Tuple[Any, machine.Told]:
-        step, task = CRequestStep(who=who, lane=lane), CTask()
+        task = CTask()
         if held is not None:
             task = CTask(held=1, stage=held[0], answer=answer_in(held[1]))
-        before = (step, bytes(step)), (task, bytes(task))
-        code = C.cf_request_next(self.request, step, task, *self.mark(room))
-        self.checked(0 if code == NOTHING else code, *before)
+        before = (task, bytes(task))
+        code = C.cf_request_next(self.request, who, lane, task, *self.mark(room))
+        self.checked(0 if code == NOTHING else code, before)
         if bool(task.held) != (code == 0) or (held is None and task.finished):
             raise Difference("a task doesn't say what its step has done")
         taken = machine.Taken(task.stage, task.function, args_of(task.args)) if code == 0 else None
         finished = None if held is None else FINISHES[task.finished]
-        return machine.Next(finished, taken), self.told(step.told, room)
+        return machine.Next(finished, taken), self.told(room)
 
     def do_all(self, room: int, made: Sequence[Tuple[str, Tuple[Any, ...]]]) -> Tuple[Any, machine.Told]:
-        calls, done = (CCall * len(made))(*[call_in(name, given) for name, given in made]), CDone()
+        calls, done = (CCall * len(made))(*[call_in(name, given) for name, given in made]), SIZE()
         before = [bytes(call) for call in calls]
         code = C.cf_request_do(self.request, calls if made else None, len(made), done, *self.mark(room))
-        if any(bytes(call) != was for call, was in list(zip(calls, before))[done.calls :]) or (done.calls < len(made)) != bool(code):
+        if any(bytes(call) != was for call, was in list(zip(calls, before))[done.value :]) or (done.value < len(made)) != bool(code):
             raise Difference("rows that aren't done are written, or it isn't said which is refused")
-        answers = [answer_in_row(name, given, call) for (name, given), call in list(zip(made, calls))[: done.calls]]
-        return (answers, NAMES[code] if code else None), self.told(done.told, room)
+        answers = [answer_in_row(name, given, call) for (name, given), call in list(zip(made, calls))[: done.value]]
+        return (answers, NAMES[code] if code else None), self.told(room)
 
     def follow(self, room: int, relay: int, stage: int) -> Tuple[Any, machine.Told]:
-        self.checked(C.cf_request_follow(self.request, relay, stage, *self.mark(room), self.total))
-        return None, self.told(self.total.value, room)
+        self.checked(C.cf_request_follow(self.request, relay, stage, *self.mark(room)))
+        return None, self.told(room)
 
     def pass_to(self, room: int, moment: int) -> Tuple[Any, machine.Told]:
-        self.checked(C.cf_request_pass(self.request, moment, *self.mark(room), self.total))
-        return None, self.told(self.total.value, room)
+        self.checked(C.cf_request_pass(self.request, moment, *self.mark(room)))
+        return None, self.told(room)
 
     def refuse(self, room: int, lane: int, code: int) -> Tuple[Any, machine.Told]:
-        self.checked(C.cf_request_refuse(self.request, lane, code, *self.mark(room), self.total))
-        return None, self.told(self.total.value, room)
+        self.checked(C.cf_request_refuse(self.request, lane, code, *self.mark(room)))
+        return None, self.told(room)
 
     def deadline(self, deadline: machine.Deadline) -> None:
-        check(C.cf_request_deadline(self.request, deadline.stage, deadline.moment, *limit_in(deadline.outcome)))
+        *_, todo = self.mark(0)
+        self.checked(C.cf_request_deadline(self.request, deadline.stage, deadline.moment, *limit_in(deadline.outcome), todo))
 
     def cancel_all(self, room: int, who: int) -> Tuple[Any, machine.Told]:
-        self.checked(C.cf_request_cancel_all(self.request, who, *self.mark(room), self.total))
-        return None, self.told(self.total.value, room)
+        self.checked(C.cf_request_cancel_all(self.request, who, *self.mark(room)))
+        return None, self.told(room)
 
     def grow(self) -> None:
         check(C.cf_request_grow(self.request))
@@ -462,6 +477,11 @@ def answer_in_row(name: str, given: Tuple[Any, ...], row: CCall) -> Any:
         return None
     taken = machine.Taken(row.task.stage, row.task.function, args_of(row.task.args)) if row.task.held else None
     return machine.Next(None if given[2] is None else FINISHES[row.task.finished], taken)
+
+
+def fill(numbers: Sequence[int]) -> List[int]:
+    """A number for each lane that there may be: where none is given, marks."""
+    return [*numbers, *[MARK] * (machine.MOST_LANES - len(numbers))]
 
 
 def is_pointer(kind: Any) -> bool:

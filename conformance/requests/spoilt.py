@@ -2,7 +2,7 @@
 from typing import Any, List, Optional, Sequence, Tuple, Union
 
 import model
-from machine import LEAST_GROWTH, Answer, Composed, Deadline, Event, Follow, Machine, Next, Outcome, Reply, Taken, Told
+from machine import LEAST_GROWTH, NEVER, Answer, Composed, Deadline, Event, Follow, Machine, Next, Outcome, Reply, Taken, Told, Todo
 
 
 class TheHighestIsTaken(Machine):
@@ -70,7 +70,8 @@ class AComposeLosesItsLane(Machine):
 
 class TheComposeIsFollowed(Machine):
     def link(self, who: int, relay: int, held: Optional[int], stage: int) -> str:
-        return super().link(who, relay, held, stage if held is None or self.is_settled(stage) else held)
+        is_open = stage < self.stages() and not self.is_settled(stage)
+        return super().link(who, relay, held, held if is_open and held is not None else stage)
 
 
 class NobodyFollows(Machine):
@@ -214,7 +215,7 @@ class AStageHasOneDeadline(Machine):
 class ToldTwice(Machine):
     def tell(self, room: int) -> Told:
         told = super().tell(room)
-        self.told = [stage for stage, _ in told.taken[-1:]] + self.told
+        self.told = [stage for stage, *_ in told.taken[-1:]] + self.told
         return told
 
 
@@ -222,6 +223,69 @@ class ToldRising(Machine):
     def tell(self, room: int) -> Told:
         self.told.sort()
         return super().tell(room)
+
+
+class WhoeverRanIsStopped(Machine):
+    def stop(self, stage: int) -> int:
+        ran: List[int] = [event[1] for event in self.events if event[0] == "claim" and event[2] == stage]
+        return ran[-1] + 1 if ran else 0
+
+
+class TheStopIsTheCaller(Machine):
+    def stop(self, stage: int) -> int:
+        return max(0, super().stop(stage) - 1)
+
+
+class TheOwnCallerStopsNobody(Machine):
+    def stop(self, stage: int) -> int:
+        who = super().stop(stage)
+        return 0 if self.outcome(stage) == model.CANCELLED else who
+
+
+class JobsArentCounted(Machine):
+    def look(self, jobs: Sequence[int]) -> Todo:
+        return super().look([0] * self.count)
+
+
+class JobsOfAllLanesCount(Machine):
+    def look(self, jobs: Sequence[int]) -> Todo:
+        return super().look([sum(jobs)] * self.count)
+
+
+class OneJobIsEnough(Machine):
+    def look(self, jobs: Sequence[int]) -> Todo:
+        return super().look([count and 65535 for count in jobs])
+
+
+class TheFirstLaneIsNews(Machine):
+    def look(self, jobs: Sequence[int]) -> Todo:
+        todo = super().look(jobs)
+        self.todo = todo._replace(news=todo.news & ~1 | bool(todo.ready[0]))
+        return self.todo
+
+
+class EachMomentIsNews(Machine):
+    def look(self, jobs: Sequence[int]) -> Todo:
+        todo = super().look(jobs)
+        self.todo = todo._replace(news=todo.news | 2)
+        return self.todo
+
+
+class NeverIsNoNews(Machine):
+    def look(self, jobs: Sequence[int]) -> Todo:
+        todo = super().look(jobs)
+        self.todo = todo._replace(news=todo.news & ~2) if todo.moment == NEVER else todo
+        return self.todo
+
+
+class AStepThatRestsLooks(Machine):
+    def look_idle(self) -> Todo:
+        return self.look([0] * self.count)
+
+
+class NewsOutlivesAStepThatRests(Machine):
+    def look_idle(self) -> Todo:
+        return self.todo
 
 
 class AnotherFinishes(Machine):

@@ -41,7 +41,7 @@ FEATURES = [
 STARTS = threading.RLock()
 RUNNING: Set[int] = set()  # processes, each of which leads a group
 RUNNER = "sitecustomize.py"  # which each process of a copy finds where it is to write down what it reaches
-SOURCE = "native/_cf.c"
+SOURCE, MODULE = "native/_cf.c", "_cf.abi3.so"
 MADE = ["target", "__pycache__", "*.so", "out"]  # what isn't copied
 
 
@@ -194,13 +194,18 @@ class Python(Client):
 
     def __init__(self, language: Language, made: Path, say: Callable[[str], None], seats: int) -> None:
         super().__init__(language, made, say)
-        if not os.environ.get("CF_LIBRARY"):
-            raise Missing("no CF_LIBRARY")
+        if not os.environ.get("CF_LIBRARY_DIR"):
+            raise Missing("no CF_LIBRARY_DIR")
         self.folders = [self.copy(str(seat)).resolve() for seat in range(seats)]
         for folder in self.folders:
             shutil.copy2(reached.RUNNING, folder / RUNNER)
             run([sys.executable, "-m", "compileall", "-q", "cf", "tests"], folder, dict(os.environ), BUILDING)
-        self.environment.update(CF_NO_MODULE="1", CF_REQUESTS="2000")
+        self.environment["CF_REQUESTS"] = "2000"
+        (self.made / "modules").mkdir()
+        if not self.compiled("whole", language.folder / SOURCE):
+            raise Missing("a C compiler with Python's headers")
+        for folder in self.folders:
+            shutil.copy2(self.made / "modules/whole", folder / "cf" / MODULE)
         self.etcd = threading.Lock()  # which one process uses at a time
         self.stores: Dict[str, str] = {}  # of each kind of server the address of one
         self.get_ready()
@@ -235,6 +240,26 @@ class Python(Client):
         store = f"{address.rpartition('/')[0]}/m{name}" if over == "postgresql" else address
         with self.etcd if over == "etcd" else threading.Lock():
             return run([sys.executable, RUNNER, *words], folder, {**self.environment, **more, "CF_STORES": store}, seconds)
+
+    def compiled(self, name: str, source: Path) -> bool:
+        folder = os.environ["CF_LIBRARY_DIR"]
+        command = [
+            "cc",
+            "-O1",
+            "-w",
+            "-fPIC",
+            "-shared",
+            f"-I{sysconfig.get_paths()['include']}",
+            f"-I{TOP}/crates/cf_c/include",
+            str(source),
+            "-Wl,--whole-archive",
+            f"{folder}/libcf.a",
+            "-Wl,--no-whole-archive",
+            "-pthread",
+            "-o",
+            str(self.made / "modules" / name),
+        ]
+        return run(command, self.made, self.environment, BUILDING)[0]
 
     def written_down(self, into: Path) -> Dict[str, str]:
         """What is written down, as a piece of the environment."""
@@ -318,18 +343,13 @@ class CModule(Python):
     """The C module of Python: each mutant is compiled, and its module stands in a seat's copy while it is tried."""
 
     def get_ready(self) -> None:
-        if not os.environ.get("CF_LIBRARY_DIR"):
-            raise Missing("no CF_LIBRARY_DIR")
-        self.environment["CF_NO_MODULE"] = ""
         self.programs = programs_of_python(self.language.folder, True)
-        self.module = "_cf" + sysconfig.get_config_var("EXT_SUFFIX")
-        (self.made / "modules").mkdir()
         source, self.many = reached.marked(self.text(SOURCE))
         (self.made / "marked.c").write_text(source, encoding="utf-8")
-        if not self.compiled("whole", self.language.folder / SOURCE) or not self.compiled("marked", self.made / "marked.c"):
+        if not self.compiled("marked", self.made / "marked.c"):
             raise Missing("a C compiler with Python's headers")
         for folder in self.folders:
-            shutil.copy2(self.made / "modules/marked", folder / "cf" / self.module)
+            shutil.copy2(self.made / "modules/marked", folder / "cf" / MODULE)
 
     def recorded(self, program: Program, over: str, total: str) -> List[reached.Test]:
         return [it._replace(is_whole=True) for it in super().recorded(program, over, total)]  # (a process writes down its marks to its end)
@@ -341,26 +361,6 @@ class CModule(Python):
     def reached_by(self, mutant: Mutant) -> Set[int]:
         return reached.block_of(mutant, self.text(mutant.file))
 
-    def compiled(self, name: str, source: Path) -> bool:
-        folder = os.environ["CF_LIBRARY_DIR"]
-        command = [
-            "cc",
-            "-O1",
-            "-w",
-            "-fPIC",
-            "-shared",
-            f"-I{sysconfig.get_paths()['include']}",
-            f"-I{TOP}/crates/cf_c/include",
-            str(source),
-            "-Wl,--whole-archive",
-            f"{folder}/libcf.a",
-            "-Wl,--no-whole-archive",
-            "-pthread",
-            "-o",
-            str(self.made / "modules" / name),
-        ]
-        return run(command, self.made, self.environment, BUILDING)[0]
-
     def build(self, mutants: Sequence[Mutant]) -> List[Mutant]:
         built = []
         for it in mutants:
@@ -370,10 +370,10 @@ class CModule(Python):
         return built
 
     def put(self, mutant: Mutant, seat: int) -> None:
-        shutil.copy2(self.made / "modules" / mutant.number, self.folders[seat] / "cf" / self.module)
+        shutil.copy2(self.made / "modules" / mutant.number, self.folders[seat] / "cf" / MODULE)
 
     def take_back(self, mutant: Mutant, seat: int) -> None:
-        shutil.copy2(self.made / "modules/whole", self.folders[seat] / "cf" / self.module)
+        shutil.copy2(self.made / "modules/whole", self.folders[seat] / "cf" / MODULE)
 
 
 class Java(Client):
