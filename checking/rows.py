@@ -478,7 +478,7 @@ def rows(tools: Tools, made: Path, is_gate: bool) -> List[Row]:
         Row("the edits that spoil the clients, read", ["python3"], [["sweeps/edits/clients", "--read"]]),
         *rows_of_mutants(tools, made),
         *rows_of_lint(),
-        Row("rows that fail beside rt ci", ["python3"], [[tools["python3"], "-m", "unittest", "checking.test_running"]]),
+        Row("rows that fail", ["python3"], [[tools["python3"], "-m", "unittest", "checking.test_running"]]),
         Row("what a program can check of the pages", ["python3"], [["sweeps/pages"]]),
         Row("where want of memory is told, and that nothing is kept from being freed", ["python3"], [["sweeps/memory"]]),
         Row("what of sweeps and conformance waits for a run", ["python3", "git"], [["sweeps/runs"]], is_shown=True),

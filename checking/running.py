@@ -1,32 +1,42 @@
 """Runs rows, some at a time, each as soon as what it needs is there, and counts how many passed."""
+import contextlib
 import difflib
 import subprocess
 import threading
 import time
 from pathlib import Path
-from typing import Callable, Dict, List, Optional, Sequence, Set, Tuple
+from typing import Callable, Dict, Iterator, List, Optional, Sequence, Set, Tuple, Union
 
 from checking.crates import TOP, below, own
 from checking.rows import Row, wanted
 from checking.tools import BUILDS_WHEELS, DEBIANS, Tools
 
-SECONDS = 600  # for a command of a row
-GATE_ENDED = "the end of rt ci"  # what a row waits for that failed beside rt ci
+SECONDS = 1200  # for a command of a row
+LAST = 30  # lines that are shown of what a failed command printed on each stream
+BY_CHANCE = 20  # if more rows than these fail, that isn't chance; all rows over a jar fail with it
 IN_TURN = [DEBIANS, "cargo", "JDK of 17 or later", BUILDS_WHEELS]  # rows that need one of these share files
+
+
+def last_of(printed: Union[bytes, str, None]) -> List[str]:
+    """The last lines of what a command printed: there a suite tells which test failed."""
+    lines = (printed.decode(errors="replace") if isinstance(printed, bytes) else printed or "").rstrip().splitlines()
+    return lines if len(lines) <= LAST else [f"({len(lines) - LAST} lines are left out)", *lines[-LAST:]]
 
 
 def run(commands: Sequence[Sequence[str]], environment: dict, seconds: Optional[int]) -> Tuple[str, str]:
     """What the last command prints, and what went wrong: nothing where each ended with status 0."""
     output = ""
     for command in commands:
-        pipes = {"stdout": subprocess.PIPE, "stderr": subprocess.PIPE, "universal_newlines": True}
+        pipes = {"stdout": subprocess.PIPE, "stderr": subprocess.PIPE, "universal_newlines": True, "errors": "replace"}
         try:
             done = subprocess.run(command, cwd=str(TOP), env=environment, timeout=seconds, **pipes)
-        except (OSError, subprocess.TimeoutExpired) as error:
+        except subprocess.TimeoutExpired as error:
+            return output, "\n".join([f"{command[0]} hasn't ended after {seconds} s", *last_of(error.stdout), *last_of(error.stderr)])
+        except OSError as error:
             return output, str(error)
         output = done.stdout
         if done.returncode != 0:
-            return output, f"{command[0]} ended with status {done.returncode}\n{done.stdout}{done.stderr}".rstrip()
+            return output, "\n".join([f"{command[0]} ended with status {done.returncode}", *last_of(done.stdout), *last_of(done.stderr)])
     return output, ""
 
 
@@ -44,38 +54,71 @@ def wrong(row: Row, environment: dict) -> str:
     return "\n".join(difflib.unified_diff(text.splitlines(), output.splitlines(), folder, "printed", lineterm=""))
 
 
+def in_a_line(fault: str) -> str:
+    """The first line of what is wrong, and the last, which names the test."""
+    first, *_, last = fault.splitlines() * 2
+    return first if first == last else f"{first}: {last.strip()}"
+
+
 class Counts:
     def __init__(self) -> None:
         self.passed = self.failed = 0
+        self.summary: List[str] = []  # of what failed
         self.lock = threading.Lock()
         self.is_idle = threading.Event()  # no gate is at work
         self.is_idle.set()
+        self.at_work: List[threading.Event] = []  # for each row that is: whether another was beside it
 
     def add(self, name: str, fault: str, began: Optional[float] = None) -> None:
         took = "" if began is None else f" ({time.monotonic() - began:.0f} s)"
         with self.lock:
             self.passed += not fault
             self.failed += bool(fault)
+            self.summary += [f"failed: {name}: {in_a_line(fault)}"] if fault else []
             print(f"FAILED {name}{took}: {fault}" if fault else f"passed {name}{took}", flush=True)
 
-    def try_row(self, name: str, fault_of: Callable[[], str]) -> Optional[str]:
-        """Runs a row, and answers what is wrong. If it fails beside the gate, which may leave it too little time or memory, that doesn't
-        count. The answer is None then: the row is to be run again after the gate."""
+    @contextlib.contextmanager
+    def work(self) -> Iterator[threading.Event]:
+        """Is entered while a row is at work, and tells whether another was at any moment, or the gate."""
+        mine = threading.Event()
+        with self.lock:
+            self.at_work.append(mine)
+            if len(self.at_work) > 1 or not self.is_idle.is_set():
+                for it in self.at_work:
+                    it.set()
+        try:
+            yield mine
+        finally:
+            with self.lock:
+                self.at_work.remove(mine)
+
+    def try_row(self, name: str, fault_of: Callable[[], str]) -> Tuple[str, bool]:
+        """Runs a row. Answers what is wrong, and whether that counts: not if it failed beside others, or the gate, which may leave it too little
+        time or memory. Then it is to be run again."""
+        began = time.monotonic()
+        with self.work() as was_beside:
+            fault = fault_of()
+        if fault and was_beside.is_set():
+            print(f"check: {name} failed beside others after {time.monotonic() - began:.0f} s, and is run again: {fault}", flush=True)
+            return fault, False
+        self.add(name, fault, began)
+        return fault, True
+
+    def try_again(self, name: str, before: str, fault_of: Callable[[], str]) -> str:
+        """Runs a row once more with which something was wrong before. Answers what is wrong now: that counts."""
         began = time.monotonic()
         fault = fault_of()
-        if fault and not self.is_idle.is_set():
-            print(f"check: {name} failed beside rt ci, and is run again once that has ended: {fault}", flush=True)
-            return None
         self.add(name, fault, began)
+        self.summary += [] if fault else [f"passed when run again, failed beside others: {name}: {in_a_line(before)}"]
         return fault
 
-    def try_until_sure(self, name: str, fault_of: Callable[[], str]) -> str:
-        """The same for a row that others need: it waits for the gate's end itself."""
-        fault = self.try_row(name, fault_of)
-        if fault is not None:
-            return fault
-        self.is_idle.wait()
-        return self.try_until_sure(name, fault_of)
+    def try_needed(self, name: str, fault_of: Callable[[], str]) -> str:
+        """Runs a row that others need, and answers what is wrong. It isn't left for the end: it is run again once the gate has ended."""
+        fault, counts = self.try_row(name, fault_of)
+        if not counts:
+            self.is_idle.wait()
+            fault = self.try_again(name, fault, fault_of)
+        return fault
 
 
 class Proved:
@@ -125,6 +168,7 @@ class Rows:
             groups.setdefault(next((tool for tool in IN_TURN if tool in row.needs), row.name), []).append(row)
         self.free = sorted(groups.values(), key=len, reverse=True)  # none of whose rows is at work
         self.left = len(every)
+        self.failed: List[Tuple[Row, str]] = []  # beside others, with what was wrong
         self.tools = tools
         self.awaited = set(awaited)
         self.changed = threading.Condition()
@@ -153,13 +197,10 @@ class Rows:
         with self.changed:
             self.changed.wait_for(lambda: name not in self.awaited)
 
-    def put_back(self, group: List[Row], failed: Sequence[Row] = ()) -> None:
-        """Takes what is left of a group, and of its rows those that failed beside rt ci, which come last and wait for its end."""
+    def put_back(self, group: List[Row]) -> None:
+        """Takes what is left of a group."""
         with self.changed:
-            self.left += len(failed)
-            left = [*group, *(row._replace(needs=[*row.needs, GATE_ENDED]) for row in failed)]
-            if left:
-                self.free.insert(0, left)
+            self.free[:0] = [group] if group else []
             self.changed.notify_all()
 
 
@@ -174,11 +215,22 @@ def run_rows(rows_left: Rows, environment: dict, counts: Counts, is_beside: bool
             return
         row, *rest = group
         missing = [name for name in row.needs if not rows_left.tools.found.get(name)]
-        failed: List[Row] = []
         try:
             if missing:
                 print(f"left out {row.name}: no {', no '.join(missing)}", flush=True)
-            elif counts.try_row(row.name, lambda row=row: wrong(row, environment)) is None:
-                failed = [row]
+                continue
+            fault, is_counted = counts.try_row(row.name, lambda row=row: wrong(row, environment))
+            rows_left.failed += [] if is_counted else [(row, fault)]
         finally:
-            rows_left.put_back(rest, failed)
+            rows_left.put_back(rest)
+
+
+def run_again(rows_left: Rows, environment: dict, counts: Counts) -> None:
+    """Runs the rows that failed beside others, one after another, once nothing else is at work. Many rows don't fail by chance, so if many did,
+    that counts."""
+    counts.is_idle.wait()
+    for row, fault in rows_left.failed:
+        if len(rows_left.failed) > BY_CHANCE:
+            counts.add(row.name, fault)
+        else:
+            counts.try_again(row.name, fault, lambda row=row: wrong(row, environment))
