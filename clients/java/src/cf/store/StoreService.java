@@ -747,12 +747,13 @@ public final class StoreService implements AutoCloseable {
         }
         failAbandoned(request);
         putRelays(request);
-        for (ClaimedTask task = nextTask(request); task != null;) {
-            boolean isWithin = task.exception == null && task.function.takes == Functions.Takes.CONNECTION;
-            ClaimedTask next = isWithin ? runInTransaction(request, task) : finishAndClaim(request, callFunction(request, task, null));
-            task = next == null ? nextTask(request) : next;
-        }
-        putRelays(request);
+        do {
+            for (ClaimedTask task = nextTask(request); task != null;) {
+                boolean isWithin = task.exception == null && task.function.takes == Functions.Takes.CONNECTION;
+                ClaimedTask next = isWithin ? runInTransaction(request, task) : finishAndClaim(request, callFunction(request, task, null));
+                task = next == null ? nextTask(request) : next;
+            }
+        } while (putRelays(request)); // (which may make stages ready)
         int words = request.withView(view -> isFinished(view) ? view.wordCount() : -1); // (another thread may be reading a word)
         if (words >= 0 && store.end(request.name, request.number, words)) {
             tellEnd(request);
@@ -781,13 +782,16 @@ public final class StoreService implements AutoCloseable {
         });
     }
 
-    private static void putRelays(StoredRequest request) {
-        boolean isLeft = true;
-        while (isLeft) {
-            isLeft = !request.act(view -> {
+    /** Puts the words that are due of relays, and says whether there were any. */
+    private static boolean putRelays(StoredRequest request) {
+        for (int put = 0;; put++) {
+            boolean isLeft = !request.act(view -> {
                 RowView.WantedWord wanted = view.relayWord();
                 return wanted == null ? Collections.emptyList() : Collections.singletonList(wanted);
             }).isEmpty();
+            if (!isLeft) {
+                return put > 0;
+            }
         }
     }
 

@@ -240,6 +240,7 @@ public final class AllTests {
             overDatabase(StoresTest.InFile::new, "SQLite", "file");
             over(StoresTest.InFile::new, "who reads many requests at first", StoreFaultsTest::beats);
             over(StoresTest.InFile::new, "what is there as a request is first met", StoreFaultsTest::beginsAtOnce);
+            over(StoresTest.InFile::new, "what a relay makes ready", StoreFaultsTest::relaysAtOnce);
             over(StoresTest.InFile::new, "a process that comes back", StoreFaultsTest::comesBack);
             over(StoresTest.InFile::new, "a session's name", StoreFaultsTest::namesItself);
             over(StoresTest.InFile::new, "open requests that stay known", StoreFaultsTest::keepsOpen);
@@ -349,6 +350,7 @@ public final class AllTests {
             test.run();
         } catch (Throwable thrown) {
             new AssertionError(name, thrown).printStackTrace();
+            System.err.println("failed: " + name + ": " + thrown);
             System.exit(1); // Threads of the test's mustn't hold the process up.
         }
         tests++;

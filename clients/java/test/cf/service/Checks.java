@@ -12,6 +12,7 @@ import java.nio.file.Path;
 import java.nio.file.Paths;
 import java.util.Arrays;
 import java.util.Objects;
+import java.util.concurrent.Callable;
 import java.util.concurrent.CompletableFuture;
 import java.util.concurrent.CompletionStage;
 import java.util.concurrent.CountDownLatch;
@@ -74,6 +75,16 @@ public final class Checks {
             throw new AssertionError("another exception", thrown);
         }
         throw new AssertionError("no " + kind.getSimpleName());
+    }
+
+    /** Waits until something is so: as long as a slow machine may need, and no longer than a minute. */
+    public static void until(Callable<Boolean> isSo) throws Exception {
+        for (long began = System.nanoTime(); !isSo.call();) {
+            if (System.nanoTime() - began > 60_000_000_000L) {
+                throw new AssertionError("it isn't so after a minute");
+            }
+            Thread.sleep(1);
+        }
     }
 
     static void await(CountDownLatch latch) {

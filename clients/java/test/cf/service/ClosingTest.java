@@ -168,7 +168,7 @@ final class ClosingTest {
             world.atEnd(() -> closing.history().stages() == 6, "all are in the history");
             world.atEnd(() -> !closing.history().toString().contains("settles claims 3 apply"), "an executor's function is called by a worker");
             world.settles(linked, async);
-        }).seconds(60).whole().check();
+        }).seconds(600).whole().check();
     }
 
     /** All open stages are cancelled, so that no function behind them is called; one that runs goes on, and comes too late. */
@@ -195,11 +195,8 @@ final class ClosingTest {
         is(done.join(), 1);
         is(request.completedFuture(3).join(), 3);
         may.countDown();
-        for (int k = 0; k < 2000 && !request.history().toString().contains("too late"); k++) {
-            Thread.sleep(10);
-        }
+        Checks.until(() -> request.history().toString().contains("too late"));
         is(called, Collections.singletonList("runs"));
-        is(request.history().toString().contains("too late"), true);
         Flow flow = new Flow("cancelled");
         Flow.Step<Integer> first = flow.promise(), second = first.handle((value, error) -> 1);
         Request started = SERVICE.start(flow);
@@ -323,7 +320,7 @@ final class ClosingTest {
             world.calls("the client hangs up", last, it -> it.cancel(true));
             world.check(() -> !last.isDone() || rest.isDone(), "the rest is cancelled");
             world.atEnd(() -> sent.size() == 1 && seen.add(sent.get(0) + " " + rest.isCancelled()) | true, "the answer is sent");
-        }).seconds(60).whole().check();
+        }).seconds(600).whole().check();
         is(seen.size(), 8);
     }
 

@@ -164,11 +164,10 @@ final class DescribeTest {
         // A history that tells less holds less.
         List<WeakReference<Object>> held = new ArrayList<>();
         History history = held(held);
-        for (int k = 0; k < 100 && (held.get(0).get() != null || held.get(1).get() != null); k++) {
+        Checks.until(() -> {
             System.gc();
-            Thread.sleep(5);
-        }
-        is(held.get(0).get() == null && held.get(1).get() == null, true);
+            return held.get(0).get() == null && held.get(1).get() == null;
+        });
         is(history.toString().contains("ends: java.lang.Object") && history.account().contains("\"values\":[\"java.lang.Object\"]"), true);
     }
 

@@ -80,15 +80,11 @@ final class FreeingTest {
 
     /** Waits until nothing keeps them. */
     private static void awaitFreed(List<WeakReference<Object>> mayBeFreed) throws Exception {
-        for (int k = 0; k < 200; k++) {
+        Checks.until(() -> {
             System.gc();
             mayBeFreed.removeIf(each -> each.get() == null);
-            if (mayBeFreed.isEmpty()) {
-                return;
-            }
-            Thread.sleep(5);
-        }
-        throw new AssertionError(mayBeFreed.size() + " values are kept");
+            return mayBeFreed.isEmpty();
+        });
     }
 
     /** However many hang on one stage, the next one takes no more for that. */
@@ -133,21 +129,14 @@ final class FreeingTest {
         awaitFreed(mayBeFreed);
         keptStages.get(1).cancel(true);
         keptStages.get(2).complete(null);
-        for (int k = 0; k < 2000 && Clock.TIMER.getQueue().size() > timers; k++) {
-            Thread.sleep(5);
-        }
-        is(Clock.TIMER.getQueue().size() <= timers, true);
+        Checks.until(() -> Clock.TIMER.getQueue().size() <= timers);
     }
 
     /** Requests that nobody closed are freed, in the heap and outside. */
     static void unreachable() throws Exception {
         int count = Integer.getInteger("test.requests", 30_000);
         WeakReference<Object> mayBeFreed = new WeakReference<>(dropped());
-        for (int k = 0; k < 100 && mayBeFreed.get() != null; k++) {
-            System.gc();
-            Thread.sleep(5);
-        }
-        is(mayBeFreed.get(), null);
+        awaitFreed(new ArrayList<>(Arrays.asList(mayBeFreed)));
         requests(count / 10);
         long before = resident();
         requests(count);
@@ -251,9 +240,7 @@ final class FreeingTest {
         is(Machine.liveCores() >= 9000, true);
         int own = collectors.size();
         System.gc();
-        for (int k = 0; k < 4000 && (asked.get() == 0 || told.get() < collections(collectors) - before); k++) {
-            Thread.sleep(5);
-        }
+        Checks.until(() -> asked.get() > 0 && told.get() >= collections(collectors) - before);
         is(asked.get() >= 1 && asked.get() <= own, true);
         is(open.get(0).completedFuture(1).join(), 1);
         for (Request each : open) {
@@ -296,12 +283,11 @@ final class FreeingTest {
         for (int k = 0; k < 200; k++) {
             INLINE.start(flow);
         }
-        for (int k = 0; k < 200 && Machine.liveCores() > live + 100; k++) {
+        Checks.until(() -> {
             System.gc();
-            Thread.sleep(5);
             open.add(INLINE.request("open"));
-        }
-        is(Machine.liveCores() <= live + 100, true);
+            return Machine.liveCores() <= live + 100;
+        });
         open.forEach(Request::close);
     }
 }

@@ -42,7 +42,7 @@ public final class HostileTest {
         command.addAll(Arrays.asList("-cp", System.getProperty("java.class.path"), main, what));
         Path told = Files.createTempFile("hostile", ".txt");
         Process process = new ProcessBuilder(command).redirectErrorStream(true).redirectOutput(told.toFile()).start();
-        boolean ended = process.waitFor(100, TimeUnit.SECONDS);
+        boolean ended = process.waitFor(400, TimeUnit.SECONDS);
         process.destroyForcibly();
         String text = new String(Files.readAllBytes(told), StandardCharsets.UTF_8);
         Files.delete(told);

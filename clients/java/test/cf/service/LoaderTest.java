@@ -81,12 +81,11 @@ final class LoaderTest {
     }
 
     private static void gone(List<WeakReference<ClassLoader>> loaders) throws Exception {
-        for (int k = 0; k < loaders.size(); k++) {
-            for (int n = 0; n < 400 && loaders.get(k).get() != null; n++) {
+        for (WeakReference<ClassLoader> loader : loaders) {
+            Checks.until(() -> {
                 System.gc();
-                Thread.sleep(n < 100 ? 5 : 50);
-            }
-            is("loader " + k + " is there: " + (loaders.get(k).get() != null), "loader " + k + " is there: false");
+                return loader.get() == null;
+            });
         }
     }
 

@@ -122,10 +122,10 @@ final class MeterTest {
         for (String name : Arrays.asList("open_requests", "running_functions", "ready_functions", "open_promises")) {
             is(it.values(name), Arrays.asList("1"));
         }
-        Thread.sleep(600);
-        is(it.meter.getOldestReadySeconds() > 0.5 && it.meter.getOldestRequestSeconds() > 0.5, true);
-        is(Double.parseDouble(it.values("oldest_ready_seconds").get(0)) > 0.5, true);
-        is(Double.parseDouble(it.values("oldest_request_seconds").get(0)) > 0.5, true);
+        Thread.sleep(1100);
+        is(it.meter.getOldestReadySeconds() > 1 && it.meter.getOldestRequestSeconds() > 1, true);
+        is(Double.parseDouble(it.values("oldest_ready_seconds").get(0)) > 1, true);
+        is(Double.parseDouble(it.values("oldest_request_seconds").get(0)) > 1, true);
         elsewhere.complete(4);
         slow.cancel(true);
         is(it.open(), Arrays.asList("order, open for T: 0 slow is settled, and its function has run on for T, on worker; 2 queued" + READY));
@@ -136,12 +136,12 @@ final class MeterTest {
         is(it.open(), Arrays.asList());
         request.close();
         it.awaitEnded(1);
-        // One of each took over half a second: slow, the time for which queued was ready, the promise elsewhere, and the request.
+        // One of each took over a second: slow, the time for which queued was ready, the promise elsewhere, and the request.
         for (String each : Arrays.asList("function 4 5", "queue 4 5", "wait 1 2", "request 0 1")) {
             String[] wanted = each.split(" ");
             List<String> found = it.values(wanted[0] + "_seconds_bucket");
-            is(Arrays.asList(found.get(5), found.get(10)), Arrays.asList("{le=\"0.5\"} " + wanted[1], "{le=\"+Inf\"} " + wanted[2]));
-            is(Double.parseDouble(it.values(wanted[0] + "_seconds_sum").get(0)) > 0.5, true);
+            is(Arrays.asList(found.get(6), found.get(10)), Arrays.asList("{le=\"1\"} " + wanted[1], "{le=\"+Inf\"} " + wanted[2]));
+            is(Double.parseDouble(it.values(wanted[0] + "_seconds_sum").get(0)) > 1, true);
         }
     }
 

@@ -95,7 +95,7 @@ final class RacesTest {
                 return seen.add(end) || true;
             }, "all see the same end, and the history has it once");
             world.settles(behind);
-        }).seconds(60).whole().check();
+        }).seconds(600).whole().check();
         is(seen, new HashSet<>(Arrays.asList("completed", "IllegalStateException", "CancellationException", "TimeoutException")));
     }
 
@@ -179,7 +179,9 @@ final class RacesTest {
                 Request racing = SERVICE.request().continueInNext();
                 List<Stage<Integer>> made = new ArrayList<>();
                 while (!raced.isDone()) {
-                    made.add(racing.adopt(raced));
+                    if (made.size() < 10_000) { // (while the other thread is held up, these would fill the memory)
+                        made.add(racing.adopt(raced));
+                    }
                 }
                 hung.set(made);
             }

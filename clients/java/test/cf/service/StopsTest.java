@@ -133,7 +133,7 @@ public final class StopsTest {
             VirtualMachine machine = listens.accept(arguments);
             listens.stopListening(arguments);
             int stops = new StopsTest().lead(machine);
-            is(process.waitFor(20, TimeUnit.SECONDS), true);
+            is(process.waitFor(60, TimeUnit.SECONDS), true);
             String text = new String(Files.readAllBytes(told), StandardCharsets.UTF_8);
             is(text + "status " + process.exitValue(), "survived " + stops + " stops\nstatus 0");
             is(stops > 300, true);

@@ -321,7 +321,7 @@ final class TimeoutsTest {
                 is(said.split("0 supply ends", -1).length, 2);
                 return seen.add(slow.join() + " " + ran) || true;
             }, "the first ends it, and the history tells who was late");
-        }).seconds(60).whole().check();
+        }).seconds(600).whole().check();
         is(seen, new HashSet<>(Arrays.asList("early []", "early [called]", "late [called]")));
         Request timed = SERVICE.request();
         ExecutionException told = thrown(ExecutionException.class, () -> timed.promise().orTimeout(1, TimeUnit.MILLISECONDS).get());

@@ -11,6 +11,7 @@ import java.io.IOException;
 import java.io.InputStream;
 import java.io.InputStreamReader;
 import java.io.OutputStream;
+import java.net.BindException;
 import java.net.InetAddress;
 import java.net.ServerSocket;
 import java.net.Socket;
@@ -23,6 +24,7 @@ import java.util.Collections;
 import java.util.Comparator;
 import java.util.List;
 import java.util.Map;
+import java.util.concurrent.ThreadLocalRandom;
 import java.util.concurrent.TimeUnit;
 import java.util.concurrent.atomic.AtomicInteger;
 
@@ -39,12 +41,12 @@ public final class EtcdTest {
             "def two(value, error): return [value, str(error)]",
             "store = connect(sys.argv[2])",
             "if sys.argv[1] == 'works':",
-            "    Worker(store, functions, 2, lease=2).run()",
+            "    Worker(store, functions, 2, lease=60).run()",
             "    sys.exit()",
             "flow = Flow('sum')",
             "number = flow.promise('number')",
             "last = number.then(inc).then(inc)",
-            "with DurableService(store, 0, functions=functions, lease=2) as service:",
+            "with DurableService(store, 0, functions=functions, lease=60) as service:",
             "    request = service.start(flow, 40, name='caf\\u00e9/*+~ of python')",
             "    print(request[last].or_timeout(60).result(), flush=True)",
             "    request.promise('thanks').complete({'from': 'python'})");
@@ -59,12 +61,6 @@ public final class EtcdTest {
         return StoresTest.onPath("python3") && System.getenv("CF_LIBRARY") != null && new File("clients/python/cf/store").isDirectory();
     }
 
-    private static int freePort() throws IOException {
-        try (ServerSocket any = new ServerSocket(0, 1, InetAddress.getLoopbackAddress())) {
-            return any.getLocalPort();
-        }
-    }
-
     /** A cluster of one member. */
     public static final class Server implements StoresTest.Place {
         final int port = freePort();
@@ -73,6 +69,17 @@ public final class EtcdTest {
 
         public Server() throws IOException {
             start();
+        }
+
+        /** The kernel gives no port below 32,768 to who connects, so one that is free stays so. */
+        private static int freePort() throws IOException {
+            while (true) {
+                try (ServerSocket any = new ServerSocket(ThreadLocalRandom.current().nextInt(10_000, 32_768), 1, InetAddress.getLoopbackAddress())) {
+                    return any.getLocalPort();
+                } catch (BindException taken) {
+                    // Another one is tried.
+                }
+            }
         }
 
         void start() throws IOException {
@@ -236,15 +243,13 @@ public final class EtcdTest {
             Object mark = store.news(null).mark;
             is(store.news(mark).ends, Collections.emptyMap());
             store.awaitChange(1000); // (it begins to watch)
-            long began = System.nanoTime();
-            store.awaitChange(200);
-            is(System.nanoTime() - began >= 190_000_000, true);
+            StoreFaultsTest.quiet(store, 200);
             Thread puts = new Thread(() -> {
                 other.open("second", "{}");
                 other.append(put(first, 0, -1, 1, 1));
             });
             puts.start();
-            began = System.nanoTime();
+            long began = System.nanoTime();
             for (int k = 0; k < 2 && store.news(mark).ends.getOrDefault("first", 0) == 0; k++) {
                 store.awaitChange(29_000);
             }
@@ -322,7 +327,7 @@ public final class EtcdTest {
         try (StoreService works = StoresTest.service(server, functions, 2, true);
                 BufferedReader said = new BufferedReader(new InputStreamReader(begins.getInputStream(), StandardCharsets.UTF_8))) {
             is(said.readLine(), "42");
-            is(begins.waitFor(30, TimeUnit.SECONDS), true);
+            is(begins.waitFor(60, TimeUnit.SECONDS), true);
             is(begins.exitValue(), 0);
             StoredRequest request = works.open("caf\u00e9/*+~ of python");
             is(StoresTest.end(request.stage("thanks")), Collections.singletonMap("from", "python"));

@@ -3,6 +3,7 @@ package cf.store;
 import static cf.service.Checks.fits;
 import static cf.service.Checks.is;
 import static cf.service.Checks.thrown;
+import static cf.service.Checks.until;
 
 import cf.internal.Host;
 import cf.internal.Words;
@@ -43,7 +44,7 @@ public final class StoredFunctionsTest {
             return null;
         });
         try (StoreService service = StoresTest.service(() -> JdbcStore.open(args[0]), functions)) {
-            service.open("dies").stage(0).get(30, TimeUnit.SECONDS);
+            service.open("dies").stage(0).get(60, TimeUnit.SECONDS);
         }
     }
 
@@ -98,13 +99,11 @@ public final class StoredFunctionsTest {
                 byte[] said = why == null ? null : Json.write(new RemoteException("BadAnswer", why).toMap());
                 StoredStage name = request.promise("name"), asks = name.compose("asks");
                 name.complete("asked " + why);
-                while (request.stage("asked " + why) == null) {
-                    Thread.sleep(1);
-                }
+                until(() -> request.stage("asked " + why) != null);
                 int asked = request.stage("asked " + why).number();
                 view.catchUp();
                 view.act(it -> Collections.singletonList(new RowView.WantedWord(Words.failAs(0, asked, Words.BAD_ANSWER, 0), said)));
-                is(thrown(ExecutionException.class, () -> asks.get(20, TimeUnit.SECONDS)).getCause().getClass(), IllegalStateException.class);
+                is(thrown(ExecutionException.class, () -> asks.get(60, TimeUnit.SECONDS)).getCause().getClass(), IllegalStateException.class);
                 long[] words = request.history().words();
                 int found = 0;
                 for (int k = 0; k < words.length; k++) {
@@ -244,7 +243,7 @@ public final class StoredFunctionsTest {
         String[] command = {java, "-cp", System.getProperty("java.class.path"), StoredFunctionsTest.class.getName(), file.url()};
         is(new ProcessBuilder(command).inheritIO().start().waitFor(), 7);
         is(effects(file), Collections.emptyList());
-        try (StoreService service = StoresTest.service(file, functions)) {
+        try (StoreService service = StoresTest.hasty(file, functions)) {
             is(StoresTest.end(service.open("dies").stage(again)), "paid");
             is(effects(file), Arrays.asList("once"));
         }
@@ -268,9 +267,8 @@ public final class StoredFunctionsTest {
                 thrown(StoreException.class, () -> store.beat(1)); // (this thread has the file)
             }
             is(new ProcessBuilder("flock", "-n", line, "true").start().waitFor(), 0);
-            Process has = new ProcessBuilder("flock", line, "sh", "-c", "echo has; sleep 0.7").start();
+            Process has = new ProcessBuilder("flock", line, "sh", "-c", "echo has; read end; true").start();
             is(has.getInputStream().read(), (int) 'h');
-            long began = System.nanoTime();
             thrown(StoreException.Unknown.class, () -> gives.lockWithin(0)); // (who waits in its place lets go by itself)
             List<Thread> beats = new ArrayList<>();
             for (int k = 0; k < 3; k++) {
@@ -278,14 +276,18 @@ public final class StoredFunctionsTest {
                 beats.add(new Thread(() -> (session == 0 ? other : store).beat(session)));
                 beats.get(k).start();
             }
+            Thread.sleep(500);
+            for (Thread thread : beats) {
+                is(thread.isAlive(), true);
+            }
+            has.getOutputStream().close();
             for (Thread thread : beats) {
                 thread.join();
             }
-            is(System.nanoTime() - began > 500_000_000, true);
             is(has.waitFor(), 0);
             is(store.beats().size(), 3);
-            is(new ProcessBuilder("flock", "-w", "5", line, "true").start().waitFor(), 0);
-            gives.lockWithin(5);
+            is(new ProcessBuilder("flock", "-w", "60", line, "true").start().waitFor(), 0);
+            gives.lockWithin(60);
             gives.close(); // (it is this thread's turn still)
             is(new ProcessBuilder("flock", "-n", line, "true").start().waitFor(), 1);
             is(opened(line), 3L);
@@ -468,10 +470,7 @@ public final class StoredFunctionsTest {
             is(StoresTest.end(wider.stage(end)), null);
             is(StoresTest.end(wider.stage(promises[69])), 69L);
             is(StoresTest.end(wider.stage(promises[68])), null);
-            for (int k = 0; k < 200 && service.store.news(null).ends.containsKey("wide"); k++) {
-                Thread.sleep(10); // (it is closed by itself)
-            }
-            is(service.store.news(null).ends.containsKey("wide"), false);
+            until(() -> !service.store.news(null).ends.containsKey("wide")); // (it is closed by itself)
         }
     }
 

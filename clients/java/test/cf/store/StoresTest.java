@@ -2,6 +2,7 @@ package cf.store;
 
 import static cf.service.Checks.is;
 import static cf.service.Checks.thrown;
+import static cf.service.Checks.until;
 
 import cf.internal.Host;
 import cf.internal.Words;
@@ -48,7 +49,10 @@ import java.util.stream.Collectors;
 
 /** Requests in a file of SQLite's, for which a driver of JDBC's has to be on the class path; and JSON. */
 public final class StoresTest {
-    private static final int LEASE = 500; // milliseconds
+    /** In milliseconds: nobody is taken for gone, however slow the machine is. */
+    private static final int LEASE = 60_000;
+    /** Of who is to find soon that somebody is gone, or that a request is closed. Nobody else may run a function meanwhile. */
+    private static final int SHORT_LEASE = 500;
 
     private StoresTest() {}
 
@@ -58,7 +62,7 @@ public final class StoresTest {
             Runtime.getRuntime().halt(7);
             return number;
         }))) {
-            service.open("dies").stage(1).get(30, TimeUnit.SECONDS);
+            service.open("dies").stage(1).get(60, TimeUnit.SECONDS);
         }
     }
 
@@ -164,6 +168,10 @@ public final class StoresTest {
         return StoreService.builder(place.open(), functions).threads(threads).lease(LEASE, TimeUnit.MILLISECONDS).takesAll(takesAll).build();
     }
 
+    static StoreService hasty(Place place, Functions functions) {
+        return StoreService.builder(place.open(), functions).lease(SHORT_LEASE, TimeUnit.MILLISECONDS).build();
+    }
+
     /** A store of which this sees each call first. What it gives that isn't null is the answer. */
     static Store seen(Store store, BiFunction<String, Object[], Object> sees) {
         return (Store) Proxy.newProxyInstance(Store.class.getClassLoader(), new Class<?>[] {Store.class}, (proxy, method, args) -> {
@@ -178,7 +186,7 @@ public final class StoresTest {
 
     static Object end(StoredStage stage) throws Exception {
         try {
-            return stage.get(30, TimeUnit.SECONDS);
+            return stage.get(120, TimeUnit.SECONDS);
         } catch (ExecutionException ended) {
             return ended.getCause();
         }
@@ -251,7 +259,7 @@ public final class StoresTest {
             Object[] told = new Object[puts.size()];
             List<Thread> threads = new ArrayList<>();
             int before = store.commits;
-            line.lockWithin(5);
+            line.lockWithin(60);
             for (int k = 0; k < told.length; k++) {
                 int its = k;
                 Thread thread = new Thread(() -> {
@@ -358,14 +366,14 @@ public final class StoresTest {
     }
 
     public static void closed(Place place) throws Exception {
-        try (Store store = place.open(); StoreService service = service(place, new Functions().with("inc", 1, number -> (Long) number + 1))) {
+        try (Store store = place.open(); StoreService service = hasty(place, new Functions().with("inc", 1, number -> (Long) number + 1))) {
             StoredRequest request = service.request("closed");
             StoredStage number = request.promise("number");
             number.complete(1);
             is(store.news(null).ends.containsKey("closed"), true);
             request.end();
             is(store.news(null).ends.containsKey("closed"), false);
-            Thread.sleep(300); // (the service lets it go by then)
+            until(() -> service.findServed("closed") == null); // (the service lets it go)
             StoredStage inc = number.then("inc");
             is(store.news(null).ends.containsKey("closed"), true);
             is(end(inc), 2L);
@@ -441,10 +449,7 @@ public final class StoresTest {
         flow.promise("given");
         try (StoreService service = StoreService.builder(dying, new Functions()).lease(1000, TimeUnit.SECONDS).build(); Store other = place.open()) {
             StoredRequest over = service.start(flow, "over", 1), plain = service.request("plain");
-            for (int k = 0; other.news(null).ends.containsKey("over"); k++) {
-                is(k < 2000, true);
-                Thread.sleep(10);
-            }
+            until(() -> !other.news(null).ends.containsKey("over"));
             is(other.end("plain", plain.number, 0), true);
             dies.set(true);
             for (StoredRequest each : Arrays.asList(over, plain)) {
@@ -479,16 +484,10 @@ public final class StoresTest {
         try (StoreService service = StoreService.builder(silent, functions).threads(2).lease(500, TimeUnit.MILLISECONDS).host(hasty).build();
                 Store other = place.open()) {
             StoredRequest request = service.start(flow, "silent", 1);
-            for (int k = 0; other.news(null).ends.containsKey("silent"); k++) {
-                is(k < 2000, true);
-                Thread.sleep(10);
-            }
+            until(() -> !other.news(null).ends.containsKey("silent"));
             isSilent.set(true);
             thrown(StoreException.Unknown.class, () -> request.supply("inc", 1));
-            for (int k = 0; request.stage(1) == null; k++) {
-                is(k < 2000, true);
-                Thread.sleep(10);
-            }
+            until(() -> request.stage(1) != null);
             is(end(request.stage(1)), 2L);
         }
     }
@@ -521,7 +520,7 @@ public final class StoresTest {
                     new RowView.WantedWord(Words.cancel(0, 1), null)));
             is(other.end("told", view.opened.number, 2), true);
             looks.set(true);
-            thrown(CancellationException.class, () -> last.get(10, TimeUnit.SECONDS));
+            thrown(CancellationException.class, () -> last.get(60, TimeUnit.SECONDS));
         }
     }
 
@@ -595,7 +594,7 @@ public final class StoresTest {
         String java = System.getProperty("java.home") + "/bin/java";
         Process child = new ProcessBuilder(java, "-cp", System.getProperty("java.class.path"), StoresTest.class.getName(), file.url()).inheritIO().start();
         is(child.waitFor(), 7);
-        try (StoreService service = service(file, functions)) {
+        try (StoreService service = hasty(file, functions)) {
             StoredRequest request = service.open("dies");
             is(remote(request.stage(once)).getMessage(), "Abandoned: the worker that ran inc is gone, and it may have run");
             is(end(request.stage(again)), 2L);
@@ -790,10 +789,7 @@ public final class StoresTest {
                 is(end(inc), 2L);
                 service.serve(first);
                 old.add(new Store.Timer("again", first.number, later.number(), 0, new byte[] {'N'}));
-                for (int looks = 0; !old.isEmpty(); looks++) {
-                    is(looks < 4000, true);
-                    Thread.sleep(5);
-                }
+                until(old::isEmpty);
                 is(service.findServed("again") == second, true);
                 is(other.open("again").stage(later.number()).complete(1), true);
                 is(end(last), 2L);

@@ -91,7 +91,7 @@ public final class Asked {
 
     private Orders orders(boolean counts) {
         Question[] now = new Question[1];
-        return Orders.of(world -> now[0] = new Question(world, counts)).freeClock().failures(Integer.MAX_VALUE).asFound().seconds(60)
+        return Orders.of(world -> now[0] = new Question(world, counts)).freeClock().failures(Integer.MAX_VALUE).asFound().seconds(600)
                 .ends(world -> now[0].end());
     }
 

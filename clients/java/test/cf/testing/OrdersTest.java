@@ -312,7 +312,7 @@ public final class OrdersTest {
     }
 
     private static Report everyFailure(Orders orders) {
-        return orders.seconds(60).failures(Integer.MAX_VALUE).asFound().ends(World::outcomes).run();
+        return orders.seconds(600).failures(Integer.MAX_VALUE).asFound().ends(World::outcomes).run();
     }
 
     private static Set<String> whys(Report report) {
@@ -398,7 +398,7 @@ public final class OrdersTest {
                 Stage<Boolean> told = paid.handle((cents, error) -> log.add("told"));
                 world.settles(paid.handleAsync((cents, error) -> seen.add(log + " " + told.isDone()) | true));
                 settles.accept(world, paid);
-            }).seconds(60).whole().check();
+            }).seconds(600).whole().check();
             is(seen, new HashSet<>(Arrays.asList("[] false", "[told] false", "[told] true")));
         }
         List<Function<Stage<Integer>, Boolean>> looks = Arrays.asList(it -> !it.isDone(), it -> !it.isCompletedExceptionally(), it -> !it.isCancelled(),
@@ -445,7 +445,7 @@ public final class OrdersTest {
             Stage<Integer> last = request.<Integer>promise().orTimeout(1, SECONDS);
             request.cancelRestAfter(last);
             world.atEnd(() -> seen.add(one.isCancelled() + " " + attached.get(0).isCancelled()) || true, "seen");
-        }).seconds(60).whole().check();
+        }).seconds(600).whole().check();
         is(seen, new HashSet<>(Arrays.asList("false false", "false true", "true false", "true true")));
         seen.clear();
         Orders.of(world -> {
@@ -454,7 +454,7 @@ public final class OrdersTest {
             world.calls("completes", one, it -> it.complete(1));
             world.calls("cancels", request::cancelAll);
             world.atEnd(() -> seen.add(one.isCancelled() + "") || true, "seen");
-        }).seconds(60).whole().check();
+        }).seconds(600).whole().check();
         is(seen, new HashSet<>(Arrays.asList("false", "true")));
     }
 
