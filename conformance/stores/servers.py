@@ -1,7 +1,9 @@
 """Servers that a run starts for itself, in its own folder and on 127.0.0.1 alone, and what breaks them."""
+import contextlib
 import http.client
 import json
 import os
+import random
 import shutil
 import signal
 import socket
@@ -14,8 +16,11 @@ POSTGRES = Path("/usr/lib/postgresql/15/bin")
 
 
 def free_ports(many):
-    """Ports that nobody listens on."""
-    sockets = [socket.create_server(("127.0.0.1", 0)) for _ in range(many)]
+    """Ports that nobody listens at. The kernel gives none below 32,768 to who connects, so they stay free."""
+    sockets = []
+    while len(sockets) < many:
+        with contextlib.suppress(OSError):
+            sockets.append(socket.create_server(("127.0.0.1", random.randrange(10_000, 32_768))))
     ports = [it.getsockname()[1] for it in sockets]
     for it in sockets:
         it.close()

@@ -49,7 +49,7 @@ class Callers(DeskCase):
         self.assertEqual(self.other.read_now(self.last, 7), cf.Now(cf.NowKind.ABSENT, 7, None))
         self.assertTrue(self.one.complete(self.source, 3))
         self.assertEqual(self.one.work([lambda x: x + 1]), 1)
-        self.assertEqual((future.result(5), future.exception(), future.done(), future.cancelled()), (4, None, True, False))
+        self.assertEqual((future.result(60), future.exception(), future.done(), future.cancelled()), (4, None, True, False))
         self.assertEqual(self.other.join(self.last, 3), cf.Now(cf.NowKind.VALUE, 4, None))
         self.assertEqual((self.one.number, self.other.number, self.other.seen_count()), (0, 1, 3))
 

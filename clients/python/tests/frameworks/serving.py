@@ -27,8 +27,8 @@ def needs(*modules):
 
 
 def until(is_so):
-    """Waits until something is so, for at most 20 seconds; what it is."""
-    end = time.monotonic() + 20
+    """Waits until something is so, for at most a minute; what it is."""
+    end = time.monotonic() + 60
     while not is_so() and time.monotonic() < end:
         time.sleep(0.01)
     return is_so()

@@ -55,8 +55,8 @@ def inc(x):
 
 
 def until(is_so):
-    """Waits until something is so, for at most 20 seconds; whether it is."""
-    end = time.monotonic() + 20
+    """Waits until something is so, for at most a minute; whether it is."""
+    end = time.monotonic() + 60
     while not is_so() and time.monotonic() < end:
         time.sleep(0.002)
     return is_so()

@@ -98,7 +98,7 @@ class AttachesThatWait(CoreCase):
         for _ in range(100):
             stages.append(stages[-1].then(inc))
         stages[0].complete(0)
-        self.assertEqual([stage.result(10) for stage in stages], list(range(101)))
+        self.assertEqual([stage.result(60) for stage in stages], list(range(101)))
         self.fits(self.request)
 
     def test_a_full_request_is_told_at_once(self):
@@ -108,7 +108,7 @@ class AttachesThatWait(CoreCase):
         with self.assertRaises(RequestFull):
             stages[1].then(inc)
         stages[0].complete(1)
-        self.assertEqual(last.result(10), 2)
+        self.assertEqual(last.result(60), 2)
         self.fits(request)
 
     def test_a_request_that_nobody_has_any_more_leaves_no_attach_to_the_next(self):
@@ -118,7 +118,7 @@ class AttachesThatWait(CoreCase):
             promise.then(inc)
             del promise, request
         request = self.service.request()
-        self.assertEqual((len(request._words()), request.supply(int).result(10)), (0, 0))
+        self.assertEqual((len(request._words()), request.supply(int).result(60)), (0, 0))
 
 
 if __name__ == "__main__":

@@ -43,14 +43,14 @@ class Callbacks(Case):
         behind = calling_back.then(inc)
         with self.assertRaises(Wild):
             calling_back.complete(1)
-        self.assertEqual(behind.result(5), 2)
+        self.assertEqual(behind.result(60), 2)
         begun = threading.Event()
         calling_back = self.request.supply(begun.wait, 5)
         calling_back.add_done_callback(raises)
         behind = calling_back.then(called_back.append)
         with self.assertLogs("concurrent.futures", "CRITICAL"):
             begun.set()
-            behind.result(5)
+            behind.result(60)
             self.service.shutdown()
         self.assertEqual(called_back, [True])
 
@@ -96,7 +96,7 @@ class Callbacks(Case):
         calling, called_back = self.request, []
         calling_back = calling.promise()
         calling_back.add_done_callback(
-            lambda done: called_back.append((calling.promise().complete(1), len(calling.history().entries()), done.then(inc).result(5)))
+            lambda done: called_back.append((calling.promise().complete(1), len(calling.history().entries()), done.then(inc).result(60)))
         )
         calling_back.complete(3)
         self.assertEqual(called_back[0][2], 4)
@@ -126,7 +126,7 @@ class CallbacksOfCores(CoreCase):
             except BaseException as one:
                 raised = type(one)
             self.assertIs(raised, None if error is ValueError else error)
-            self.assertEqual((sorted(called_back), relay.result(9), behind.result(9)), ([end.number for end in ends], None, "1"))
+            self.assertEqual((sorted(called_back), relay.result(60), behind.result(60)), ([end.number for end in ends], None, "1"))
 
     def test_a_callback_within_a_run_loses_no_stage(self):
         flow, called_back = Flow(), []

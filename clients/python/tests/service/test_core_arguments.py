@@ -136,7 +136,7 @@ class CoreArguments(CoreCase):
         for kind in (4, 5, 6, 10):
             self.refused(lambda: core._change(kind, 0, core_stage, None))
         self.fits(core)
-        self.assertEqual((len(core._facts()[2]), core_stage.complete(1), core_stage.then(str).result(9)), (1, True, "1"))
+        self.assertEqual((len(core._facts()[2]), core_stage.complete(1), core_stage.then(str).result(60)), (1, True, "1"))
 
     def test_arguments_of_other_types(self):
         core, other = self.request, self.service.request().promise()
@@ -222,7 +222,7 @@ class CoreArguments(CoreCase):
         )
         core_stage.__class__ = type("Own", (Stage,), {})
         self.request.__class__ = type("Own", (Request,), {"__slots__": ()})
-        self.assertEqual((core_stage.complete(2), core_stage.then(str).result(9), self.request.promise().complete(1)), (True, "2", True))
+        self.assertEqual((core_stage.complete(2), core_stage.then(str).result(60), self.request.promise().complete(1)), (True, "2", True))
         self.refused(lambda: Stage.__init__(core_stage), kinds=AttributeError)
         self.assertEqual((core_stage.result(0), core_stage.done()), (2, True))
 

@@ -27,7 +27,7 @@ class Flows(Case):
         flow, number, doubled, total, more = self.flow()
         many_begun = [self.service.start(flow, k) for k in range(200)]
         for k, begun in enumerate(many_begun):
-            self.assertEqual((begun[number].result(), begun[total].result(5), begun[more].result(5)), (k, 2 * k + 5, 2 * k + 6))
+            self.assertEqual((begun[number].result(), begun[total].result(60), begun[more].result(60)), (k, 2 * k + 5, 2 * k + 6))
         self.assertEqual(begun[total].name, "total")
         self.assertEqual(begun[total].then(inc).result(), 2 * 199 + 6)
         self.assertIn("total", str(begun.history()))

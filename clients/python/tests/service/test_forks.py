@@ -17,19 +17,19 @@ class Forks(unittest.TestCase):
             """
             service = Service(2)
             begun, goes_on = threading.Event(), threading.Event()
-            stage = service.submit(lambda: begun.set() or goes_on.wait(5) or os.getpid())
+            stage = service.submit(lambda: begun.set() or goes_on.wait(60) or os.getpid())
             queued = [service.submit(os.getpid) for _ in range(3)]
             later = service.request().promise().or_timeout(50)
-            begun.wait(5)
+            begun.wait(60)
             child = os.fork()
             if not child:
-                mine = service.submit(os.getpid).result(5) == os.getpid()
-                late = service.request().promise().complete_on_timeout(1, 0.01).result(5)
+                mine = service.submit(os.getpid).result(60) == os.getpid()
+                late = service.request().promise().complete_on_timeout(1, 0.01).result(60)
                 print("child", mine, late, stage.done(), flush=True)
             else:
                 os.waitpid(child, 0)
                 goes_on.set()
-                print("parent", {it.result(5) for it in queued} == {os.getpid()}, stage.result(5), flush=True)
+                print("parent", {it.result(60) for it in queued} == {os.getpid()}, stage.result(60), flush=True)
         """
         )
         self.assertEqual((out, status), ("child True 1 False\nparent True True\n", 0), err)
@@ -146,23 +146,23 @@ class Forks(unittest.TestCase):
                         promise.complete(7)
                         assert not concurrent.futures.wait([promise], 10).not_done
                         assert list(concurrent.futures.as_completed([promise], 10)) == [promise]
-                        promise.exception(10)
+                        promise.exception(60)
                         promise.add_done_callback(told.append)
                         assert told.pop() is promise
                     try:
                         mine = request.promise()
                         behind = mine.then(lambda x: x + 1)
                         got = []
-                        waits = threading.Thread(target=lambda: got.append(mine.result(10)))
+                        waits = threading.Thread(target=lambda: got.append(mine.result(60)))
                         waits.start()
                         mine.complete(1)
-                        waits.join(10)
-                        assert (got, behind.result(10)) == ([1], 2)
+                        waits.join(60)
+                        assert (got, behind.result(60)) == ([1], 2)
                     except RequestFull:
                         pass
                     history = request.history()
                     assert history.report().count("\\n") == len(history.words) + len(history.names)
-                assert service.submit(os.getpid).result(10) == os.getpid()
+                assert service.submit(os.getpid).result(60) == os.getpid()
 
             threads = [threading.Thread(target=each, args=[k], daemon=True)
                        for k in range(6) for each in (change, wait_for)]
@@ -210,18 +210,18 @@ class Forks(unittest.TestCase):
                     held.set()
                     goes_on.wait(20)
             threading.Thread(target=hold, daemon=True).start()
-            held.wait(5)
+            held.wait(60)
             pid = os.fork()
             if not pid:
                 signal.alarm(10)  # ends it where it hangs
                 promise.complete(1)
-                print(promise.result(5), len(concurrent.futures.wait([promise], 5).done), promise.running(), flush=True)
+                print(promise.result(60), len(concurrent.futures.wait([promise], 5).done), promise.running(), flush=True)
                 os._exit(0)
             status = os.waitpid(pid, 0)[1]
             goes_on.set()
             promise.complete(2)
-            waits.join(5)
-            print(status, promise.result(5), waits.is_alive(), flush=True)
+            waits.join(60)
+            print(status, promise.result(60), waits.is_alive(), flush=True)
         """
         )
         self.assertEqual((out, status), ("1 1 False\n0 2 False\n", 0), err)
@@ -246,7 +246,7 @@ class Forks(unittest.TestCase):
             pid = os.fork()
             if not pid:
                 signal.alarm(20)  # ends it where it hangs
-                print(service.start(flow, 1)[end].result(10), flush=True)
+                print(service.start(flow, 1)[end].result(60), flush=True)
                 os._exit(0)
             print(os.waitpid(pid, 0)[1], flush=True)
         """

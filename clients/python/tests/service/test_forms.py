@@ -149,13 +149,13 @@ class Forms(Case):
         for _ in range(3000):
             last = self.service.request(room=1).adopt(last)
         first.complete(5)
-        self.assertEqual(last.result(10), 5)
+        self.assertEqual(last.result(60), 5)
 
     def test_growing(self):
         stage = self.service.request(room=1).supply(int)
         for _ in range(300):
             stage = stage.then(inc)
-        self.assertEqual(stage.result(10), 300)
+        self.assertEqual(stage.result(60), 300)
 
 
 if __name__ == "__main__":

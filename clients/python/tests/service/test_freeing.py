@@ -134,7 +134,7 @@ class Dropped(unittest.TestCase):
             dropped.request().supply(str).then(lambda _: done.set())
             dropped.submit(fails)
             gc.collect()
-            self.assertTrue(done.wait(5))
+            self.assertTrue(done.wait(60))
 
     def test_dropped_requests_are_freed_at_once(self):
         class Thing:
@@ -147,7 +147,7 @@ class Dropped(unittest.TestCase):
                 freed_stage = freed.supply(lambda it: it, thing).then(lambda it: it).compose(lambda it: freed.supply(str)).recover(str)  # noqa: F821
                 watched = weakref.ref(thing)
                 del thing
-                freed_stage.result(5)
+                freed_stage.result(60)
                 dropped.shutdown()
                 del freed, freed_stage
                 self.assertIsNone(watched())
@@ -192,7 +192,7 @@ class Lifetime(CoreCase):
         self.released(watched, "arguments")
 
     def released(self, watched, which):
-        until = time.monotonic() + 10
+        until = time.monotonic() + 60
         while any(it() is not None for it in watched) and time.monotonic() < until:
             time.sleep(0.001)  # (the thread that ran it lets go of it a moment later)
         self.assertEqual([it() for it in watched], [None] * len(watched), which)

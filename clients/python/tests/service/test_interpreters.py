@@ -49,7 +49,7 @@ class Interpreters(unittest.TestCase):
             except concurrent.futures.TimeoutError:
                 pass
             is_kept = type(stage) is Stage and isinstance(stage, kept)
-            return stage.result(9) == 1 and is_kept and failed.cancelled() and "abs" in str(request.history())
+            return stage.result(60) == 1 and is_kept and failed.cancelled() and "abs" in str(request.history())
 
         service, kept = Service(2), Stage
         assert is_right()
@@ -82,7 +82,7 @@ for k in range(50):
     assert flow.run(k)[end].result(0) == (k + 1, "NoneType")
 with Service(2) as service:
     request = service.request()
-    assert request.gather(*[request.supply(abs, -k) for k in range(5)]).result(9) == [0, 1, 2, 3, 4]
+    assert request.gather(*[request.supply(abs, -k) for k in range(5)]).result(60) == [0, 1, 2, 3, 4]
 full = flow.run(1)
 try:
     for k in range(5000):
@@ -134,7 +134,7 @@ run = flow.run()
         text = """
 from cf.service import Service
 service = Service(2)
-service.submit(abs, 1).result(9)
+service.submit(abs, 1).result(60)
 service.request().promise().or_timeout(1000)
 """
         self.assertEqual(
@@ -170,7 +170,7 @@ service.request().promise().or_timeout(1000)
             request._change(1, -1, 0, 5)
             del request
             gc.collect()
-            print(own(), core(), Service(1).submit(abs, -1).result(9))
+            print(own(), core(), Service(1).submit(abs, -1).result(60))
         """
         )
         self.assertEqual((out, status), ("True True\nNone None 1\n", 0), err)

@@ -19,9 +19,9 @@ class Interrupts(Case):
             def raises(*_):
                 raise kind("y")
 
-            self.assertIsInstance(self.service.submit(raises).exception(5), kind)
-            self.assertIsInstance(self.request.supply(str).compose(raises).exception(5), kind)
-        self.assertEqual(self.service.submit(str, 1).result(5), "1")
+            self.assertIsInstance(self.service.submit(raises).exception(60), kind)
+            self.assertIsInstance(self.request.supply(str).compose(raises).exception(60), kind)
+        self.assertEqual(self.service.submit(str, 1).result(60), "1")
 
     @unittest.skipUnless(hasattr(signal, "SIGINT"), "no signals")
     def test_interrupt_of_who_waits(self):
@@ -39,7 +39,7 @@ class Interrupts(Case):
                 except KeyboardInterrupt:
                     print("interrupted", promise.done())
                 promise.complete(1)
-                print(behind.result(5))
+                print(behind.result(60))
         """
         )
         self.assertEqual((out, status), ("interrupted False\n2\n", 0), err)
@@ -76,7 +76,7 @@ class Interrupts(Case):
                         signal.signal(signal.SIGINT, signal.SIG_IGN)  # (which may have been interrupted itself)
                         seen += 1
                     promise.complete(3)
-                    lost += behind.result(5) not in (1, 2, 3)
+                    lost += behind.result(60) not in (1, 2, 3)
                 over.append(1)
                 thread.join()
             print(seen > 20, lost)
@@ -206,7 +206,7 @@ class InterruptsOfCores(CoreCase):
             """
             import concurrent.futures
             service, told = Service(1), []
-            service.submit(abs, 1).result(9)
+            service.submit(abs, 1).result(60)
             promises = [service.request().promise() for _ in range(60)]
             behind = [promise.then(abs) for promise in promises]
             threads = [threading.Thread(target=lambda it=it: told.append(it.result(20)), daemon=True)

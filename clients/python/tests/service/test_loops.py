@@ -408,8 +408,8 @@ class Loops(unittest.TestCase):
         behind, left = loop_promise.then(inc), on_loop.supply(str)  # (by this the loop is to be woken)
         loop.close()
         loop_promise.complete(1)
-        self.assertIsInstance(behind.exception(5), RuntimeError)
-        self.assertIsInstance(left.exception(5), RuntimeError)
+        self.assertIsInstance(behind.exception(60), RuntimeError)
+        self.assertIsInstance(left.exception(60), RuntimeError)
 
     def test_closed_loop(self):
         loop = asyncio.new_event_loop()
@@ -418,7 +418,7 @@ class Loops(unittest.TestCase):
         behind = loop_promise.then(inc)
         loop.close()
         loop_promise.complete(1)
-        self.assertIsInstance(behind.exception(5), RuntimeError)
+        self.assertIsInstance(behind.exception(60), RuntimeError)
         with self.assertRaises(RuntimeError):
             on_loop.supply(str)
 

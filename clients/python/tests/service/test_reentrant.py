@@ -62,7 +62,7 @@ class Reentrant(CoreCase):
 
         first = reentered.promise()
         stage = reentered.supply(Odd(lambda: reentered.promise("within").complete(1)))
-        self.assertEqual((stage.name, stage.result(9)), ("Odd", 5))
+        self.assertEqual((stage.name, stage.result(60)), ("Odd", 5))
         self.assertEqual(reentered.supply(Odd(lambda: 7)).name, "Odd")
         for error in (KeyboardInterrupt, Wild, ValueError):
             before = len(reentered._facts()[0])
@@ -102,7 +102,7 @@ class Reentrant(CoreCase):
         def work():
             promise = reentered.promise()
             promise.then(Dropped())
-            reentered.supply(len, Dropped()).exception(9)
+            reentered.supply(len, Dropped()).exception(60)
             promise.add_done_callback(Dropped())
             promise.cancel()
             reentered.promise().complete_on_timeout(Dropped(), 1000).complete(1)
@@ -132,7 +132,7 @@ class Collected(Case):
             kept_by_last = self.service.request().promise()
             Last(kept_by_last)
             gc.collect()
-            self.assertEqual(kept_by_last.result(5), "gone")
+            self.assertEqual(kept_by_last.result(60), "gone")
 
 
 if __name__ == "__main__":

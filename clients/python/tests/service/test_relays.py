@@ -84,7 +84,7 @@ class Relays(CoreCase):
                             time.sleep(0.001)
                     open_one.complete(1)
                 del relaying, open_one
-                until = time.monotonic() + 10
+                until = time.monotonic() + 60
                 while any(it() is not None for it in known) and time.monotonic() < until:
                     gc.collect()  # (a thread may still have one for a moment)
                     time.sleep(0.001)
@@ -111,8 +111,8 @@ class Relays(CoreCase):
             del relaying
             gc.collect()
             self.end(stop, 3)
-            self.service.submit(str).result(9)
-            until = time.monotonic() + 10
+            self.service.submit(str).result(60)
+            until = time.monotonic() + 60
             while len(told) < 40 and time.monotonic() < until:
                 time.sleep(0.001)
             self.assertEqual(told, [3] * 40, kind)
@@ -214,7 +214,7 @@ class Relays(CoreCase):
                 stop.set_result(k)
                 for thread in threads:
                     thread.join()
-                self.assertEqual([relay.result(10) for relay in relays], [k] * 40)
+                self.assertEqual([relay.result(60) for relay in relays], [k] * 40)
                 self.assertEqual({len(bytes(relay.request._facts()[0])) for relay in relays}, {16})
         finally:
             sys.setswitchinterval(known)
@@ -231,7 +231,7 @@ class Relays(CoreCase):
 
         late = Late()
         late.set_result(7)
-        self.assertEqual(self.service.request().adopt(late).result(10), 7)
+        self.assertEqual(self.service.request().adopt(late).result(60), 7)
         self.assertTrue(late.asked)
 
     def test_a_gather_that_is_refused_adopts_nothing(self):

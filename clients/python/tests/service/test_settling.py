@@ -33,8 +33,8 @@ class Settling(Case):
 
     def test_running_stages(self):
         begun, goes_on = threading.Event(), threading.Event()
-        running = self.request.supply(lambda: begun.set() or goes_on.wait(5) or 1)
-        begun.wait(5)
+        running = self.request.supply(lambda: begun.set() or goes_on.wait(60) or 1)
+        begun.wait(60)
         self.assertTrue(running.running())
         self.assertFalse(running.cancel())
         self.assertTrue(running.abandon())

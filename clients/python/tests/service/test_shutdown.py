@@ -44,7 +44,7 @@ class Shutdown(unittest.TestCase):
     def test_shutdown_with_cancel(self):
         ending, begun, lets_end = Service(2), threading.Semaphore(0), threading.Event()
         of_ending = ending.request()
-        running = [of_ending.supply(lambda: begun.release() or lets_end.wait(5)) for _ in range(2)]
+        running = [of_ending.supply(lambda: begun.release() or lets_end.wait(60)) for _ in range(2)]
         begun.acquire(), begun.acquire()
         waiting = [of_ending.supply(str) for _ in range(20)]
         behind = waiting[0].handle(lambda v, e: type(e).__name__)
@@ -53,7 +53,7 @@ class Shutdown(unittest.TestCase):
         ending.shutdown()
         self.assertTrue(all(stage.result() for stage in running))
         self.assertTrue(all(stage.cancelled() for stage in waiting))
-        self.assertEqual(behind.result(5), "CancelledError")
+        self.assertEqual(behind.result(60), "CancelledError")
 
     def test_shutdown_with_cancel_while_a_thread_takes(self):
         """A thread takes the last stage between two looks of who cancels the rest."""
@@ -124,7 +124,7 @@ class Shutdown(unittest.TestCase):
         ending.submit(str).result()
         ending.shutdown()
         promise.complete(1)
-        self.assertIsInstance(chain.exception(5), RuntimeError)
+        self.assertIsInstance(chain.exception(60), RuntimeError)
 
     def test_put_and_close_at_once(self):
         for _ in range(200):
@@ -186,7 +186,7 @@ class Shutdown(unittest.TestCase):
         del ending
         gc.collect()
         for thread in threads:
-            thread.join(5)
+            thread.join(60)
             self.assertFalse(thread.is_alive())
 
 
@@ -219,11 +219,11 @@ class Initializers(unittest.TestCase):
     def test_initializer(self):
         local = threading.local()
         with Service(2, initializer=lambda x: setattr(local, "x", x), initargs=(7,)) as initialized:
-            self.assertEqual(initialized.submit(lambda: local.x).result(5), 7)
+            self.assertEqual(initialized.submit(lambda: local.x).result(60), 7)
         with self.assertLogs("concurrent.futures", "CRITICAL"):
             initialized = Service(2, initializer=fails)
             stage = initialized.submit(str)
-            self.assertIsInstance(stage.exception(5), concurrent.futures.BrokenExecutor)
+            self.assertIsInstance(stage.exception(60), concurrent.futures.BrokenExecutor)
             with self.assertRaises(concurrent.futures.BrokenExecutor):
                 initialized.submit(str)
 

@@ -123,7 +123,7 @@ class Threads(unittest.TestCase):
             for name, way in ways.items():
                 request, gate = pooled.request(), threading.Barrier(3)
                 source, happens = way(request)
-                ends = [source.handle(lambda *_: gate.wait(5)) for _ in range(3)]
+                ends = [source.handle(lambda *_: gate.wait(60)) for _ in range(3)]
                 happens() if happens else source.or_timeout(0)
                 self.assertEqual(sorted(str(end.exception(20) or end.result()) for end in ends), ["0", "1", "2"], name)
             flow, gate = Flow(), threading.Barrier(3)

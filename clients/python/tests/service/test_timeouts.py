@@ -26,9 +26,9 @@ class Limits(Case):
     def test_timeouts(self):
         timed = self.request
         late = timed.promise().or_timeout(0.02).named("late")
-        self.assertIsInstance(late.exception(5), TimeoutError)
+        self.assertIsInstance(late.exception(60), TimeoutError)
         self.assertIn("took longer than 0.02 s", str(late.exception()))
-        self.assertEqual(timed.promise().complete_on_timeout(7, 0.02).result(5), 7)
+        self.assertEqual(timed.promise().complete_on_timeout(7, 0.02).result(60), 7)
         self.assertEqual(timed.supply(str, "x").or_timeout(5).result(), "x")
         with self.assertRaises(concurrent.futures.TimeoutError):
             timed.promise().result(0.01)
@@ -166,7 +166,7 @@ class Limits(Case):
                 limited = self.request.promise
                 asks = threading.Thread(target=lambda: told_late.append(limited().complete_on_timeout(1, 0.01).result(20)))
                 asks.start()
-                asks.join(5)
+                asks.join(60)
                 told_late.append(asks.is_alive())
 
         self.request.promise().complete_on_timeout(Last(), 1000).complete(1)
@@ -177,7 +177,7 @@ class Limits(Case):
         done = threading.Event()
         self.service.request().promise().or_timeout(0.05).recover(lambda error: done.set())
         gc.collect()
-        self.assertTrue(done.wait(5))
+        self.assertTrue(done.wait(60))
 
     def test_timers_of_settled_stages_are_let_go(self):
         for _ in range(1000):
@@ -317,7 +317,7 @@ class Causes(Case):
         passing.moment = 0
         with unittest.mock.patch.object(waits, "primitives", passing), Service(2) as service:
             timed, clock = service.request(), service._works.clock
-            slow = timed.promise().complete_on_timeout(1, 1000).then(lambda _: opens.wait(5))
+            slow = timed.promise().complete_on_timeout(1, 1000).then(lambda _: opens.wait(60))
             later = [it.promise().complete_on_timeout(2, 1001) for it in (timed, service.request())]
             passing.moment = 1002 * 10**9
             with clock._changed:

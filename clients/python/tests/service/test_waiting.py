@@ -36,10 +36,10 @@ class Waiting(Case):
         for k in range(300):
             awaited = [self.service.request().promise() for _ in range(3)]
             asks = [
-                lambda: awaited[0].result(10),
+                lambda: awaited[0].result(60),
                 lambda: concurrent.futures.wait(awaited, 10).not_done,
                 lambda: list(concurrent.futures.as_completed(awaited, 10)),
-                lambda: heard.wait(10),
+                lambda: heard.wait(60),
             ]
             heard, woken = threading.Event(), []
             waiters = [threading.Thread(target=lambda ask=ask: woken.append(ask())) for ask in asks]

@@ -71,7 +71,7 @@ class Case(unittest.TestCase):
         self.processes.append(process)
         return process
 
-    def until(self, ask, seconds=20):
+    def until(self, ask, seconds=60):
         end = time.monotonic() + seconds
         while not ask():
             self.assertLess(time.monotonic(), end, "it takes too long")

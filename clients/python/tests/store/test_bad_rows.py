@@ -50,11 +50,11 @@ class BadRows(Case):
         self.assertIn("'bad', place 2", "\n".join(logs.output))
         other = self.service()
         with self.assertRaises(Broken) as told:
-            other.open("gone")["value"].result(5)
+            other.open("gone")["value"].result(60)
         self.assertIn("'gone', place 2: no payload", str(told.exception))
         db.execute("update cf_word set payload = '{' where request = 2 and at = 1")
         with self.assertRaises(Broken) as told:
-            self.service().open("gone")["value"].result(5)
+            self.service().open("gone")["value"].result(60)
         self.assertIn("'gone', place 2: its payload can't be read", str(told.exception))
         self.assertEqual(good.supply(f.load, 1).result(20)["number"], 1)
         db.close()

@@ -80,7 +80,7 @@ class Closing(Case):
         closing_service._let_go(reopened, kept)
         self.assertIs(closing_service._requests.get("r"), reopened)
         self.assertIsInstance(late.exception(20), TimeoutError)
-        self.assertEqual(reopened[step].result(5), 1)
+        self.assertEqual(reopened[step].result(60), 1)
 
     def test_a_request_that_others_open_again(self):
         """It was let go here, and who waits for one of its stages is told all the same. A plain request that was
@@ -184,7 +184,7 @@ class NamesUsedAgain(Case):
             self.until(lambda: name in worker._requests)
             closing_service.store.drop(name)
             new = closing_service.request(name)
-            self.assertIsInstance(stage.exception(5), Broken)
+            self.assertIsInstance(stage.exception(60), Broken)
             with self.assertRaises(Broken) as told:
                 old.promise()
             self.assertIn("no such request", str(told.exception))
@@ -273,7 +273,7 @@ class NamesUsedAgain(Case):
             asks.request("r")
         new = asks.request("r")
         self.assertEqual(new.supply(f.inc, 16).result(20), 17)
-        self.assertIsInstance(waits.exception(5), Broken)
+        self.assertIsInstance(waits.exception(60), Broken)
         for call in (lambda: old[0], old.history, old.end, old.promise):
             with self.assertRaises(Broken):
                 call()

@@ -52,7 +52,7 @@ class Codecs(Case):
         coded = coding_service.request("r")
         coded_promise = coded.promise()
         coded_promise.complete("unread")
-        self.assertIsInstance(coded_promise.exception(5), Broken)
+        self.assertIsInstance(coded_promise.exception(60), Broken)
         error = coded.supply(fails).exception(20)
         self.assertIn("it can't be written", str(error))
         self.assertFalse(coded._view.claims())

@@ -65,7 +65,7 @@ class DurableStages(Case):
             promise = durable.promise("answer")
             self.assertTrue(promise.complete([1, None]))
             self.assertFalse(promise.complete(2) or promise.fail(KeyError("x")) or promise.cancel())
-            self.assertEqual(durable["answer"].result(5), [1, None])
+            self.assertEqual(durable["answer"].result(60), [1, None])
             stopped = durable.promise()
             behind = stopped.then(f.inc)
             self.assertTrue(stopped.cancel() and stopped.cancelled())
@@ -139,7 +139,7 @@ class DurableStages(Case):
             self.assertEqual((durable[total].result(20), durable[both].result(20), durable[sorry].result(20)), (15, [15, 15], "sorry, card declined"))
             self.until(lambda: name not in service.store.ends())
             same = service.start(flow, 99, name=name)
-            self.assertEqual(same[total].result(5), 15)
+            self.assertEqual(same[total].result(60), 15)
             with self.assertRaises(Broken):
                 other = Flow("other")
                 other.promise()

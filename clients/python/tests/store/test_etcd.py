@@ -7,6 +7,7 @@ starts etcd's server for itself, and is left out where there is none.
 import contextlib
 import http.client
 import json
+import random
 import shutil
 import socket
 import subprocess
@@ -24,7 +25,11 @@ HOST = "127.0.0.1"
 
 
 def free_ports(many):
-    sockets = [socket.create_server((HOST, 0)) for _ in range(many)]
+    """Ports that nobody listens at. The kernel gives none below 32,768 to who connects, so they stay free."""
+    sockets = []
+    while len(sockets) < many:
+        with contextlib.suppress(OSError):
+            sockets.append(socket.create_server((HOST, random.randrange(10_000, 32_768))))
     ports = [it.getsockname()[1] for it in sockets]
     for it in sockets:
         it.close()

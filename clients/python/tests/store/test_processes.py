@@ -18,7 +18,7 @@ from cf.store import Abandoned
 
 
 class Processes(Case):
-    lease = 2
+    lease = 4
 
     def test_a_request_goes_on_elsewhere(self):
         """Begun here, worked on by two processes, and resumed by a third service."""
@@ -32,7 +32,7 @@ class Processes(Case):
         self.until(lambda: len(asking.store.beats()) == 3)
         for process in worker:
             process.send_signal(signal.SIGTERM)
-            self.assertEqual(process.wait(10), 0, process.stderr.read())
+            self.assertEqual(process.wait(60), 0, process.stderr.read())
 
     def test_resume(self):
         first = self.service()

@@ -102,7 +102,7 @@ class Transactions(Case):
             for thread in threads:
                 thread.start()
             for thread in threads:
-                thread.join(15)
+                thread.join(60)
             self.assertEqual((told, behind.result(20)), ([True, True], 1))
             self.assertEqual(other.then(f.inc).result(20), 3)
 

@@ -486,33 +486,33 @@ class Watchers(unittest.TestCase):
 
     def test_silence_isnt_absence(self):
         """While the store was silent nobody could say that he is there: nobody is thought gone by that."""
-        store = Memory()
+        store, host = Memory(), ByHand()
         store.beat(5)
-        watcher = Watcher(store, 0.1)
+        watcher = Watcher(store, 0.1, host)
         watcher.look()
         with unittest.mock.patch.object(store, "beats", side_effect=Unknown("away")):
             for _ in range(8):
-                time.sleep(0.04)
+                host.sleep(0.04)
                 watcher.look()
         watcher.look()
         self.assertFalse(watcher.is_gone(5))
         for _ in range(8):
-            time.sleep(0.04)
+            host.sleep(0.04)
             watcher.look()
         self.assertTrue(watcher.is_gone(5))
 
     def test_a_pause(self):
         """Whose process stood still for long thinks nobody gone by that alone."""
-        store, watcher = Memory(), None
+        store, host = Memory(), ByHand()
         store.beat(5)
-        watcher = Watcher(store, 0.05)
+        watcher = Watcher(store, 0.05, host)
         watcher.look()
-        time.sleep(0.2)
+        host.sleep(0.2)
         self.assertFalse(watcher.is_gone(5))
         watcher.look()
         self.assertFalse(watcher.is_gone(5))
         for _ in range(10):
-            time.sleep(0.01)
+            host.sleep(0.01)
             watcher.look()
         self.assertTrue(watcher.is_gone(5))
 

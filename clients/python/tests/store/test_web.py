@@ -517,18 +517,18 @@ class Lists(WebCase):
     def test_looks_take_turns_by_what_they_cost(self):
         """A store that is slow since others take the processors is looked at as often as it answers."""
 
-        class Slow(Memory):
-            looks = 0
+        began, ended = [], []
 
+        class Slow(Memory):
             def overview(self):
-                self.looks += 1
+                began.append(time.monotonic())
                 time.sleep(0.2)
+                ended.append(time.monotonic())
                 return super().overview()
 
-        store = Slow()
-        self.page_over(store)
-        time.sleep(2)
-        self.assertGreater(store.looks, 4)
+        self.page_over(Slow())
+        self.until(lambda: len(began) > 5)
+        self.assertLess(min(b - a for a, b in zip(ended, began[1:])), 0.3)
 
     def test_a_put_of_glances_holds_nobody_up(self):
         """It may wait for a disk for long."""
@@ -544,7 +544,7 @@ class Lists(WebCase):
         self.page_over(store)
         self.assertTrue(waits.wait(20))
         store.open("b", text_of(self.flow(), f.functions))
-        self.until(lambda: "b" in self.rows(), 5)
+        self.until(lambda: "b" in self.rows())
         goes_on.set()
 
     def test_rows_that_nobody_looks_at_are_read_now_and_then(self):
@@ -555,13 +555,13 @@ class Lists(WebCase):
                 self.reads += 1
                 return super().read_rows(wanted)
 
-        store = Counting()
+        store, began = Counting(), time.monotonic()
         page = self.page_over(store)
         for k in range(20):
             store.open(f"r{k}", text_of(self.flow(), f.functions))
             time.sleep(0.1)
         self.until(lambda: all((line := page.board.line(f"r{k}")) and line.seen for k in range(20)))
-        self.assertLess(store.reads, 8)
+        self.assertLess(store.reads, 5 + time.monotonic() - began)
 
     def test_a_session_that_is_gone(self):
         store = Memory()
@@ -682,19 +682,25 @@ class Lists(WebCase):
         self.assertEqual(store.reads, 0)
 
     def test_changes_are_sent(self):
-        service = self.service()
-        promise = service.request("r").promise("answer")
+        request, took = self.service().request("r"), []
+        promise = request.promise("answer")
         self.page_over(connect(self.address))
         self.until(lambda: self.rows().get("r", {}).get("state") == "waiting")
         listed, shown = self.live(view="requests"), self.live(view="request", name="r")
         self.assertEqual(next(listed)["rows"][0]["state"], "waiting")
         self.assertEqual(next(shown)["counts"], {"waiting": 1})
-        began = time.monotonic()
-        promise.complete(7)
-        self.assertIn("with 7", next(it for it in shown if it["counts"] == {"value": 1})["lines"][-1][1])
-        next(it for it in listed if it["rows"][0]["state"] == "done")
-        self.assertLess(time.monotonic() - began, 1)
-        service.request("r").end()
+        for many in (1, 2, 3):
+            if many > 1:
+                promise = request.promise("answer")
+                next(it for it in shown if it["counts"] == {"value": many - 1, "waiting": 1})
+                next(it for it in listed if it["rows"][0]["state"] == "waiting")
+            began = time.monotonic()
+            promise.complete(7)
+            self.assertIn("with 7", next(it for it in shown if it["counts"] == {"value": many})["lines"][-1][1])
+            next(it for it in listed if it["rows"][0]["state"] == "done")
+            took.append(time.monotonic() - began)
+        self.assertLess(min(took), 1)
+        request.end()
         next(it for it in listed if not it["rows"])
         next(it for it in shown if it["state"] == "closed")
 

@@ -711,14 +711,18 @@ impl ServiceCore {
         inner.catch_up_if_behind()?;
         self.abandon_gone(inner)?;
         self.settle_relays(inner)?;
-        let mut task = self.next_task(inner)?;
-        while let Some(it) = task {
-            task = self.run_task(inner, it)?;
-            if task.is_none() {
-                task = self.next_task(inner)?;
+        loop {
+            let mut task = self.next_task(inner)?;
+            while let Some(it) = task {
+                task = self.run_task(inner, it)?;
+                if task.is_none() {
+                    task = self.next_task(inner)?;
+                }
+            }
+            if !self.settle_relays(inner)? {
+                break;
             }
         }
-        self.settle_relays(inner)?;
         if self.is_finished(&mut inner.view())? {
             let seen = inner.seen.load(Ordering::Relaxed);
             if self.store.end(&inner.name, inner.number, seen)? {
@@ -766,9 +770,13 @@ impl ServiceCore {
         Ok(())
     }
 
-    fn settle_relays(&self, inner: &Arc<LocalRequest>) -> Result<(), StoreError> {
-        while !inner.put_words(|view| Ok(view.relay_word()?.into_iter().collect()))?.is_empty() {}
-        Ok(())
+    /// Puts the words that are due of relays, which may make stages ready. Whether there were any.
+    fn settle_relays(&self, inner: &Arc<LocalRequest>) -> Result<bool, StoreError> {
+        let mut settles = false;
+        while !inner.put_words(|view| Ok(view.relay_word()?.into_iter().collect()))?.is_empty() {
+            settles = true;
+        }
+        Ok(settles)
     }
 
     /// Puts a finish, and with it the claim of the next stage, if there is one; what was claimed. While the store is away, or takes nothing, a

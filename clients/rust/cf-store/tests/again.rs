@@ -3,7 +3,7 @@
 mod common;
 
 use cf_store::{Entry, Error, Flow, Functions, Mark, Opened, Put, Service, Store, StoreError, Timer, WordCounts};
-use common::{quick, settled, until, AnyStore, Place};
+use common::{patient, settled, until, AnyStore, Place};
 use std::collections::BTreeMap;
 use std::sync::atomic::{AtomicU32, Ordering::SeqCst};
 use std::sync::{Arc, Mutex};
@@ -76,7 +76,7 @@ impl Store for Fails {
 }
 
 fn service(store: Fails) -> Service {
-    let mut options = quick();
+    let mut options = patient();
     options.warns = |_| {};
     Service::with(store, Functions::new().with("inc", 1, add_one), options).unwrap()
 }
@@ -114,7 +114,7 @@ fn a_name_is_used_again() {
 #[test]
 fn a_value_that_cannot_be_read_once() {
     let place = Place::new("unread");
-    let mut nobody = quick();
+    let mut nobody = patient();
     nobody.threads = 0;
     let asks = Service::with(place.store(), Functions::new().with("inc", 1, add_one), nobody).unwrap();
     let number = asks.request("unread").unwrap().promise("number").unwrap();

@@ -3,7 +3,7 @@
 mod common;
 
 use cf_store::{context, within, Ends, Flow, Functions, History, HistoryItem, Service};
-use common::{quick, settled, Place};
+use common::{patient, settled, Place};
 use serde_json::{json, Map, Value};
 use std::sync::mpsc::{channel, Receiver};
 use std::sync::Mutex;
@@ -24,7 +24,7 @@ fn told(tells: fn(HistoryItem<'_>) -> String) -> (Ends, Receiver<Told>) {
 }
 
 fn service(place: &Place, ends: &Ends) -> Service {
-    let mut options = quick();
+    let mut options = patient();
     options.on_end = Some(ends.clone());
     options.takes_all = true;
     Service::with(place.store(), Functions::new().with("inc", 1, |it: i64| Ok::<_, String>(it + 1)), options).unwrap()

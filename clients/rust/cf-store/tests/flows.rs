@@ -3,7 +3,7 @@
 mod common;
 
 use cf_store::{context, within, Error, Failed, Flow, Functions, HistoryItem, Request, Service, Store, StoreError};
-use common::{fits, printed, python, quick, settled, Place};
+use common::{fits, patient, printed, python, settled, Place};
 use serde_json::{json, Map, Value};
 use std::time::{Duration, Instant};
 
@@ -34,7 +34,7 @@ fn a_function_gives_a_stage_to_wait_for() {
         .composing("failing", 1, |request: &Request, number: i64| request.supply("declined", &[json!(number)]))
         .composing("refuses", 1, |_: &Request, _: i64| Err::<cf_store::Stage, _>(Failed::new("NoStock", "none left")))
         .composing("waiting", 1, |request: &Request, _: i64| request.promise("late"));
-    let service = Service::with(place.store(), functions, quick()).unwrap();
+    let service = Service::with(place.store(), functions, patient()).unwrap();
     let request = service.request("composed").unwrap();
     let number = request.promise("number").unwrap();
     let loaded = number.compose("loading").unwrap();
@@ -59,7 +59,7 @@ fn a_function_gives_a_stage_to_wait_for() {
 
     let other = service.request("another").unwrap();
     let functions = Functions::new().composing("strays", 1, move |_: &Request, _: i64| other.promise("elsewhere"));
-    let second = Service::with(place.store(), functions, quick()).unwrap();
+    let second = Service::with(place.store(), functions, patient()).unwrap();
     let request = second.request("strays").unwrap();
     let number = request.promise("number").unwrap();
     let strays = number.compose("strays").unwrap();
@@ -70,20 +70,20 @@ fn a_function_gives_a_stage_to_wait_for() {
 #[test]
 fn what_composes_is_called_by_what_composes_alone() {
     let place = Place::new("kinds");
-    let mut nobody = quick();
+    let mut nobody = patient();
     nobody.threads = 0;
     let planner = Service::with(place.store(), Functions::new().with("f", 1, add_one), nobody).unwrap();
     let request = planner.request("kinds").unwrap();
     let number = request.promise("number").unwrap();
     let (plain, composed) = (number.then("f").unwrap(), number.compose("f").unwrap());
     number.complete(&1).unwrap();
-    let first = Service::with(place.store(), Functions::new().with("f", 1, add_one), quick()).unwrap();
+    let first = Service::with(place.store(), Functions::new().with("f", 1, add_one), patient()).unwrap();
     first.open("kinds").unwrap();
     assert_eq!(settled::<i64>(&plain), Ok(2));
     assert_eq!(composed.wait_timeout::<i64>(Duration::from_millis(200)), Ok(None), "a function that gives a value isn't one that composes");
     let functions =
         Functions::new().composing("f", 1, |request: &Request, _: i64| request.supply("nothing", &[])).with("nothing", 1, || Ok::<_, String>(5));
-    let second = Service::with(place.store(), functions, quick()).unwrap();
+    let second = Service::with(place.store(), functions, patient()).unwrap();
     second.open("kinds").unwrap();
     assert_eq!(settled::<i64>(&composed), Ok(5));
 }
@@ -93,7 +93,7 @@ fn arguments_are_given_by_name() {
     let place = Place::new("names");
     let pay = |cents: i64, to: Option<String>| Ok::<_, String>(json!([cents, to]));
     let functions = || Functions::new().with("pay", 1, pay).parameters("pay", 1, &["cents", "to"]).with("unnamed", 1, add_one);
-    let service = Service::with(place.store(), functions(), quick()).unwrap();
+    let service = Service::with(place.store(), functions(), patient()).unwrap();
     let request = service.request("names").unwrap();
     let supply = |args: &[Value], named| request.supply_named("pay", args, &map(named)).unwrap();
     assert_eq!(settled::<Value>(&supply(&[], json!({"to": "anna", "cents": 5}))), Ok(json!([5, "anna"])));
@@ -105,7 +105,7 @@ fn arguments_are_given_by_name() {
     let unnamed = request.supply_named("unnamed", &[], &map(json!({"number": 1}))).unwrap();
     assert_eq!(unnamed.wait_timeout::<i64>(Duration::from_millis(200)), Ok(None), "it waits for a process that has names for it");
     let named = Functions::new().with("unnamed", 1, add_one).parameters("unnamed", 1, &["number"]);
-    let second = Service::with(place.store(), named, quick()).unwrap();
+    let second = Service::with(place.store(), named, patient()).unwrap();
     second.open("names").unwrap();
     assert_eq!(settled::<i64>(&unnamed), Ok(2));
 }
@@ -119,7 +119,7 @@ fn contexts_go_along() {
         .with("behind", 1, move |_: Value| tenant())
         .composing("composes", 1, |request: &Request, _: Value| request.supply("tenant", &[]))
         .with("panics", 1, |_: Value| -> Result<i64, String> { panic!("oh") });
-    let mut one = quick();
+    let mut one = patient();
     one.threads = 1;
     let service = Service::with(place.store(), functions, one).unwrap();
     let request = service.request("contexts").unwrap();
@@ -148,7 +148,7 @@ fn contexts_go_along() {
 fn histories_are_told() {
     let place = Place::new("histories");
     let functions = Functions::new().with("inc", 1, add_one).with("declined", 1, |_: i64| Err::<i64, _>(Failed::new("CardDeclined", "no\ncard")));
-    let service = Service::with(place.store(), functions, quick()).unwrap();
+    let service = Service::with(place.store(), functions, patient()).unwrap();
     let mut flow = Flow::new("order");
     let number = flow.promise("number");
     let planned = flow.then(number, "inc");
@@ -181,9 +181,8 @@ fn histories_are_told() {
 #[test]
 fn sessions_of_one_number_have_records_of_their_own() {
     let place = Place::new("numbers");
-    let mut nobody = quick();
+    let mut nobody = patient();
     nobody.threads = 0;
-    nobody.lease = Duration::from_secs(60);
     let first = Service::with(place.store(), Functions::new(), nobody.clone()).unwrap();
     let request = first.request("numbers").unwrap();
     let promises: Vec<_> = (0..66).map(|_| request.promise("promise").unwrap().number()).collect();
@@ -211,7 +210,7 @@ fn a_flow_is_begun_once() {
     let more = functions()
         .with("declined", 1, |_: i64| Err::<i64, _>("card declined"))
         .with("pair", 1, |value: Value, failed: Value| Ok::<_, String>(json!([value, failed["text"]])));
-    let service = Service::with(place.store(), more, quick()).unwrap();
+    let service = Service::with(place.store(), more, patient()).unwrap();
     let mut flow = Flow::new("order");
     let [first, second] = ["first", "second"].map(|it| flow.promise(it));
     let sum = flow.combine(first, second, "add");
@@ -268,7 +267,7 @@ from cf.service import Flow
 from cf.store import DurableService, connect
 from cf.store.contexts import Variables
 TENANT = contextvars.ContextVar('tenant')
-service = DurableService(connect(sys.argv[1]), int(sys.argv[2]), lease=2, contexts=[Variables(tenant=TENANT)])
+service = DurableService(connect(sys.argv[1]), int(sys.argv[2]), lease=60, contexts=[Variables(tenant=TENANT)])
 @service.function('pay', version=1)
 def pay(cents, to='nobody'):
     return f'{cents} for {to} of {TENANT.get(None)}'
@@ -306,7 +305,7 @@ fn python_begins_the_same_flow() {
         return;
     };
     let composed = printed(child).parse().unwrap();
-    let service = Service::with(place.store(), functions, quick()).unwrap();
+    let service = Service::with(place.store(), functions, patient()).unwrap();
     let mut flow = Flow::new("order");
     let number = flow.promise("number");
     let paid = flow.supply_named("pay", &[json!(5)], &map(json!({"to": "anna"})));
@@ -320,7 +319,7 @@ fn python_begins_the_same_flow() {
     assert_eq!(settled::<i64>(&other.step(more).unwrap()), Ok(101));
     drop(service);
 
-    let mut nobody = quick();
+    let mut nobody = patient();
     nobody.threads = 0;
     let planner = Functions::new().with("pay", 1, pay).with("inc", 1, add_one).composing("composes", 1, |it: &Request, _: i64| it.promise("never"));
     let second = Place::new("both 2");
@@ -342,7 +341,7 @@ fn python_begins_the_same_flow() {
 fn a_step_of_another_flow_is_no_stage() {
     let place = Place::new("steps");
     let functions = Functions::new().with("ship", 1, |_: Value, _: Value| Ok::<_, String>(1));
-    let service = Service::with(place.store(), functions, quick()).unwrap();
+    let service = Service::with(place.store(), functions, patient()).unwrap();
     let (mut old, mut new, mut renamed) = (Flow::new("order"), Flow::new("order"), Flow::new("orders"));
     let (order, approval) = (old.promise("order"), old.promise("approval"));
     let shipped = old.combine(order, approval, "ship");
@@ -365,7 +364,7 @@ fn a_step_of_another_flow_is_no_stage() {
 fn a_stage_of_another_request_is_no_source() {
     let place = Place::new("strangers");
     let functions = Functions::new().with("add", 1, |a: i64, b: i64| Ok::<_, String>(a + b)).with("inc", 1, add_one);
-    let service = Service::with(place.store(), functions, quick()).unwrap();
+    let service = Service::with(place.store(), functions, patient()).unwrap();
     let [one, other] = ["one", "other"].map(|name| service.request(name).unwrap());
     let (own, stranger) = (one.promise("own").unwrap(), other.promise("stranger").unwrap());
     let refused = [

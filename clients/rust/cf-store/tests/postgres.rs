@@ -4,7 +4,7 @@ mod common;
 
 use cf_graph::{Call, Event, Form, Of};
 use cf_store::{Entry, Functions, Put, Service, Store, StoreError, Timer};
-use common::{quick, rows, settled, until, AnyStore, Place};
+use common::{patient, rows, settled, until, AnyStore, Place};
 use std::collections::BTreeMap;
 use std::sync::atomic::{AtomicU32, Ordering};
 use std::sync::{mpsc, Mutex};
@@ -86,7 +86,7 @@ fn a_lock_that_is_not_free_loses_no_value() {
         begun.lock().unwrap().send(()).unwrap();
         go.lock().unwrap().recv_timeout(Duration::from_secs(60)).map(|()| 7)
     };
-    let service = Service::with(AnyStore::open(&address), Functions::new().with("slow", 1, slow), quick()).unwrap();
+    let service = Service::with(AnyStore::open(&address), Functions::new().with("slow", 1, slow), patient()).unwrap();
     let stage = service.request("r").unwrap().supply("slow", &[]).unwrap();
     begins.recv_timeout(Duration::from_secs(60)).unwrap();
     let store = place.store();

@@ -3,7 +3,7 @@
 mod common;
 
 use cf_store::{Entry, Functions, Mark, Opened, Put, Service, Store, StoreError, Timer, WordCounts};
-use common::{quick, settled, AnyStore, Place};
+use common::{patient, settled, AnyStore, Place};
 use std::collections::BTreeMap;
 use std::sync::{Arc, Mutex};
 use std::time::Duration;
@@ -33,7 +33,7 @@ impl Store for Counted {
 }
 
 fn service(place: &Place, threads: usize) -> (Service, Asked) {
-    let (asked, mut options) = (Asked::default(), quick());
+    let (asked, mut options) = (Asked::default(), patient());
     options.threads = threads;
     let functions = Functions::new().with("seven", 1, || Ok::<_, String>(7)).with("inc", 1, |it: i64| Ok::<_, String>(it + 1));
     (Service::with(Counted { store: place.store(), asked: Arc::clone(&asked) }, functions, options).unwrap(), asked)

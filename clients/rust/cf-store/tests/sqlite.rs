@@ -4,7 +4,7 @@ mod common;
 
 use cf_graph::{Call, Event, Failure};
 use cf_store::{Entry, Error, Failed, Functions, Mark, Opened, Options, Put, Request, SQLite, Service, Store, StoreError, Timer, WordCounts};
-use common::{quick, settled, until, AnyStore, Place};
+use common::{hasty, patient, settled, until, AnyStore, Place};
 use rustix::fs::{flock, FlockOperation};
 use serde_json::{json, Value};
 use std::collections::BTreeMap;
@@ -80,12 +80,12 @@ fn another_service_goes_on_with_it() {
     assert!(matches!(last.wait::<i64>(), Err(Error::Store(StoreError::Refused(_)))), "the service is shut down");
     let workers: Vec<_> = (0..3)
         .map(|_| {
-            let mut options = quick();
+            let mut options = patient();
             options.takes_all = true;
             Service::with(place.store(), Functions::new().with("inc", 1, counted(&calls)), options).unwrap()
         })
         .collect();
-    let second = Service::with(place.store(), Functions::new(), quick()).unwrap();
+    let second = Service::with(place.store(), Functions::new(), patient()).unwrap();
     let request = second.open("shared").unwrap();
     assert!(request.stage(0).unwrap().complete(&0).unwrap());
     assert_eq!(settled::<i64>(&request.stage(20).unwrap()), Ok(20));
@@ -101,7 +101,7 @@ fn another_service_goes_on_with_it() {
 #[test]
 fn what_is_closed_is_opened_again() {
     let place = Place::new("closed");
-    let service = Service::with(place.store(), Functions::new().with("inc", 1, add_one), quick()).unwrap();
+    let service = Service::with(place.store(), Functions::new().with("inc", 1, add_one), hasty()).unwrap();
     let request = service.request("closed").unwrap();
     let number = request.promise("number").unwrap();
     number.complete(&1).unwrap();
@@ -120,7 +120,7 @@ fn what_is_closed_is_opened_again() {
 #[test]
 fn timers_are_fired_by_any_service() {
     let place = Place::new("timers");
-    let service = Service::with(place.store(), Functions::new(), quick()).unwrap();
+    let service = Service::with(place.store(), Functions::new(), patient()).unwrap();
     let request = service.request("timers").unwrap();
     let [slow, other, soon] = ["slow", "other", "soon"].map(|name| request.promise(name).unwrap());
     slow.or_timeout(Duration::from_millis(50)).unwrap();
@@ -143,7 +143,7 @@ fn each_has_the_time_that_ran_out() {
         .with("add", 1, |a: i64, b: i64| Ok::<_, String>(a + b))
         .with("either_way", 1, |value: Option<i64>, failed: Option<Failed>| Ok::<_, String>(json!([value, failed.map(|it| it.text)])))
         .composing("waiting", 1, |request: &Request, number: u16| Ok::<_, Failed>(request.stage(number).unwrap()));
-    let service = Service::with(place.store(), functions, quick()).unwrap();
+    let service = Service::with(place.store(), functions, patient()).unwrap();
     let request = service.request("ran out").unwrap();
     let [one, two, given] = ["one", "two", "given"].map(|name| request.promise(name).unwrap());
     let first = [one.combine(&two, "add").unwrap(), given.compose("waiting").unwrap()];
@@ -153,7 +153,7 @@ fn each_has_the_time_that_ran_out() {
     two.or_timeout(Duration::from_millis(60)).unwrap();
     given.complete(&one.number()).unwrap();
     let late = |text: &str| Err(Error::TimedOut(Some(Failed::new("TimeoutError", text))));
-    let reader = Service::with(place.store(), Functions::new(), quick()).unwrap();
+    let reader = Service::with(place.store(), Functions::new(), patient()).unwrap();
     let other = reader.open("ran out").unwrap();
     for (stages, text) in [(first, "one took longer than 0.05 s"), (second, "two took longer than 0.06 s")] {
         for stage in stages {
@@ -181,7 +181,7 @@ fn each_has_the_time_that_ran_out() {
 #[test]
 fn settled_once() {
     let place = Place::new("settled");
-    let service = Service::with(place.store(), Functions::new(), quick()).unwrap();
+    let service = Service::with(place.store(), Functions::new(), patient()).unwrap();
     let request = service.request("settled").unwrap();
     let [failed, cancelled, left] = ["failed", "cancelled", "left"].map(|name| request.promise(name).unwrap());
     assert!(failed.fail(&Failed::new("Closed", "we are closed")).unwrap());
@@ -196,7 +196,7 @@ fn settled_once() {
     let large = "x".repeat(100_000);
     assert!(left.complete(&large).unwrap());
     assert_eq!(settled::<String>(&left), Ok(large.clone()));
-    let other = Service::with(place.store(), Functions::new(), quick()).unwrap();
+    let other = Service::with(place.store(), Functions::new(), patient()).unwrap();
     let there = other.open("settled").unwrap().named("left").unwrap().unwrap();
     assert_eq!((there.number(), settled::<String>(&there)), (2, Ok(large)));
 }
@@ -204,7 +204,7 @@ fn settled_once() {
 #[test]
 fn a_request_is_full() {
     let place = Place::new("full");
-    let service = Service::with(place.store(), Functions::new(), quick()).unwrap();
+    let service = Service::with(place.store(), Functions::new(), patient()).unwrap();
     let request = service.request("full").unwrap();
     let first = request.promise("promise").unwrap();
     let many = 40; // (each is a commit)
@@ -225,11 +225,11 @@ fn dies(request: &Request) {
 fn a_process_dies() {
     if let Ok(address) = std::env::var("CF_STORE_DIES") {
         let functions = Functions::new().with("inc", 1, |_: i64| -> Result<i64, String> { std::process::abort() });
-        let service = Service::with(AnyStore::open(&address), functions, quick()).unwrap();
+        let service = Service::with(AnyStore::open(&address), functions, patient()).unwrap();
         return dies(&service.open("dies").unwrap());
     }
     let place = Place::new("dies");
-    let mut nobody = quick();
+    let mut nobody = patient();
     nobody.threads = 0;
     let planner = Service::with(place.store(), Functions::new().with("inc", 1, add_one), nobody).unwrap();
     let request = planner.request("dies").unwrap();
@@ -240,7 +240,7 @@ fn a_process_dies() {
     drop(planner);
     let child = Command::new(std::env::current_exe().unwrap()).arg("a_process_dies").env("CF_STORE_DIES", place.address()).status().unwrap();
     assert!(!child.success());
-    let service = Service::with(place.store(), Functions::new().with("inc", 1, add_one), quick()).unwrap();
+    let service = Service::with(place.store(), Functions::new().with("inc", 1, add_one), hasty()).unwrap();
     let request = service.open("dies").unwrap();
     assert_eq!(
         settled::<i64>(&request.stage(once.number()).unwrap()),
@@ -268,7 +268,7 @@ fn what_hangs_on_an_abandoned_stage_is_not_tried_again() {
 fn a_try_whose_process_is_gone_is_done_once_more() {
     let place = Place::new("once more");
     let functions = || Functions::new().with("null", 1, |_: Option<i64>| Ok::<_, String>(1));
-    let mut nobody = quick();
+    let mut nobody = patient();
     nobody.threads = 0;
     let planner = Service::with(place.store(), functions(), nobody).unwrap();
     let request = planner.request("once more").unwrap();
@@ -276,7 +276,7 @@ fn a_try_whose_process_is_gone_is_done_once_more() {
     let last = one.then("null").unwrap().again(2).unwrap();
     assert!(one.fail(&Failed::new("Closed", "we are closed")).unwrap());
     assert!(request.stage(last.number() - 1).unwrap().fail(&Failed::new("Abandoned", "gone")).unwrap());
-    let service = Service::with(place.store(), functions(), quick()).unwrap();
+    let service = Service::with(place.store(), functions(), patient()).unwrap();
     let told = settled::<i64>(&service.open("once more").unwrap().stage(last.number()).unwrap());
     assert_eq!(told, Err(Error::Failed(Failed::new("Closed", "we are closed"))));
 }
@@ -284,7 +284,7 @@ fn a_try_whose_process_is_gone_is_done_once_more() {
 #[test]
 fn a_try_of_a_try_calls_the_function_of_the_first_stage() {
     let place = Place::new("tries");
-    let mut nobody = quick();
+    let mut nobody = patient();
     nobody.threads = 0;
     let planner = Service::with(place.store(), Functions::new().with("inc", 1, add_one), nobody).unwrap();
     let request = planner.request("tries").unwrap();
@@ -296,7 +296,7 @@ fn a_try_of_a_try_calls_the_function_of_the_first_stage() {
     for lost in [first, second] {
         assert!(lost.fail(&Failed::new("Abandoned", "gone")).unwrap());
     }
-    let service = Service::with(place.store(), Functions::new().with("inc", 1, add_one), quick()).unwrap();
+    let service = Service::with(place.store(), Functions::new().with("inc", 1, add_one), patient()).unwrap();
     assert_eq!(settled::<i64>(&service.open("tries").unwrap().stage(third.number()).unwrap()), Ok(2));
 }
 
@@ -305,7 +305,7 @@ fn a_try_of_a_try_calls_the_function_of_the_first_stage() {
 fn a_try_of_what_was_settled_by_hand() {
     let place = Place::new("by hand");
     let functions = || Functions::new().with("say", 1, |it: Value| Ok::<_, String>(json!({ "got": it })));
-    let mut nobody = quick();
+    let mut nobody = patient();
     nobody.threads = 0;
     let planner = Service::with(place.store(), functions(), nobody).unwrap();
     let request = planner.request("by hand").unwrap();
@@ -319,7 +319,7 @@ fn a_try_of_what_was_settled_by_hand() {
     };
     let rows = [(json!(null), json!(5)), (json!(5), json!(null)), (json!(5), json!(6)), (json!(null), json!(null))];
     let tries = rows.clone().map(|(first, second)| (tried(first.clone(), second), first));
-    let service = Service::with(place.store(), functions(), quick()).unwrap();
+    let service = Service::with(place.store(), functions(), patient()).unwrap();
     let request = service.open("by hand").unwrap();
     for (again, first) in tries {
         assert_eq!(settled::<Value>(&request.stage(again).unwrap()), Ok(json!({ "got": first })), "null is a value, too");
@@ -331,7 +331,7 @@ fn what_is_no_row_is_told() {
     let place = Place::new("broken");
     let store = place.store();
     store.open("no plan", "{}").unwrap();
-    let service = Service::with(place.store(), Functions::new(), quick()).unwrap();
+    let service = Service::with(place.store(), Functions::new(), patient()).unwrap();
     store.open("old plan", r#"{"cf":2,"flow":"","stages":[]}"#).unwrap();
     for name in ["no plan", "old plan"] {
         assert!(matches!(service.open(name), Err(StoreError::Broken { place: 0, .. })));

@@ -3,7 +3,7 @@
 mod common;
 
 use cf_store::{Entry, Error, Failed, Flow, Functions, Mark, Opened, Put, Service, Store, StoreError, Timer, Transaction, WordCounts};
-use common::{quick, rows, settled, AnyStore, Place};
+use common::{hasty, patient, rows, settled, AnyStore, Place};
 use serde_json::json;
 use std::any::Any;
 use std::collections::BTreeMap;
@@ -75,7 +75,7 @@ fn an_effect_stands_with_its_finish() {
         pay(db, name).unwrap();
         panic!("oh")
     });
-    let service = Service::with(place.store(), functions, quick()).unwrap();
+    let service = Service::with(place.store(), functions, patient()).unwrap();
     let mut flow = Flow::new("order");
     let name = flow.promise("name");
     let paying = flow.then(name, "pay");
@@ -104,12 +104,12 @@ fn others_of_the_process_go_on_meanwhile() {
         pay(db, name)
     };
     let functions = transactional(Functions::new(), &place, "slow", slow).with("inc", 1, |it: i64| Ok::<_, String>(it + 1));
-    let service = Service::with(place.store(), functions, quick()).unwrap();
+    let service = Service::with(place.store(), functions, patient()).unwrap();
     let request = service.request("two").unwrap();
     let [name, other, gate] = ["name", "other", "gate"].map(|it| request.promise(it).unwrap());
     let paying = name.then("slow").unwrap();
     name.complete("anna").unwrap();
-    begins.recv_timeout(Duration::from_secs(20)).unwrap();
+    begins.recv_timeout(Duration::from_secs(60)).unwrap();
     thread::scope(|scope| {
         for it in [&other, &gate] {
             scope.spawn(move || assert!(it.complete(&2).unwrap()));
@@ -123,7 +123,7 @@ fn others_of_the_process_go_on_meanwhile() {
 #[test]
 fn a_transactional_function_neither_puts_nor_ends_its_transaction() {
     let place = ledger("puts");
-    let planner = Service::with(place.store(), Functions::new(), quick()).unwrap();
+    let planner = Service::with(place.store(), Functions::new(), patient()).unwrap();
     let (own, other) = (planner.request("own").unwrap(), planner.request("other").unwrap());
     let puts: Arc<Mutex<Option<cf_store::Request>>> = Arc::default();
     let its = Arc::clone(&puts);
@@ -138,7 +138,7 @@ fn a_transactional_function_neither_puts_nor_ends_its_transaction() {
     });
     let functions = transactional(functions, &place, "begins", |db, _| does(db, "rollback").and_then(|_| does(db, "begin")));
     let functions = transactional(functions, &place, "pay", pay);
-    let service = Service::with(place.store(), functions, quick()).unwrap();
+    let service = Service::with(place.store(), functions, patient()).unwrap();
     let request = service.open("own").unwrap();
     *puts.lock().unwrap() = Some(request.clone());
     let supply = |function: &str| settled(&request.supply(function, &[json!("x")]).unwrap());
@@ -163,12 +163,12 @@ fn a_process_dies_in_its_transaction() {
             std::process::abort()
         };
         let functions = of_address(Functions::new(), &address, "pay", dies);
-        let service = Service::with(AnyStore::open(&address), functions, quick()).unwrap();
+        let service = Service::with(AnyStore::open(&address), functions, patient()).unwrap();
         let _never = settled::<String>(&service.open("dies").unwrap().stage(0).unwrap());
         return;
     }
     let place = ledger("within");
-    let mut nobody = quick();
+    let mut nobody = patient();
     nobody.threads = 0;
     let planner = Service::with(place.store(), transactional(Functions::new(), &place, "pay", pay), nobody).unwrap();
     let request = planner.request("dies").unwrap();
@@ -176,7 +176,7 @@ fn a_process_dies_in_its_transaction() {
     drop(planner);
     let mut child = Command::new(std::env::current_exe().unwrap());
     assert!(!child.arg("a_process_dies_in").env("CF_STORE_DIES_WITHIN", place.address()).status().unwrap().success());
-    let service = Service::with(place.store(), transactional(Functions::new(), &place, "pay", pay), quick()).unwrap();
+    let service = Service::with(place.store(), transactional(Functions::new(), &place, "pay", pay), hasty()).unwrap();
     let request = service.open("dies").unwrap();
     assert_eq!(settled::<String>(&request.stage(last.number()).unwrap()), Ok("anna".into()));
     assert!(matches!(settled::<String>(&request.stage(0).unwrap()), Err(Error::Abandoned(_))));
@@ -297,7 +297,7 @@ fn tried_before(
         done.push("paid".into());
         act(counted.fetch_add(1, Ordering::SeqCst))
     };
-    let mut options = quick();
+    let mut options = patient();
     options.warns = |_| {};
     let service = Service::with(store, Functions::new().transactional("pay", 1, pay), options).unwrap();
     let told = settled(&service.request("r").unwrap().supply("pay", &[]).unwrap());
@@ -319,7 +319,7 @@ fn a_commit_whose_answer_is_lost() {
 
 /// Another session of a place, which runs nothing.
 fn another(address: &str) -> cf_store::Request {
-    let mut nobody = quick();
+    let mut nobody = patient();
     nobody.threads = 0;
     let service = Service::with(AnyStore::open(address), Functions::new(), nobody).unwrap();
     service.open("r").unwrap()

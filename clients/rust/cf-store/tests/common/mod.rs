@@ -152,7 +152,7 @@ pub fn who_waits_elsewhere_is_told_of_the_last_word<S: Store + 'static>(store: i
     let store = store();
     until(|| !store.news(None).unwrap().0.contains_key("r"));
     drop(looks_away);
-    assert_eq!(stage.wait_timeout::<i64>(Duration::from_secs(20)), Ok(Some(7)));
+    assert_eq!(stage.wait_timeout::<i64>(Duration::from_secs(60)), Ok(Some(7)));
 }
 
 /// Comes back once this is so.
@@ -260,7 +260,15 @@ pub fn rows(connection: &mut dyn Any, statement: &str) -> Result<Vec<String>, St
     panic!("a connection of another engine")
 }
 
-pub fn quick() -> Options {
+/// Of a service that takes nobody for gone, however slow the machine is.
+pub fn patient() -> Options {
+    let mut options = Options::default();
+    options.lease = Duration::from_secs(60);
+    options
+}
+
+/// Of one that is to find soon that somebody is gone, or that a request is closed. Nobody else may run a function meanwhile.
+pub fn hasty() -> Options {
     let mut options = Options::default();
     options.lease = Duration::from_millis(500);
     options
@@ -302,7 +310,7 @@ pub fn settled<T: serde::de::DeserializeOwned>(stage: &Stage) -> Result<T, cf_st
 const FINISHES: &str = "
 import sys
 from cf.store import DurableService, connect
-service = DurableService(connect(sys.argv[1]), 2, lease=2)
+service = DurableService(connect(sys.argv[1]), 2, lease=60)
 @service.function('twice', version=1)
 def twice(number):
     return 2 * number
@@ -316,7 +324,7 @@ service.shutdown()
 const BEGINS: &str = "
 import sys
 from cf.store import DurableService, connect
-service = DurableService(connect(sys.argv[1]), 0, lease=2)
+service = DurableService(connect(sys.argv[1]), 0, lease=60)
 @service.function('inc', version=1)
 def inc(number): ...
 @service.function('declined', version=1)

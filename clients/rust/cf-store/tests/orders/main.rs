@@ -16,7 +16,7 @@ use std::sync::{Arc, Weak};
 use std::time::Duration;
 
 /// Longer than a machine at its limit takes. On one at rest each planted fault is found within milliseconds.
-const LIMIT: Duration = Duration::from_secs(80);
+const LIMIT: Duration = Duration::from_secs(600);
 /// By which order each planted fault has to be found.
 const SOON: u64 = 20;
 

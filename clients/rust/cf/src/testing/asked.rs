@@ -300,7 +300,7 @@ fn told(report: &Report) -> String {
 fn answered(line: &str) -> String {
     let question = Question::parse(line);
     let orders =
-        Orders::new().free_clock().failures(usize::MAX).as_found().time(Duration::from_secs(60)).most(question.most).workers(question.workers);
+        Orders::new().free_clock().failures(usize::MAX).as_found().time(Duration::from_secs(600)).most(question.most).workers(question.workers);
     let orders = if question.is_counted { orders.all() } else { orders };
     told(&orders.run(move |world| asked(&question, world)))
 }

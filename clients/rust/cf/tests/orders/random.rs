@@ -79,7 +79,7 @@ pub fn come_to_the_same_ends<P: Program>(said: &str) {
 /// what differs.
 fn compared<P: Program>(seed: u64, most: u64) -> Option<(u64, u64, Option<String>)> {
     let program = P::of(&mut Dice(seed));
-    let orders = Orders::new().failures(usize::MAX).as_found().time(Duration::from_secs(60));
+    let orders = Orders::new().failures(usize::MAX).as_found().time(Duration::from_secs(600));
     let (plainly, reduced) = (program.clone(), program.clone());
     let plain = orders.clone().all().most(most).run(move |world| plainly.run(world));
     if !plain.whole {
