@@ -67,6 +67,23 @@ fn a_function_gives_a_stage_to_wait_for() {
     assert!(matches!(settled::<i64>(&strays), Err(Error::Failed(failed)) if failed.kind == "TypeError"));
 }
 
+/// It doesn't wait for the next beat.
+#[test]
+fn what_a_relay_makes_ready_is_called_at_once() {
+    let place = Place::new("relays");
+    let functions = Functions::new()
+        .with("inc", 1, add_one)
+        .composing("gives", 1, |request: &Request, stage: u16| Ok::<_, Failed>(request.stage(stage).expect("it is there")));
+    let mut seldom = patient();
+    (seldom.threads, seldom.lease) = (1, Duration::from_secs(1000));
+    let service = Service::with(place.store(), functions, seldom).unwrap();
+    let request = service.request("relays").unwrap();
+    let stage = request.promise("stage").unwrap();
+    let last = stage.compose("gives").unwrap().then("inc").unwrap();
+    assert!(stage.complete(&stage.number()).unwrap());
+    assert_eq!(settled::<i64>(&last), Ok(1));
+}
+
 #[test]
 fn what_composes_is_called_by_what_composes_alone() {
     let place = Place::new("kinds");
