@@ -202,7 +202,10 @@ def rows_of_rust(tools: Tools, made: Path) -> List[Row]:
         Row(
             "Rust's tests with all features, over SQLite, over etcd and in every order",
             [*stored, MODULE, "cf_look"],
-            [["env", f"CF_LOOK={tools['cf_look']}", *over_debian, "test", *with_all, "--lib", "--tests"]],
+            [
+                [*over_debian, "test", *with_all, "--lib", "--tests", "--no-run"],
+                ["env", f"CF_LOOK={tools['cf_look']}", *over_debian, "test", *with_all, "--lib", "--tests"],
+            ],
         ),
         Row(
             "Rust's requests in PostgreSQL",

@@ -51,7 +51,7 @@ class Postgres:
                 f"\nlisten_addresses='127.0.0.1'\nport={self.port}\nunix_socket_directories=''\nmax_connections=300\n"
                 f"shared_buffers=128MB\n{options}\n"
             )
-        self._do("pg_ctl", "-D", self.folder, "-w", "-l", f"{self.folder}/log", "start")
+        self._do("pg_ctl", "-D", self.folder, "-w", "-t", "300", "-l", f"{self.folder}/log", "start")
         self.address = self.by(self.port)
 
     def _make(self):
@@ -70,7 +70,7 @@ class Postgres:
 
     def breaks(self):
         """The server and all its processes die at once, as by a crash; it recovers by its log."""
-        self._do("pg_ctl", "-D", self.folder, "-m", "immediate", "-w", "-l", f"{self.folder}/log", "restart")
+        self._do("pg_ctl", "-D", self.folder, "-m", "immediate", "-w", "-t", "300", "-l", f"{self.folder}/log", "restart")
         return "restarted at once"
 
     def proxied(self, chance):
@@ -78,7 +78,7 @@ class Postgres:
         return [proxy], self.by(proxy.port)
 
     def stop(self):
-        self._do("pg_ctl", "-D", self.folder, "-m", "fast", "-w", "stop")
+        self._do("pg_ctl", "-D", self.folder, "-m", "fast", "-w", "-t", "300", "stop")
 
 
 class Etcd:
