@@ -1,6 +1,7 @@
 """Runs rows, some at a time, each as soon as what it needs is there, and counts how many passed."""
 import contextlib
 import difflib
+import re
 import subprocess
 import threading
 import time
@@ -13,14 +14,16 @@ from checking.tools import BUILDS_WHEELS, DEBIANS, Tools
 
 SECONDS = 1200  # for a command of a row
 LAST = 30  # lines that are shown of what a failed command printed on each stream
+NAMES = re.compile("(FAIL|ERROR|failed|error): ")  # as suites begin the line that names a test
 BY_CHANCE = 20  # if more rows than these fail, that isn't chance; all rows over a jar fail with it
 IN_TURN = [DEBIANS, "cargo", "JDK of 17 or later", BUILDS_WHEELS]  # rows that need one of these share files
 
 
 def last_of(printed: Union[bytes, str, None]) -> List[str]:
-    """The last lines of what a command printed: there a suite tells which test failed."""
+    """The last lines of what a command printed, and of the others those that name a test that failed."""
     lines = (printed.decode(errors="replace") if isinstance(printed, bytes) else printed or "").rstrip().splitlines()
-    return lines if len(lines) <= LAST else [f"({len(lines) - LAST} lines are left out)", *lines[-LAST:]]
+    named = [line for line in lines[:-LAST] if NAMES.match(line)][-5:]
+    return lines if len(lines) <= LAST else [*named, f"({len(lines) - LAST - len(named)} lines are left out)", *lines[-LAST:]]
 
 
 def run(commands: Sequence[Sequence[str]], environment: dict, seconds: Optional[int]) -> Tuple[str, str]:
@@ -55,9 +58,10 @@ def wrong(row: Row, environment: dict) -> str:
 
 
 def in_a_line(fault: str) -> str:
-    """The first line of what is wrong, and the last, which names the test."""
-    first, *_, last = fault.splitlines() * 2
-    return first if first == last else f"{first}: {last.strip()}"
+    """The first line of what is wrong, and the last one that names a test, or the last of all."""
+    first, *rest = fault.splitlines()
+    named = [line for line in rest if NAMES.match(line)] or rest
+    return ": ".join([first, *(line.strip() for line in named[-1:])])
 
 
 class Counts:

@@ -8,7 +8,7 @@ from pathlib import Path
 from typing import List
 
 from checking.rows import Row
-from checking.running import BY_CHANCE, LAST, Counts, Rows, run, run_again, run_rows
+from checking.running import BY_CHANCE, LAST, Counts, Rows, in_a_line, run, run_again, run_rows
 from checking.tools import Tools
 
 FAILS_ONCE = 'if mkdir "$1"; then echo first >&2; exit 1; fi; echo again >> "$2"'
@@ -110,8 +110,9 @@ class RowsThatFail(unittest.TestCase):
     def test_what_is_told(self) -> None:
         """The last lines of each stream, also of a command that doesn't end."""
         for end, seconds, told in [("exit 4", 60, "sh ended with status 4"), ("exec sleep 60", 3, "sh hasn't ended after 3 s")]:
-            fault = run([["sh", "-c", f"seq {LAST + 5}; echo the fault >&2; {end}"]], {}, seconds)[1].splitlines()
-            self.assertEqual(fault, [told, "(5 lines are left out)", *map(str, range(6, LAST + 6)), "the fault"])
+            fault = run([["sh", "-c", f"echo FAIL: this; seq {LAST + 5}; echo the fault >&2; {end}"]], {}, seconds)[1]
+            self.assertEqual(fault.splitlines(), [told, "FAIL: this", "(5 lines are left out)", *map(str, range(6, LAST + 6)), "the fault"])
+            self.assertEqual(in_a_line(fault), f"{told}: FAIL: this")
 
 
 if __name__ == "__main__":
