@@ -85,6 +85,7 @@ def rows_of_python(tools: Tools, made: Path) -> List[Row]:
         example("Python's order of three processes", "order.py", "docs/STORES.md"),
         example("Python's order whose bank is away", "retry.py", "docs/STORES.md"),
         example("Python's orders in an event loop", "handler.py", "docs/STORES.md"),
+        example("Python's order in a store, whose client hangs up", "hangs_up.py", "clients/python/examples"),
         example("Python's order that charges twice", "twice.py", "docs/TESTING.md"),
         example("Python's orders that charge once", "once.py", "clients/python/examples"),
         example("Python's order over a store that charges twice", "killed.py", "docs/TESTING.md"),
@@ -181,7 +182,8 @@ def rows_of_rust(tools: Tools, made: Path) -> List[Row]:
     features += [f"cf-store/{it}" for it in ["etcd", "postgres", "sqlite", "testing"]]  # (all but `dynamic` of cf-sys)
     over_debian, with_all = [python, offline, "--debian"], ["-q", "--workspace", "--features", ",".join(features)]
     stored, order, orders = [*needs, DEBIANS], made / "cargo/debian/debug/examples/order", made / "rust-orders.db"
-    built = [*over_debian, "build", *with_all, *(word for name in ["handler", "killed", "keyed", "served"] for word in ("--example", name))]
+    run = ["handler", "hangs_up", "killed", "keyed", "served"]
+    built = [*over_debian, "build", *with_all, *(word for name in run for word in ("--example", name))]
     every = ["--workspace", "--all-features"]
     lints = [*every, "--all-targets", "--", "-D", "warnings"]
     over_stores = ["again", "ends", "flows", "postgres", "questions", "sqlite", "transactions", "whole"]
@@ -239,6 +241,7 @@ def rows_of_rust(tools: Tools, made: Path) -> List[Row]:
         ),
         example("Rust's order whose bank is away", "retry", "clients/rust/GUIDE.md", "-p", "cf"),
         over_all("Rust's server of hyper's, whose client hangs up", "served", "clients/rust/cf/examples"),
+        over_all("Rust's server over a store, whose client hangs up", "hangs_up", "clients/rust/cf-store/examples"),
         example("Rust's spans", "traced", "clients/rust/cf/examples", "-p", "cf"),
         example("Rust's first program", "first", "clients/rust", "-p", "cf"),
         Row(
