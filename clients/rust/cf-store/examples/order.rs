@@ -23,10 +23,10 @@ fn main() -> Result<(), Box<dyn std::error::Error>> {
     let order = flow.promise("order");
     let reserved = flow.then(order, "reserve");
     let charged = flow.then(reserved, "charge");
-    let paid = flow.again(charged, 1); // a further try, if the process of the first one dies
+    let paid = flow.again(charged, 1); // if its process dies
 
     let functions = Functions::new().with("reserve", 1, reserve).with("charge", 1, charge);
-    let options = Options::default().lease(Duration::from_secs(2)); // a process that is silent for so long counts as dead
+    let options = Options::default().lease(Duration::from_secs(2)); // a process silent for so long is dead
     let service = Service::with(SQLite::open(env::args().nth(1).unwrap())?, functions, options)?;
     let request = service.start(&flow, "order 17", &[json!({"number": 17})])?;
     println!("{}", request.step(paid).unwrap().wait::<Value>()?);
