@@ -317,6 +317,7 @@ def rows_of_java(tools: Tools, made: Path) -> List[Row]:
             [["sh", "-c", f"rm -f {orders}* && {order} {orders} && {order} {orders} Ada && {order} {orders}"]],
             ("clients/java", "Order"),
         ),
+        Row("Java's order in a store, whose client hangs up", [*needs, SQLITE_JDBC], [[*java, "HangsUp"]], ("clients/java/example", "HangsUp")),
         Row(
             "Java's worker that runs alone",
             [*needs, "python3", SQLITE_JDBC],
