@@ -5,7 +5,7 @@ from typing import List, NamedTuple, Optional, Sequence, Tuple
 
 from checking.crates import TOP, edits_of_gate, own
 from checking.tools import ASGI, BUILDS_WHEELS, DEBIANS, DJANGO, JUNIT, MAVEN, MODULE, NAMESPACES, PACKS, POSTGRES, POSTGRES_JDBC, PROMETHEUS
-from checking.tools import PYTEST, SLF4J, SQLITE_JDBC, Tools
+from checking.tools import PYTEST, SECOND, SLF4J, SQLITE_JDBC, Tools
 
 HEADER = "crates/cf_c/include"
 WARNED = ["-Wall", "-Wextra", "-pedantic", "-Werror"]
@@ -507,7 +507,7 @@ def rows(tools: Tools, made: Path, is_gate: bool) -> List[Row]:
         ),
         freed(tools, made, "cf_look", "explore", "examples/explore/complete-or-cancel.json"),
         freed(tools, made, "cf", "race", "examples/race-fan-out.json"),
-        Row("calls of threads that overlap, in real time", ["library", "clang"], [overlapping, [str(made / "overlaps"), "20000"]]),
+        Row("calls of threads that overlap, in real time", ["library", "clang", SECOND], [overlapping, [str(made / "overlaps"), "20000"]]),
         Row("rows of scripts and their reports", ["cf", "cf_look"], [["tests/rows", tools["cf"], tools["cf_look"]]]),
         Row("calls that stand in their callers' code", ["cf_bench", "binutils"], [["sweeps/inline", tools["cf_bench"]]]),
         Row(

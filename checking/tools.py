@@ -26,6 +26,7 @@ MAVEN = "Maven with plugins, as Debian's libexec-maven-plugin-java, libmaven-com
 PLUGINS = ["apache/maven/plugins/maven-compiler-plugin", "apache/maven/plugins/maven-resources-plugin", "codehaus/mojo/exec-maven-plugin"]
 SLF4J = "SLF4J, as Debian's libslf4j-java has it"
 NAMESPACES = "file system of its own, as unshare makes it"
+SECOND = "second processor"
 PACKS = "cargo that can package without a lock file"
 NOTHING = "int main(void) { return 0; }\n"
 
@@ -48,6 +49,7 @@ class Tools:
         entered = ["unshare", "--mount", "--net", *(["--map-root-user"] if os.geteuid() else []), "mount", "-t", "tmpfs", "none", str(made)]
         self.found[NAMESPACES] = self.answering(entered)
         self.found[PACKS] = self.answering(["cargo", "package", "--exclude-lockfile", "--help"])
+        self.found[SECOND] = "there" if len(os.sched_getaffinity(0)) > 1 else None
         self.found["git"] = shutil.which("git") if (TOP / ".git").exists() else None
         compilers = [self.of_kit(), "clang"]
         self.found["clang"] = self.first(compilers, "#include <stdbool.h>\n" + NOTHING, "-fsyntax-only")
