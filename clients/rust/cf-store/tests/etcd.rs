@@ -27,7 +27,7 @@ struct Server {
 
 /// One that nobody listens at. The kernel gives no port below 32,768 to who connects.
 fn free_port() -> u16 {
-    let any = || 10_000 + (SystemTime::now().duration_since(UNIX_EPOCH).unwrap().subsec_nanos() / 1000 % 22_768) as u16;
+    let any = || 10_000 + (SystemTime::now().duration_since(UNIX_EPOCH).unwrap().subsec_micros() % 22_768) as u16;
     iter::repeat_with(any).find(|port| TcpListener::bind((HOST, *port)).is_ok()).unwrap()
 }
 

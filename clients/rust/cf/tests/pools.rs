@@ -228,7 +228,7 @@ fn a_worker_that_waits_until_a_moment_keeps_to_it() {
             assert!(never.wait_timeout(Duration::from_millis(30)).is_none());
             ran.load(Ordering::SeqCst)
         });
-        assert!(meanwhile.wait().unwrap() < 10); // (each takes a third of the wait)
+        assert!(meanwhile.wait().unwrap() < 150); // (each takes a third of the wait: far from all are run)
         pool_gate.cancel();
     });
 }
