@@ -1,5 +1,5 @@
 -- A claim changes one stage at most, which is settled neither before nor after.
-use Rattle.std.proofs.Common.{◌≡◌, ◌≢◌, ◌<◌, ℕ, zero, suc, Option, Some, true, false, List, [], ◌∷◌, length, set, refl, ap, sym, ◌∙◌, arith, subst, inl, inr, append-nil, drop}
+use Rattle.std.proofs.Common.{◌≡◌, ◌≢◌, ◌<◌, ℕ, zero, suc, Option, Some, true, false, List, [], ◌∷◌, length, set, refl, ap, sym, ◌∙◌, arith, subst, inl, inr, append-nil, drop, ◌⊎◌}
 use Rattle.std.specs.Prelude.{is_some, option_and_then, unwrap_or}
 use Rattle.std.proofs.lemmas.Bool.{cases_eq}
 use Rattle.std.proofs.lemmas.List.Elements.{All-nil}
@@ -9,10 +9,13 @@ use Rattle.cf_model.specs.declared.stage.Stage.TheVariants.{Pending, Ready, Clai
 use Rattle.cf_model.specs.declared.events.Event.{Event}
 use Rattle.cf_model.specs.declared.events.Event.TheVariants.{Claim as Claims}
 use Rattle.cf_model.specs.declared.events.Reply.{Reply}
+use Rattle.cf_model.specs.declared.events.Reply.TheVariants.{Claim as ToldClaim}
+use Rattle.cf_model.specs.declared.replies.Claimed.{Claimed as Told}
+use Rattle.cf_model.specs.declared.replies.Claimed.TheVariants.{Granted, Settled as RefusedAsSettled, Taken as RefusedAsTaken, NotReady}
 use Rattle.cf_model.specs.Events.{answered, claimed_by, claiming}
 use Rattle.cf_model.specs.Graphs.{stage_in}
 use Rattle.cf_model.specs.Ranges.{EventFits}
-use Rattle.cf_model.specs.States.{State, outcome_of}
+use Rattle.cf_model.specs.States.{State, is_ready, outcome_of}
 use Rattle.cf_model.proofs.StateLemmas.{slice_get-set_other}
 use Rattle.cf_event.specs.Decoding.{event_of}
 use Rattle.cf_ledger.specs.Ledgers.{Does, Ledger, stages_of, state_of}
@@ -21,6 +24,10 @@ use Rattle.cf_request.specs.Telling.{AreFresh, AreSettled, IsKept, Tells, is_set
 use Rattle.cf_request.proofs.Sets.{fit_others, fit_reached_all}
 use Rattle.cf_request.proofs.Telling.{next_is, same_most, settled_more, view_of}
 use Rattle.cf_request.proofs.Words.{none_lost}
+
+-- it isn't granted
+abbrev pub IsRefused : Told → Type 0
+IsRefused told = (told ≡ RefusedAsSettled) ⊎ ((told ≡ RefusedAsTaken) ⊎ (told ≡ NotReady))
 
 others_by : (x : Stage) (s : State) (who i j : ℕ) → j ≢ i → stage_in ((claimed_by x s who i).1.stages) j ≡ stage_in s.stages j
 others_by (Ready args) s who i j differs = ap (λ (o : Option Stage). unwrap_or o Pending) (slice_get-set_other s.stages i j Claimed differs)
@@ -57,6 +64,46 @@ fresh_claim old new word who i reply does is =
     let s = state_of old in
     subst (λ (t : State). AreFresh s.stages t.stages []) (sym (next_claimed old new word who i reply does is))
     (none_fresh s.stages ((claiming s who i).1.stages) (λ j. settled_by (stage_in s.stages i) s who i j refl))
+
+-- a stage that is claimed isn't ready
+unready : (stages : List Stage) (i : ℕ) → is_ready (stage_in (set stages i Claimed) i) ≡ false
+unready [] i = refl
+unready (x ∷ stages) zero = refl
+unready (x ∷ stages) (suc i) = unready stages i
+
+granted_by : (x : Stage) (s : State) (who i : ℕ) (args : Args) → (claimed_by x s who i).0 ≡ Granted args → is_ready (stage_in ((claimed_by x s who i).1.stages) i) ≡ false
+granted_by (Ready a) s who i args h = unready s.stages i
+granted_by (Settled o) s who i args h = absurd (cc)
+granted_by Claimed s who i args h = absurd (cc)
+granted_by (Linked k) s who i args h = absurd (cc)
+granted_by Pending s who i args h = absurd (cc)
+
+-- where none is granted, all stays
+refused_by : (x : Stage) (s : State) (who i : ℕ) (told : Told) → (claimed_by x s who i).0 ≡ told → IsRefused told → (claimed_by x s who i).1 ≡ s
+refused_by (Ready a) s who i told is (inl h) = (let wrong : Granted a ≡ RefusedAsSettled = is ∙ h in absurd (cc))
+refused_by (Ready a) s who i told is (inr (inl h)) = (let wrong : Granted a ≡ RefusedAsTaken = is ∙ h in absurd (cc))
+refused_by (Ready a) s who i told is (inr (inr h)) = (let wrong : Granted a ≡ NotReady = is ∙ h in absurd (cc))
+refused_by (Settled o) s who i told is h = refl
+refused_by Claimed s who i told is h = refl
+refused_by (Linked k) s who i told is h = refl
+refused_by Pending s who i told is h = refl
+
+told_claimed : (old new : Ledger) (word who i : ℕ) (told : Told) → Does word old (ToldClaim told) new → event_of word ≡ Some (Claims who i) → (claiming (state_of old) who i).0 ≡ told
+told_claimed old new word who i told does is =
+    let same : does.event ≡ Claims who i = (let read = does.read in cc) in
+    let all : (ToldClaim told, state_of new) ≡ answered (state_of old) (Claims who i) = does.told ∙ ap (answered (state_of old)) same in
+    let reply : ToldClaim told ≡ ToldClaim ((claiming (state_of old) who i).0) = ap (λ p. p.0) all in
+    (let e = reply in cc)
+
+pub granted_claim : (old new : Ledger) (word who i : ℕ) (args : Args) → Does word old (ToldClaim (Granted args)) new → event_of word ≡ Some (Claims who i) → is_ready (stage_in (state_of new).stages i) ≡ false
+granted_claim old new word who i args does is =
+    subst (λ (t : State). is_ready (stage_in t.stages i) ≡ false) (sym (next_claimed old new word who i (ToldClaim (Granted args)) does is))
+    (granted_by (stage_in (state_of old).stages i) (state_of old) who i args (told_claimed old new word who i (Granted args) does is))
+
+pub refused_claim : (old new : Ledger) (word who i : ℕ) (told : Told) → Does word old (ToldClaim told) new → event_of word ≡ Some (Claims who i) → IsRefused told → state_of new ≡ state_of old
+refused_claim old new word who i told does is h =
+    next_claimed old new word who i (ToldClaim told) does is
+    ∙ refused_by (stage_in (state_of old).stages i) (state_of old) who i told (told_claimed old new word who i told does is) h
 
 -- what is kept stays
 pub kept_claim : (old new : Ledger) (word who i : ℕ) (reply : Reply) (order : List ℕ) (places count : ℕ) → IsKept old order places count → Does word old reply new → event_of word ≡ Some (Claims who i) → IsKept new order places count

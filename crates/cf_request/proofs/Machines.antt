@@ -1,8 +1,9 @@
 -- What a machine keeps.
-use Rattle.std.proofs.Common.{◌≡◌, ◌≢◌, ℕ, zero, suc, ◌+◌, ◌-◌, ◌<◌, ◌≤◌, Bool, true, false, arith, replicate, cond, inl, inr, Option, Some, None, List, [], ◌∷◌, ◌++◌, All, get_or, length, length-append, refl, ap, set, sym, ◌∙◌, subst}
+use Rattle.std.proofs.Common.{◌≡◌, ◌≢◌, ℕ, zero, suc, ◌+◌, ◌-◌, ◌<◌, ◌≤◌, Bool, true, false, arith, replicate, cond, inl, inr, Option, Some, None, List, [], ◌∷◌, ◌++◌, All, drop, get_or, length, length-append, refl, ap, set, sym, ◌∙◌, subst}
 use Rattle.std.specs.Prelude.{◌==◌, ◌&&◌, Err, IfNone, IfOk, Ok, Result, is_some, not, slice_get, unwrap_or}
 use Rattle.std.specs.List.{filter}
 use Rattle.std.proofs.Math.Nat.{le-max_left}
+use Rattle.std.proofs.Math.Seq.{drop-length}
 use Rattle.std.proofs.lemmas.Bool.{cases_lt, eq-eqb}
 use Rattle.std.proofs.lemmas.List.{length-replicate}
 use Rattle.std.proofs.lemmas.List.Elements.{All-cons, All-nil, All-push, All-weaker}
@@ -29,7 +30,7 @@ use Rattle.cf_request.specs.Lanes.{FinishesHeld, IsIdle, NoneReadyIn, NothingIsR
 use Rattle.cf_request.specs.Machines.{AreBothThere, CancelsAll, CatchesUp, GoesOn, IsMachine, IsNoFollow, IsNoJoin, IsNoWord, Machine, Refuses, open_in, stages_in}
 use Rattle.cf_request.specs.Ready.{Lanes, lane_of}
 use Rattle.cf_request.specs.Refusals.{AllSettled, IsCancelled, IsRefused}
-use Rattle.cf_request.specs.Relays.{AreIn, AreRelays, IsNotBehind, IsRelayDue, IsRelayOr, MarksAll, MayCatchUp, MayCatchUpWith, NoneBehind, open_relays, waiting_of}
+use Rattle.cf_request.specs.Relays.{AreIn, AreRelays, IsNotBehind, IsRelayDue, IsRelayOr, MarksAll, MayCatchUp, MayCatchUpWith, NoneBehind, is_in_flags, open_relays, waiting_of}
 use Rattle.cf_request.specs.Settling.{SettlesDue}
 use Rattle.cf_request.specs.Telling.{Teller, Tells, TellsEvent, is_settled_in, with_memory}
 use Rattle.cf_request.specs.declared.deadlines.Deadline.{Deadline}
@@ -44,7 +45,7 @@ use Rattle.cf_request.proofs.Decided.{undecided_same}
 use Rattle.cf_request.proofs.Lists.{weigh}
 use Rattle.cf_request.proofs.Memory.{relays_stay, spends_held, spends_word}
 use Rattle.cf_request.proofs.Moments.{set_left, set_more}
-use Rattle.cf_request.proofs.Behind.{looked_held, looked_none, looked_word, marked_more, stay_word}
+use Rattle.cf_request.proofs.Behind.{looked_held, looked_none, looked_word, marked_more, none_behind, stay_word}
 use Rattle.cf_request.proofs.Turns.{Keeps, StaySettled, after_event, dues_none, follows_kept, follows_word, keeps_dues, keeps_event, keeps_memory, keeps_same, keeps_then, limits_kept, limits_word}
 use Rattle.cf_request.proofs.Words.{none_lost}
 
@@ -128,6 +129,20 @@ no_word words word m r NoMemory is refused short = let found = free_found words 
 no_word words word m r NoEvent is refused short = subst (λ (t : Teller). LedgerRefuses (state_of t.ledger) word NoEvent) is refused
 no_word words word m r NoStage is refused short = subst (λ (t : Teller). LedgerRefuses (state_of t.ledger) word NoStage) is refused
 no_word words word m r NoRoom is refused short = subst (λ (t : Teller). LedgerRefuses (state_of t.ledger) word NoRoom) is refused
+
+-- a word that settles nothing leaves no join behind
+pub still_word : (words : ℕ) (a r b : Teller) (word : ℕ) (reply : Reply) (w : Relays) (deadlines : List Deadline) (own : ℕ) → IsMachine a w.follows.items deadlines own → NoneBehind w.follows.items (state_of a.ledger).stages →
+    AreRelays (state_of a.ledger).stages w.follows.items w.followed w.waiting → r ≡ with_memory words a → w.waiting ≤ r.ledger.free - 1 → Tells word r reply b → b.told ≡ r.told → CatchesUp own w.follows.items b b × (open_relays b w ≤ w.waiting)
+still_word words a r b word reply w deadlines own machine none relays found enough tells same =
+    let seen = length r.told in
+    let may = may_word words a r b word reply w deadlines own seen machine none relays found refl enough tells in
+    let nothing : [] ≡ drop seen b.told = sym (ap (drop seen) same ∙ drop-length r.told) in (
+      record {
+        settles = dues_none (IsRelayDue w.follows.items) own b;
+        none = none_behind seen b.told [] w.followed w.follows.items (state_of b.ledger).stages nothing may.marked may.looked_at (All-nil (λ (i : ℕ). is_in_flags w.followed i ≡ false));
+      },
+      may.settle.counted,
+    )
 
 -- what is kept, once relays are settled
 pub kept_all : (own : ℕ) (a b : Teller) (w : Relays) (deadlines : List Deadline) (now : ℕ) (stages : List Stage) → CatchesUp own w.follows.items a b → IsMachine a w.follows.items deadlines own →

@@ -26,7 +26,7 @@ use crate::refusals::{Ending, end_all, open_stages};
 use crate::relays::{Relays, catch_up, catch_up_with, mark_sources};
 use crate::teller::Teller;
 use cf_bits::BitSet;
-use cf_event::{LAST_CALLER, claim_of, giving_of};
+use cf_event::LAST_CALLER;
 use cf_forms::Answer;
 use cf_ledger::{Finish, Held, Ledger, LedgerFault, Reply, StepFault, Taken};
 use cf_model::{Claimed, Event, Finished};
@@ -152,20 +152,17 @@ impl Machine {
         ensures why { IfErr result (λ fault. IsNoWord word self.old fault) }
         ensures found { IfErr result (λ fault. fault ≢ LedgerFault.NoMemory → waiting_in self.old ≤ free_in self.new) }
     {
-        // The reply of each of the two most frequent kinds of word is known where it is given on.
-        if let Some((who, stage)) = claim_of(word) {
-            return Ok(Reply::Claim(self.apply_claim(who, stage, word)?));
-        }
-        if let Some((who, stage, v)) = giving_of(word) {
-            let answer = Answer::Give(v);
-            return Ok(Reply::Finish(self.apply_finish(who, stage, answer, word)?));
-        }
-        self.apply_other(word, lane)
+        self.teller.reserve(words_beside(self.relays.waiting))?;
+        let seen = self.teller.told().len();
+        let reply = self.teller.apply(word, lane)?;
+        self.relays.waiting = catch_up(&mut self.teller, &self.relays, seen, self.own);
+        Ok(reply)
     }
 
-    /// Does a claim, whose word this is, as `apply` does.
+    /// Does a claim, whose word this is, as `apply` does. Whoever has read the word already saves reading it again. It
+    /// settles nothing, so it looks at no relay.
     #[inline(always)]
-    fn apply_claim(&mut self, who: u8, stage: u16, word: u64) -> Result<Claimed, LedgerFault>
+    pub fn apply_claim(&mut self, who: u8, stage: u16, word: u64) -> Result<Claimed, LedgerFault>
         requires read { event_of word ≡ Some (Event.Claim who stage) }
         requires named { word_of (Event.Claim who stage) ≡ word }
         ensures done { IfOk result (λ told.
@@ -175,15 +172,13 @@ impl Machine {
         ensures found { IfErr result (λ fault. fault ≢ LedgerFault.NoMemory → waiting_in self.old ≤ free_in self.new) }
     {
         self.teller.reserve(words_beside(self.relays.waiting))?;
-        let seen = self.teller.told().len();
         let told = self.teller.claim_word(who, stage, word)?;
-        self.relays.waiting = catch_up(&mut self.teller, &self.relays, seen, self.own);
         Ok(told)
     }
 
     /// Does a finish, whose word this is, as `apply` does.
     #[inline(always)]
-    fn apply_finish(
+    pub fn apply_finish(
         &mut self,
         who: u8,
         stage: u16,
@@ -203,22 +198,6 @@ impl Machine {
         let told = self.teller.finish_word(who, stage, answer, word)?;
         self.relays.waiting = catch_up(&mut self.teller, &self.relays, seen, self.own);
         Ok(told)
-    }
-
-    /// Does a word of any kind as `apply` does.
-    #[inline(always)]
-    fn apply_other(&mut self, word: u64, lane: u8) -> Result<Reply, LedgerFault>
-        requires { lane < self.old.teller.lanes.count }
-        ensures done { IfOk result (λ reply. AppliesWord word lane self.old reply self.new) }
-        ensures refused { OnErr result (OnlyFinds self.old self.new) }
-        ensures why { IfErr result (λ fault. IsNoWord word self.old fault) }
-        ensures found { IfErr result (λ fault. fault ≢ LedgerFault.NoMemory → waiting_in self.old ≤ free_in self.new) }
-    {
-        self.teller.reserve(words_beside(self.relays.waiting))?;
-        let seen = self.teller.told().len();
-        let reply = self.teller.apply(word, lane)?;
-        self.relays.waiting = catch_up(&mut self.teller, &self.relays, seen, self.own);
-        Ok(reply)
     }
 
     /// A caller attaches a stage that gathers these sources, of which there may be any number: it settles as an allOf

@@ -163,13 +163,17 @@ impl Teller {
         requires read { event_of word ≡ Some (Event.Claim who stage) }
         requires named { word_of (Event.Claim who stage) ≡ word }
         ensures done { IfOk result (λ told. (lane : ℕ) → TellsWord lane word self.old (Reply.Claim told) self.new) }
+        ensures settles_none { OnOk result (self.new.told ≡ self.old.told) }
         ensures all { OnOk result (HasLanes (state_of self.old.ledger) self.old.lanes.of) }
         ensures refused { OnErr result (self.new ≡ self.old) }
         ensures why { IfErr result (λ fault. LedgerRefuses (state_of self.old.ledger) word fault) }
         ensures short { IfErr result (λ fault. IsShort self.old.ledger.free fault) }
     {
         let told = self.ledger.claim(who, stage, word)?;
-        self.lanes.write(stage, is_ready(self.ledger.stage(stage)));
+        match told {
+            Claimed::Granted(_) => self.lanes.write(stage, false),
+            Claimed::Settled | Claimed::Taken | Claimed::NotReady => {}
+        }
         Ok(told)
     }
 

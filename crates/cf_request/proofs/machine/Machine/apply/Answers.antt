@@ -4,7 +4,7 @@ use Rattle.std.specs.VecDeque.{deque_capacity}
 use Rattle.cf_ledger.specs.Ledgers.{state_of}
 use Rattle.cf_request.specs.Machines.{AppliesWord, Machine}
 use Rattle.cf_request.proofs.Machines.{kept_all, kept_found, kept_word, may_word}
-use Rattle.cf_request.proofs.machine.Machine.apply_other.Goals as goal
+use Rattle.cf_request.proofs.machine.Machine.apply.Goals as goal
 
 pub catch_up-self-inside-requires-clause-may : goal.catch_up-self-inside-requires-clause-may
 catch_up-self-inside-requires-clause-may c =
