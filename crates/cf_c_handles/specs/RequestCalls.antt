@@ -99,6 +99,12 @@ TellsIn = TellsAfter (λ old new. new ≡ old) (λ m fault. ⊥)
 
 -- ---- words
 
+-- a word is done, and C has its reply
+pub record Answers (word lane : ℕ) (old new : Machine) (has : CfReply) : Type 0 where
+  pub reply : Reply
+  pub applies : AppliesWord word lane old reply new
+  pub replied : has ≡ as_reply reply
+
 -- a word is done, and C has its reply and what is told
 pub record HasApplied (word lane : ℕ) (old : Machine) (new : Object) (had has : CfReply × List CfTold × CfTodo) : Type 0 where
   pub reply : Reply

@@ -13,6 +13,7 @@ pub mod composing;
 pub mod doing;
 pub mod gathering;
 pub mod row;
+mod words;
 
 use crate::code::Code;
 use crate::handle::object::Object;

@@ -1,7 +1,7 @@
 //! Values, outcomes, arguments, answers and replies as C has them. An unknown `kind` is read as the last one.
 ghost use Rattle.std.specs.Prelude.{◌≡◌, None, Some};
 ghost use Rattle.cf_forms.specs.declared.forms.Args.TheVariants.{None as NoArgs};
-ghost use Rattle.cf_model.specs.declared.events.Reply.TheVariants.{Claim};
+ghost use Rattle.cf_model.specs.declared.events.Reply.TheVariants.{Claim, Finish};
 ghost use Rattle.cf_c_handles.specs.Replies.{as_reply, finish_number, reply_with};
 ghost use Rattle.cf_c_handles.specs.Values.{answer_of, answer_with, args_with, as_answer, as_args, as_fault, as_now, as_outcome, as_value, cause_of, no_fault, outcome_of, value_of};
 
@@ -254,13 +254,35 @@ pub(crate) fn as_args(args: Args) -> CfArgs
     }
 }
 
-/// Writes what a function is called with. Only the parts that aren't 0 are written one by one, so that nothing is put
-/// together in memory first and then copied.
+/// No arguments, for C: all of it is 0.
+#[inline(always)]
+fn no_args() -> CfArgs
+    ensures { result ≡ as_args NoArgs }
+{
+    CfArgs {
+        kind: 0,
+        first: NIL,
+        second: NIL,
+        outcome: no_fault(0, NIL),
+    }
+}
+
+/// Writes what a function is called with.
 #[inline(always)]
 pub(crate) fn put_args(out: &mut CfArgs, args: Args)
     ensures { out.new ≡ as_args args }
 {
-    *out = args_with(0, NIL, NIL, None);
+    *out = no_args();
+    fill_args(out, args);
+}
+
+/// Writes what a function is called with, where it was written that there is nothing. Only the parts that aren't 0 are
+/// written one by one, so that nothing is put together in memory first and then copied.
+#[inline(always)]
+fn fill_args(out: &mut CfArgs, args: Args)
+    requires { out.old ≡ as_args NoArgs }
+    ensures { out.new ≡ as_args args }
+{
     match args {
         Args::None => {}
         Args::One(v) => {
@@ -341,7 +363,11 @@ fn reply_with(answer: u32, number: u16, args: Args) -> CfReply
 pub(crate) fn no_reply() -> CfReply
     ensures { result ≡ reply_with 0 0 NoArgs }
 {
-    reply_with(0, 0, Args::None)
+    CfReply {
+        answer: 0,
+        number: 0,
+        args: no_args(),
+    }
 }
 
 /// Writes what a claim is answered, as `put_args` does.
@@ -351,11 +377,20 @@ pub(crate) fn put_claim(reply: &mut CfReply, told: Claimed)
 {
     *reply = no_reply();
     match told {
-        Claimed::Granted(args) => put_args(&mut reply.args, args),
+        Claimed::Granted(args) => fill_args(&mut reply.args, args),
         Claimed::Settled => reply.answer = 1,
         Claimed::Taken => reply.answer = 2,
         Claimed::NotReady => reply.answer = 3,
     }
+}
+
+/// Writes what a finish is answered.
+#[inline(always)]
+pub(crate) fn put_finish(reply: &mut CfReply, told: Finished)
+    ensures { reply.new ≡ as_reply (Finish told) }
+{
+    *reply = no_reply();
+    reply.answer = finish_number(told);
 }
 
 /// Writes a reply, and that of a claim as `put_claim` does.
@@ -365,6 +400,20 @@ pub(crate) fn put_reply(out: &mut CfReply, reply: Reply)
 {
     match reply {
         Reply::Claim(told) => put_claim(out, told),
+        other => *out = as_reply(other),
+    }
+}
+
+/// Writes a reply, and that of an attach part by part.
+#[inline(always)]
+pub(crate) fn put_attached(out: &mut CfReply, reply: Reply)
+    ensures { out.new ≡ as_reply reply }
+{
+    match reply {
+        Reply::Attach(Attached::At(stage)) => {
+            *out = no_reply();
+            out.number = u32::from(stage);
+        }
         other => *out = as_reply(other),
     }
 }

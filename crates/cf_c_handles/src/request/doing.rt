@@ -9,11 +9,10 @@ ghost use Rattle.cf_c_handles.specs.declared.handle.object.Object.TheVariants.{R
 use crate::code::Code;
 use crate::handle::object::Object;
 use crate::ledger::stepping::{late_number, step_code, take};
-use crate::ledger::word_code;
-use crate::request::{machine_code, say_next, tell_into};
+use crate::request::{machine_code, say_next, tell_into, words};
+use crate::values::CfReply;
 use crate::values::request::{CfTodo, CfTold};
 use crate::values::task::{CfTask, held_by};
-use crate::values::{CfReply, put_reply};
 use cf_event::LAST_CALLER;
 use cf_request::{Deadline, Machine, Next};
 use std::alloc::Global;
@@ -37,14 +36,9 @@ pub fn apply(
     if lane >= machine.lanes() {
         return Err(Code::NoLane);
     }
-    match machine.apply(word, lane) {
-        Err(fault) => Err(word_code(fault)),
-        Ok(told) => {
-            put_reply(reply, told);
-            tell_into(machine, row, todo);
-            Ok(())
-        }
-    }
+    words::apply(machine, word, lane, reply)?;
+    tell_into(machine, row, todo);
+    Ok(())
 }
 
 /// Finishes what a task holds, and gives it the next ready stage of the caller's lane.

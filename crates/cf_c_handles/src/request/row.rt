@@ -6,11 +6,9 @@ ghost use Rattle.cf_c_handles.specs.RequestCalls.{lanes_in};
 use crate::code::Code;
 use crate::handle::object::Object;
 use crate::ledger::stepping::step_code;
-use crate::ledger::word_code;
 use crate::plan::kind_of;
 use crate::request::doing::advance;
-use crate::request::{machine_code, tell_into};
-use crate::values::as_reply;
+use crate::request::{machine_code, tell_into, words};
 use crate::values::call::CfRequestCall;
 use crate::values::request::{CfTodo, CfTold};
 use cf_request::{Deadline, Machine};
@@ -100,13 +98,7 @@ fn apply(machine: &mut Machine, call: &mut CfRequestCall) -> Result<(), Code>
     if call.lane >= machine.lanes() {
         return Err(Code::NoLane);
     }
-    match machine.apply(call.word, call.lane) {
-        Err(fault) => Err(word_code(fault)),
-        Ok(reply) => {
-            call.reply = as_reply(reply);
-            Ok(())
-        }
-    }
+    words::apply(machine, call.word, call.lane, &mut call.reply)
 }
 
 /// That nothing was claimed is no refusal: the task says so.
