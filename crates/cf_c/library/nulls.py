@@ -56,7 +56,7 @@ def tests(parameters):
     for at, (_, _, is_pointer, name) in enumerate(parameters):
         follows = parameters[at + 1] if at + 1 < len(parameters) else None
         if is_pointer:
-            said.append(f"(!{name} && {follows[3]})" if follows and follows[1:] in COUNTS else f"!{name}")
+            said.append(f"(__builtin_expect(!{name}, 0) && {follows[3]})" if follows and follows[1:] in COUNTS else f"!{name}")
     return " || ".join(said)
 
 
