@@ -1,0 +1,4 @@
+pub mod Slips
+pub mod Rooms
+pub mod Desks
+pub mod Teams
