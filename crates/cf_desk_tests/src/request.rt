@@ -4,3 +4,4 @@ mod composes;
 mod joins;
 mod machines;
 mod steps;
+mod threads;
