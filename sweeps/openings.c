@@ -250,7 +250,7 @@ static uint64_t asked_of(cf_handle *request) {
 }
 
 /* A call of a request: what it is, and the stages, the moment or the lane that it names. */
-typedef enum { ATTACH, GATHER, FOLLOW, DEADLINE, COMPLETE, NEXT, PASS, REFUSE, CANCEL, GROW, DO } request_call;
+typedef enum { ATTACH, GATHER, FOLLOW, JOIN, DEADLINE, COMPLETE, NEXT, PASS, REFUSE, CANCEL, GROW, DO } request_call;
 typedef struct {
   request_call call;
   uint16_t first, second;
@@ -275,6 +275,8 @@ static uint32_t call_request(cf_handle *request, const request_step *step, cf_ta
   case GATHER: /* both stages, and the first once more, which takes two words */
     return cf_request_gather(request, &gathering, (uint16_t[]){step->first, step->second, step->first}, 3, told, 2, todo);
   case FOLLOW: return cf_request_follow(request, step->first, step->second, told, 2, todo);
+  case JOIN: /* the first of two, one of which is the stage itself */
+    return cf_request_join(request, &(cf_request_joining){step->first, 1}, (uint16_t[]){step->first, step->second}, 2, told, 2, todo);
   case DEADLINE: return cf_request_deadline(request, step->first, step->second, CF_TIMEOUT, 7, (cf_value){CF_NIL, 0}, todo);
   case PASS: return cf_request_pass(request, step->first, told, 2, todo);
   case REFUSE: return cf_request_refuse(request, (uint8_t)step->first, 7, told, 2, todo);
@@ -354,6 +356,7 @@ static uint32_t request(long numbers[3]) {
       {DO, 7, 0},
       {ATTACH, 0, 1},
       {GATHER, 0, 1},
+      {JOIN, 8, 0},
       {CANCEL, 1, 0},
   };
   return request_with(numbers, steps, sizeof steps / sizeof *steps);

@@ -21,6 +21,7 @@ static struct {
   cf_stage stage;
   cf_step step;
   cf_request_gathering gathering;
+  cf_request_joining joining;
   cf_request_composing composing;
   cf_request_linking linking;
   cf_told told[2];
@@ -136,6 +137,7 @@ static void request_calls(cf_handle *h, uint32_t wanted) {
   ROW(cf_request_link(h, &out.linking, &out.task, out.told, 2, &out.todo), wanted);
   ROW(cf_request_next(h, 0, 0, &out.task, out.told, 2, &out.todo), wanted);
   ROW(cf_request_follow(h, SOURCE, TWICE, out.told, 2, &out.todo), wanted);
+  ROW(cf_request_join(h, &out.joining, &of, 1, out.told, 2, &out.todo), wanted);
   ROW(cf_request_deadline(h, SOURCE, 1, CF_TIMEOUT, 7, value, &out.todo), wanted);
   ROW(cf_request_pass(h, 1, out.told, 2, &out.todo), wanted);
   ROW(cf_request_next_deadline(h, &out.deadline), wanted);
@@ -376,6 +378,10 @@ static void by_pointers(void) {
   ROW(cf_request_next(asked, 0, 0, &out.task, out.told, 2, NULL), CF_NULL);
   ROW(cf_request_follow(asked, SOURCE, TWICE, NULL, 2, &out.todo), CF_NULL);
   ROW(cf_request_follow(asked, SOURCE, TWICE, out.told, 2, NULL), CF_NULL);
+  ROW(cf_request_join(asked, NULL, &of, 1, out.told, 2, &out.todo), CF_NULL);
+  ROW(cf_request_join(asked, &out.joining, NULL, 1, out.told, 2, &out.todo), CF_NULL);
+  ROW(cf_request_join(asked, &out.joining, &of, 1, NULL, 2, &out.todo), CF_NULL);
+  ROW(cf_request_join(asked, &out.joining, &of, 1, out.told, 2, NULL), CF_NULL);
   ROW(cf_request_deadline(asked, SOURCE, 1, CF_TIMEOUT, 7, value, NULL), CF_NULL);
   ROW(cf_request_pass(asked, 1, NULL, 2, &out.todo), CF_NULL);
   ROW(cf_request_pass(asked, 1, out.told, 2, NULL), CF_NULL);
@@ -490,6 +496,8 @@ static void by_numbers(uint16_t stage) {
   ROW(cf_request_next(asked, 0, 0, &task, out.told, 2, &out.todo), CF_NO_STAGE);
   ROW(cf_request_follow(asked, stage, SOURCE, out.told, 2, &out.todo), CF_NO_STAGE);
   ROW(cf_request_follow(asked, SOURCE, stage, out.told, 2, &out.todo), CF_NO_STAGE);
+  ROW(cf_request_join(asked, &(cf_request_joining){stage, 1}, &of, 1, out.told, 2, &out.todo), CF_NO_STAGE);
+  ROW(cf_request_join(asked, &(cf_request_joining){SOURCE, 1}, (uint16_t[]){SOURCE, stage}, 2, out.told, 2, &out.todo), CF_NO_STAGE);
   ROW(cf_request_deadline(asked, stage, 1, CF_TIMEOUT, 7, value, &out.todo), CF_NO_STAGE);
   ROW(cf_ledger_stage(asked, stage, &out.stage), CF_NO_STAGE);
   ROW(cf_ledger_stage(&held[VIEW], stage, &out.stage), CF_NO_STAGE);
@@ -587,6 +595,9 @@ static void by_other_numbers(void) {
   ROW(cf_request_gather(asked, &gathering, many_of, 3, out.told, 2, &out.todo), CF_NO_STAGE);
   ROW(cf_request_gather(asked, &gathering, (uint16_t[]){SOURCE, TWICE, SOURCE}, 3, out.told, 2, &out.todo), CF_NO_ROOM);
   HOLDS(gathering.root == 0);
+  ROW(cf_request_join(asked, &(cf_request_joining){STAGES, 0}, &of, 1, out.told, 2, &out.todo), CF_NO_QUORUM);
+  ROW(cf_request_join(asked, &(cf_request_joining){STAGES, 2}, &of, 1, out.told, 2, &out.todo), CF_NO_QUORUM);
+  ROW(cf_request_join(asked, &(cf_request_joining){STAGES, 1}, NULL, 0, out.told, 2, &out.todo), CF_NO_QUORUM);
   ROW(cf_request_compose(asked, &composing, out.told, 2, &out.todo), CF_NO_LANE);
   composing.lane = 1;
   ROW(cf_request_compose(asked, &composing, out.told, 2, &out.todo), CF_NO_SUCH_NUMBER);

@@ -25,11 +25,12 @@ class Refused(Exception):
     """Why a call is refused. It has changed nothing."""
 
 
-class Follow(NamedTuple):
-    """A relay ends as its stage does."""
+class Join(NamedTuple):
+    """A stage ends once so many of its sources have values, or too few can have them still."""
 
-    relay: int
     stage: int
+    wanted: int
+    sources: List[int]
 
 
 class Deadline(NamedTuple):
@@ -124,11 +125,12 @@ class Machine:
         self.state: Any = model.start(self.plan, self.room)
         self.events: List[Event] = []
         self.lanes = list(self.planned)
-        self.follows: List[Follow] = []
+        self.follows: List[Join] = []
         self.deadlines: List[Deadline] = []
         self.moment = 0
         self.gathered: List[Gathered] = []
         self.told = [i for i in range(self.stages()) if self.is_settled(i)]
+        self.settled = list(self.told)
 
     def close(self) -> None:
         """It has nothing to free."""
@@ -210,7 +212,9 @@ class Machine:
         before = self.state
         reply, self.state = model.answered(before, event)
         self.events.append(event)
-        self.told += [i for i in range(self.stages()) if self.is_settled(i) and (i >= len(before.stages) or model.outcome(before, i) is None)]
+        news = [i for i in range(self.stages()) if self.is_settled(i) and (i >= len(before.stages) or model.outcome(before, i) is None)]
+        self.told += news
+        self.settled += news
         self.see_gathered(-1 if event[0] in ("attach", "tick") else event[2])
         return tuple(reply)
 
@@ -231,11 +235,24 @@ class Machine:
         self.do(settle_event(who, stage, outcome))
 
     def due_relay(self) -> Optional[Tuple[int, Outcome]]:
-        """The first relay, as they were set, that is open though its stage is settled, with the outcome of its stage."""
-        for relay, stage in self.follows:
-            outcome = self.outcome(stage)
-            if outcome is not None and not self.is_settled(relay):
-                return relay, outcome
+        """The first join, as they were set, that is open though it is decided, with what it ends with."""
+        for join in self.follows:
+            outcome = None if self.is_settled(join.stage) else self.decided(join)
+            if outcome is not None:
+                return join.stage, ("value", None) if outcome[0] == "value" and join.wanted > 1 else outcome
+        return None
+
+    def decided(self, join: Join) -> Optional[Outcome]:
+        """The outcome of the stage that decides a join, in the order in which stages were settled."""
+        values = failures = 0
+        for stage in self.settled:
+            outcome, times = self.outcome(stage), join.sources.count(stage)
+            if outcome is not None and outcome[0] == "value":
+                values += times
+            else:
+                failures += times
+            if values >= join.wanted or failures > len(join.sources) - join.wanted:
+                return outcome
         return None
 
     def settle_relays(self, who: int) -> None:
@@ -361,8 +378,14 @@ class Machine:
 
     def follow(self, relay: int, stage: int) -> None:
         """From now on one stage follows another."""
-        self.check_stages(relay, stage)
-        self.follows.append(Follow(relay, stage))
+        self.join(relay, 1, [stage])
+
+    def join(self, stage: int, wanted: int, sources: Sequence[int]) -> None:
+        """From now on a stage ends once so many of these have values, or too few can have them still."""
+        if not 1 <= wanted <= len(sources):
+            raise Refused("NO_QUORUM")
+        self.check_stages(stage, *sources)
+        self.follows.append(Join(stage, wanted, list(sources)))
         self.settle_relays(self.own)
 
     def deadline(self, deadline: Deadline) -> None:

@@ -29,8 +29,9 @@ KINDS = {
     "gather": 4,
     "compose": 5,
     "link": 5,
+    "join": 6,
 }
-OFTEN = ["next", "apply", "pass_to", "deadline", "follow", "rest", "refuse", "gather", "compose", "link"]  # one of these comes more often by a seed
+OFTEN = ["next", "apply", "pass_to", "deadline", "follow", "rest", "refuse", "gather", "compose", "link", "join"]  # one comes more often
 EVENTS = {"complete": 9, "fail": 2, "failAs": 1.5, "cancel": 1.5, "claim": 2, "finish": 1.5, "tick": 1, "attach": 11, "word": 0.7}
 IN_ONE = {"next": 3, "apply": 5, "follow": 1, "deadline": 1, "pass_to": 0.5, "refuse": 0.1, "cancel_all": 0.05}  # calls of a `do_all`
 FORMS = model.FORMS + ["compose", "compose", "exceptionallyCompose"]  # so that more stages link
@@ -182,6 +183,13 @@ class Draws:
         form = self.rng.choice(FORMS if self.seldom() else machine.GATHERING)
         return who, form, [self.rng.randrange(self.plain.stages()) if self.rng.random() < 0.1 else self.stage() for _ in range(count)]
 
+    def joined(self) -> Tuple[int, int, List[int]]:
+        """Which stage joins which others, mostly few, one of which may stand twice, and how many of these it wants."""
+        count = self.rng.choice([1, 2, 2, 3, 3, 4, 5, 9])
+        wanted = self.rng.choice([0, count + 1, 65535]) if self.seldom() else self.rng.choice([1, count, self.rng.randrange(count) + 1])
+        sources = [self.stage() for _ in range(0 if self.seldom() else count)]
+        return self.source(), wanted, [self.rng.choice(sources) if self.rng.random() < 0.1 else it for it in sources]
+
     def composed(self, who: int) -> Tuple[int, str, int, int, int]:
         """Who attaches a compose, its form, mostly an open source, its function and its lane."""
         form = self.rng.choice(FORMS if self.seldom() else machine.COMPOSING)
@@ -248,6 +256,8 @@ class Draws:
             return self.event(who), self.lane()
         if kind == "follow":
             return self.stage(), self.stage()
+        if kind == "join":
+            return self.joined()
         if kind == "deadline":
             return (machine.Deadline(self.stage(), self.moment(), self.outcome()),)
         if kind == "pass_to":

@@ -34,7 +34,7 @@ from cf._library import (  # noqa: E402
     VALUE,
 )
 
-TELLING = ["apply", "gather", "compose", "link", "next", "follow", "pass_to", "refuse", "cancel_all", "do_all"]  # calls with a row for told stages
+TELLING = ["apply", "gather", "compose", "link", "next", "follow", "join", "pass_to", "refuse", "cancel_all", "do_all"]
 LONGEST = 64  # row of told stages
 MARK = 0xA5  # what a row is filled with before a call
 CAUSES = {3: "cancelled", 4: "timeout", 5: "badanswer"}
@@ -82,6 +82,10 @@ class CRequestLinking(c.Structure):
     _fields_ = [("who", c.c_uint8), ("relay", c.c_uint16), ("stage", c.c_uint16)]
 
 
+class CRequestJoining(c.Structure):
+    _fields_ = [("stage", c.c_uint16), ("wanted", c.c_uint16)]
+
+
 class CDeadline(c.Structure):
     _fields_ = [("stage", c.c_uint16), ("moment", c.c_uint64), ("kind", c.c_uint32), ("code", c.c_uint32), ("value", CValue)]
 
@@ -110,6 +114,7 @@ OWN = {
     "cf_request_gathering": CRequestGathering,
     "cf_request_composing": CRequestComposing,
     "cf_request_linking": CRequestLinking,
+    "cf_request_joining": CRequestJoining,
     "cf_deadline": CDeadline,
     "cf_request_call": CCall,
 }
@@ -132,6 +137,7 @@ CALLS: Dict[str, List[Any]] = {
     "cf_request_link": [H, P(CRequestLinking), P(CTask), *TOLD],
     "cf_request_next": [H, U8, U8, P(CTask), *TOLD],
     "cf_request_follow": [H, U16, U16, *TOLD],
+    "cf_request_join": [H, P(CRequestJoining), P(U16), SIZE, *TOLD],
     "cf_request_deadline": [H, U16, U64, U32, U32, CValue, P(CTodo)],
     "cf_request_pass": [H, U64, *TOLD],
     "cf_request_next_deadline": [H, P(CDeadline)],
@@ -418,6 +424,11 @@ class Library:
 
     def follow(self, room: int, relay: int, stage: int) -> Tuple[Any, machine.Told]:
         self.checked(C.cf_request_follow(self.request, relay, stage, *self.mark(room)))
+        return None, self.told(room)
+
+    def join(self, room: int, stage: int, wanted: int, sources: Sequence[int]) -> Tuple[Any, machine.Told]:
+        of, step = (U16 * len(sources))(*sources) if sources else None, CRequestJoining(stage, wanted)
+        self.checked(C.cf_request_join(self.request, step, of, len(sources), *self.mark(room)))
         return None, self.told(room)
 
     def pass_to(self, room: int, moment: int) -> Tuple[Any, machine.Told]:

@@ -2,7 +2,7 @@
 from typing import Any, List, Optional, Sequence, Tuple, Union
 
 import model
-from machine import LEAST_GROWTH, NEVER, Answer, Composed, Deadline, Event, Follow, Machine, Next, Outcome, Reply, Taken, Told, Todo
+from machine import LEAST_GROWTH, NEVER, Answer, Composed, Deadline, Event, Join, Machine, Next, Outcome, Reply, Taken, Told, Todo
 
 
 class TheHighestIsTaken(Machine):
@@ -137,14 +137,54 @@ class TheLastRelayComesFirst(Machine):
 class RelaysRestWhenTheyAreSet(Machine):
     def follow(self, relay: int, stage: int) -> None:
         self.check_stages(relay, stage)
-        self.follows.append(Follow(relay, stage))
+        self.follows.append(Join(relay, 1, [stage]))
 
 
 class ARelayFollowsOneStage(Machine):
     def follow(self, relay: int, stage: int) -> None:
         self.check_stages(relay, stage)
-        self.follows = [it for it in self.follows if it.relay != relay]
+        self.follows = [it for it in self.follows if it.stage != relay]
         super().follow(relay, stage)
+
+
+class AQuorumTellsAValue(Machine):
+    def due_relay(self) -> Optional[Tuple[int, Outcome]]:
+        due = super().due_relay()
+        join = next((it for it in self.follows if due and it.stage == due[0] and self.decided(it)), None)
+        return (due[0], self.decided(join) or due[1]) if due and join else due
+
+
+class ATwinCountsOnce(Machine):
+    def join(self, stage: int, wanted: int, sources: Sequence[int]) -> None:
+        once = sorted(set(sources))
+        super().join(stage, wanted, once if wanted <= len(once) else sources)
+
+
+class OneFailureEndsAJoin(Machine):
+    def decided(self, join: Join) -> Optional[Outcome]:
+        failed = [it for it in self.settled if it in join.sources and (self.outcome(it) or ("",))[0] == "fault"]
+        return self.outcome(failed[0]) if failed else super().decided(join)
+
+
+class TheLastToSettleDecides(Machine):
+    def decided(self, join: Join) -> Optional[Outcome]:
+        ends = [self.outcome(it) for it in self.settled if it in join.sources]
+        decided = super().decided(join)
+        return [it for it in ends if it and decided and it[0] == decided[0]][-1] if decided else None
+
+
+class TheLowestDecides(Machine):
+    def decided(self, join: Join) -> Optional[Outcome]:
+        settled, self.settled = self.settled, sorted(self.settled)
+        try:
+            return super().decided(join)
+        finally:
+            self.settled = settled
+
+
+class OneMoreThanAllIsWanted(Machine):
+    def join(self, stage: int, wanted: int, sources: Sequence[int]) -> None:
+        super().join(stage, min(wanted, max(1, len(sources))), sources)
 
 
 class ACancellationIsAFailure(Machine):
@@ -346,7 +386,7 @@ class RelaysOutliveAStart(Machine):
     def restart(self) -> None:
         kept = getattr(self, "follows", [])
         super().restart()
-        self.follows = [it for it in kept if max(it) < self.stages()]
+        self.follows = [it for it in kept if max(it.stage, *it.sources) < self.stages()]
 
 
 class TheMomentOutlivesAStart(Machine):

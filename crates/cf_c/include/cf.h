@@ -61,7 +61,7 @@
  * answer CF_NO_MEMORY if it is refused: cf_builder_new, cf_builder_stage, cf_builder_limit, cf_build, cf_graph_new,
  * cf_plan_of, cf_desk_open, cf_desk_open_with, cf_desk_notice, cf_close_begin, cf_ledger_new, cf_ledger_of,
  * cf_ledger_apply, cf_ledger_step, cf_ledger_apply_all, cf_ledger_grow, cf_request_new, cf_request_apply,
- * cf_request_gather, cf_request_compose, cf_request_link, cf_request_next, cf_request_follow,
+ * cf_request_gather, cf_request_compose, cf_request_link, cf_request_next, cf_request_follow, cf_request_join,
  * cf_request_deadline, cf_request_pass, cf_request_refuse, cf_request_cancel_all, cf_request_grow, cf_request_do,
  * cf_row_new, cf_row_plan, cf_row_saw, cf_row_grow, cf_history_new, cf_history_times, cf_history_say,
  * cf_history_text and cf_run_script. No other call takes any.
@@ -148,6 +148,7 @@ typedef enum {
   CF_TOO_MANY = 37,           /* there are more texts or times than there can be of what they are said of */
   CF_UNDER_WAY = 38,          /* a put of the view is under way */
   CF_NO_TOKENS = 39,          /* there is no such session or token, or the session has fewer tokens left than words */
+  CF_NO_QUORUM = 40,          /* a join wants none of its sources, or more than there are */
   CF_NULL = 255               /* a pointer is null that may not be; nothing was done */
 } cf_code;
 
@@ -1118,6 +1119,25 @@ uint32_t cf_request_next(cf_handle *request, uint8_t who, uint8_t lane, cf_task 
  *
  * Codes: CF_NO_MEMORY, and CF_NO_STAGE if one of the two isn't there. */
 uint32_t cf_request_follow(cf_handle *request, uint16_t relay, uint16_t stage, cf_told *told, size_t room, cf_todo *todo);
+
+/* What cf_request_join is asked.
+ *   - stage: the stage that ends by others.
+ *   - wanted: how many of these have to have values, 1 to n. */
+typedef struct { uint16_t stage; uint16_t wanted; } cf_request_joining;
+
+/* From now on a stage ends as soon as it is decided what n other stages of the request come to, unless it is settled
+ * before. It gets a value once so many of them have values as are wanted: that one's value if one is wanted, else nil. It
+ * gets a fault once the stages that haven't failed are too few: one of the same cause and code as that of the stage that
+ * failed last. So with 1 it is the first success, with n all or the first failure, and between these a quorum.
+ *   - step: as said above.
+ *   - sources, n: the n stages. One that stands twice counts twice.
+ *   - told, room, todo: as said above.
+ *
+ * Codes:
+ *   - CF_NO_QUORUM: step->wanted is 0 or above n.
+ *   - CF_NO_MEMORY.
+ *   - CF_NO_STAGE: step->stage or one of the n stages isn't there. */
+uint32_t cf_request_join(cf_handle *request, const cf_request_joining *step, const uint16_t *sources, size_t n, cf_told *told, size_t room, cf_todo *todo);
 
 /* Sets a moment by which a stage has to be settled. If it is open then, cf_request_pass settles it. A stage may have
  * several, and attached stages may have some, too.

@@ -4,6 +4,7 @@ ghost use Rattle.cf_c_handles.specs.Handles.{HandleDoes, HandleOpens, HandleTell
 ghost use Rattle.cf_c_handles.specs.RequestCalls.{AppliesIn, CancelsIn, FollowsIn, GoesOnIn, GrowsIn, OfRequest, PassesIn, RefusesIn, RestartsIn, SetsDeadlineIn, TellsIn, TellsNextIn, TellsReadyOf};
 ghost use Rattle.cf_c_handles.specs.RequestComposes.{ComposesIn, LinksIn};
 ghost use Rattle.cf_c_handles.specs.RequestGathers.{GathersIn};
+ghost use Rattle.cf_c_handles.specs.RequestJoins.{JoinsIn};
 ghost use Rattle.cf_c_handles.specs.RequestRows.{DoesCallsIn};
 ghost use Rattle.cf_c_handles.specs.Requests.{RequestOf};
 
@@ -11,11 +12,11 @@ use crate::handle::{ask, code_of, tell};
 use cf_c_handles::code::Code;
 use cf_c_handles::handle::{CfHandle, fill};
 use cf_c_handles::plan::kind_of;
-use cf_c_handles::request::{asking, composing, doing, gathering, request_of, row};
+use cf_c_handles::request::{asking, composing, doing, gathering, joining, request_of, row};
 use cf_c_handles::values::call::CfRequestCall;
 use cf_c_handles::values::request::{
-    CfDeadline, CfRequestComposing, CfRequestGathering, CfRequestLinking, CfRequestSizes, CfTodo,
-    CfTold,
+    CfDeadline, CfRequestComposing, CfRequestGathering, CfRequestJoining, CfRequestLinking,
+    CfRequestSizes, CfTodo, CfTold,
 };
 use cf_c_handles::values::task::CfTask;
 use cf_c_handles::values::{CfReply, CfValue};
@@ -164,6 +165,21 @@ pub extern "C" fn cf_request_follow(
     ensures { HandleWrites (FollowsIn relay stage) h.old h.new result (told.old, todo.old) (told.new, todo.new) }
 {
     ask!(alloc, h, held => doing::follow(&mut held, relay, stage, told, todo))
+}
+
+/// From now on a stage ends as soon as it is decided what these come to. Tells the stages that are settled.
+#[unsafe(no_mangle)]
+pub extern "C" fn cf_request_join(
+    alloc: Global,
+    h: &mut CfHandle,
+    step: &CfRequestJoining,
+    sources: &[u16],
+    told: &mut [CfTold],
+    todo: &mut CfTodo,
+) -> u32
+    ensures { HandleWrites (JoinsIn step.now sources.now) h.old h.new result (told.old, todo.old) (told.new, todo.new) }
+{
+    ask!(alloc, h, held => joining::join(alloc, &mut held, step, sources, told, todo))
 }
 
 /// Sets a moment by which a stage has to be settled.

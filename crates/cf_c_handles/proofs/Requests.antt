@@ -1,5 +1,5 @@
 -- What a request tells, and what is taken then.
-use Rattle.std.proofs.Common.{◌≡◌, ℕ, ◌≤◌, ◌++◌, ◌∙◌, None, List, [], length, ap, append-nil, refl, sym, arith}
+use Rattle.std.proofs.Common.{◌≡◌, ℕ, ◌≤◌, ◌++◌, ◌∙◌, None, List, [], ◌∷◌, length, ap, append-nil, refl, sym, arith}
 use Rattle.std.specs.Prelude.{drop, take}
 use Rattle.std.proofs.Math.Seq.{drop-nil, take-nil}
 use Rattle.std.proofs.lemmas.Option.{slice_get_past}
@@ -29,3 +29,9 @@ takes_none count m none =
     let told : m.teller.told ≡ drop count m.teller.told = none ∙ sym (ap (drop count) none ∙ drop-nil count) in
     let teller : m.teller ≡ record m.teller { taken = m.teller.taken ++ take count m.teller.told; told = drop count m.teller.told } = λ j. record m.teller { taken = taken j; told = told j } in
     ap (λ (t : Teller). record m { teller = t }) teller
+
+-- a row of one is its first, and nothing
+pub one_alone : (xs ys : List ℕ) → length xs ≡ 1 → ys ≡ [] → (x : ℕ) × (xs ≡ x ∷ ys)
+one_alone [] ys one none = absurd (omega (arith, one))
+one_alone (x ∷ []) ys one none = (x, sym (ap (λ (l : List ℕ). x ∷ l) none))
+one_alone (x ∷ y ∷ rest) ys one none = absurd (omega (arith, one))

@@ -7,7 +7,7 @@ use Rattle.cf_desk.specs.declared.faults.DeskFault.TheVariants as desk
 use Rattle.cf_desk.specs.declared.faults.OpenFault.{OpenFault}
 use Rattle.cf_desk.specs.declared.faults.OpenFault.TheVariants as opening
 use Rattle.cf_c_handles.specs.declared.code.Code.{Code}
-use Rattle.cf_c_handles.specs.declared.code.Code.TheVariants.{TooManyStages, SourceNotLower, WrongSourceCount, FunctionMissing, FunctionUnwanted, TooManyEdges, NoSuchStage, NoMemory, TooManyLimits, Empty, Full, WrongKind, NoSuchNumber, NoStage, BadAttach, Room, Nothing, Callers, Log, Calls, Functions, PassFull, LogFull, OtherDesk, NotAll, NoWord, BadScript, StillShared, NotHeld, NoRoom, Lost, NotOver, Lanes, NoLane, PastMoment, BadText, TooMany, UnderWay, NoTokens}
+use Rattle.cf_c_handles.specs.declared.code.Code.TheVariants.{TooManyStages, SourceNotLower, WrongSourceCount, FunctionMissing, FunctionUnwanted, TooManyEdges, NoSuchStage, NoMemory, TooManyLimits, Empty, Full, WrongKind, NoSuchNumber, NoStage, BadAttach, Room, Nothing, Callers, Log, Calls, Functions, PassFull, LogFull, OtherDesk, NotAll, NoWord, BadScript, StillShared, NotHeld, NoRoom, Lost, NotOver, Lanes, NoLane, PastMoment, BadText, TooMany, UnderWay, NoTokens, NoQuorum}
 
 -- the number that C sees
 abbrev pub number_of : Code → ℕ
@@ -50,6 +50,7 @@ number_of BadText = 36
 number_of TooMany = 37
 number_of UnderWay = 38
 number_of NoTokens = 39
+number_of NoQuorum = 40
 
 -- the code of a plan's fault
 abbrev pub plan_code : PlanFault → Code

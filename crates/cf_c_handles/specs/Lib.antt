@@ -20,6 +20,7 @@ pub mod Replies
 pub mod RequestCalls
 pub mod RequestComposes
 pub mod RequestGathers
+pub mod RequestJoins
 pub mod RequestRows
 pub mod Requests
 pub mod Rounds

@@ -81,6 +81,8 @@ pub enum Code {
     UnderWay,
     /// 39: a session has no such number, or fewer tokens left than there are words.
     NoTokens,
+    /// 40: a join is to want none of its sources, or more than there are.
+    NoQuorum,
 }
 
 impl From<AllocError> for Code {
@@ -147,6 +149,7 @@ pub fn text_of(number: u32) -> Option<&'static str>
         37 => Some("TooMany"),
         38 => Some("UnderWay"),
         39 => Some("NoTokens"),
+        40 => Some("NoQuorum"),
         255 => Some("Null"),
         _ => None,
     }

@@ -12,6 +12,7 @@ pub mod asking;
 pub mod composing;
 pub mod doing;
 pub mod gathering;
+pub mod joining;
 pub mod row;
 mod words;
 

@@ -70,6 +70,14 @@ pub struct CfRequestLinking {
     pub stage: u16,
 }
 
+/// A join of a request: the stage, and how many of its sources have to have values.
+#[repr(C)]
+#[derive(Clone, Copy)]
+pub struct CfRequestJoining {
+    pub stage: u16,
+    pub wanted: u16,
+}
+
 /// A moment by which a stage has to be settled, and whether it times out (kind 0), with which code, or gets a value then.
 #[repr(C)]
 #[derive(Clone, Copy)]
