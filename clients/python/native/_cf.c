@@ -1127,6 +1127,24 @@ static PyObject *Request_follow(Request *self, PyObject *const *args, Py_ssize_t
   return told_or_refused(self, code, news);
 }
 
+/* _join_within(stage, wanted, numbers): lets a stage end once so many of the stages of these numbers have values, or too few
+ * can have them still. */
+static PyObject *Request_join(Request *self, PyObject *const *args, Py_ssize_t n) {
+  if (n != 3 || !PyBytes_Check(args[2])) return PyErr_Format(PyExc_TypeError, "_join_within takes 3");
+  int stage = stage_in(self, args[0]);
+  long wanted = stage < 0 ? -1 : number_below(args[1], NONE, "quorum");
+  if (wanted < 0 || leave_to_parent(self)) return NULL;
+  const cf_request_joining joining = {(uint16_t)stage, (uint16_t)wanted};
+  const uint16_t *of = (const uint16_t *)PyBytes_AsString(args[2]);
+  size_t many = (size_t)PyBytes_Size(args[2]) / sizeof *of;
+  News news = NO_NEWS;
+  self->counts = true;
+  uint32_t code = flush(self);
+  if (!code) code = cf_request_join(self->machine, &joining, of, many, TELLING);
+  if (!code) note(self, 0, &news);
+  return told_or_refused(self, code, news);
+}
+
 /* _deadline(stage, moment, is_value, number): by this moment the stage gets the value of this number, or fails with the
  * exception of this one; below 0 it gets None. */
 static PyObject *Request_deadline(Request *self, PyObject *const *args, Py_ssize_t n) {
@@ -1272,6 +1290,7 @@ static PyMethodDef request_methods[] = {{"_attach", FAST(Request_attach), METH_F
     {"_fail_ready", (PyCFunction)Request_fail_ready, METH_O, "Fails all ready stages."},
     {"_take_turns_back", (PyCFunction)Request_take_turns_back, METH_NOARGS, "Takes all turns back."},
     {"_follow_within", FAST(Request_follow), METH_FASTCALL, "Lets a stage end as another does."},
+    {"_join_within", FAST(Request_join), METH_FASTCALL, "Lets a stage end by others."},
     {"_deadline", FAST(Request_deadline), METH_FASTCALL, "Sets a deadline."},
     {"_pass", (PyCFunction)Request_pass, METH_O, "Lets time pass."}, {"_words", (PyCFunction)Request_words, METH_NOARGS, "All words."},
     {"_next_ready", (PyCFunction)Request_next_ready, METH_O, "The lowest ready stage from a number on."},

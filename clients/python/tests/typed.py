@@ -60,13 +60,15 @@ if TYPE_CHECKING:
         listed: Stage[List[int]] = request.gather(number, first)
         nothing: Stage[None] = request.all_of(number, text, other)
         one: Stage[float] = request.first_of(other, request.adopt(other))
+        won: Stage[float] = request.first(other, one)
+        votes: List[int] = request.quorum(1, number, first).result() + request.all(number, first).result()
         as_future: "concurrent.futures.Future[int]" = service.submit(size, "x")
         executor: concurrent.futures.Executor = service
         history: History = request.history()
         lines: List[str] = history.lines()
         error: Optional[BaseException] = number.exception(timeout=1)
         did: bool = number.complete(3) or number.fail(RequestFull()) or number.cancel() or number.abandon()
-        print(both, mixed, told, same, deeper, listed, nothing, one, as_future, executor, lines, error, did)
+        print(both, mixed, told, same, deeper, listed, nothing, one, won, votes, as_future, executor, lines, error, did)
         request.supply(load, "x")  # type: ignore[arg-type]
         request.supply(load)  # type: ignore[call-arg]
         service.submit(load, number=17, cents=1)  # type: ignore[call-arg]

@@ -5,7 +5,7 @@ import threading
 from array import array
 from concurrent.futures import CancelledError, _base
 from types import TracebackType
-from typing import TYPE_CHECKING, Any, Callable, ClassVar, Dict, List, NoReturn, Optional, Sequence, Tuple, Type
+from typing import TYPE_CHECKING, Any, Callable, ClassVar, Dict, List, NoReturn, Optional, Sequence, Set, Tuple, Type
 
 from ..plan import Plan
 from ..values import BadAnswer, Form
@@ -95,13 +95,15 @@ class RequestCore(_cf.RequestCore):
     """A request of the module, which has no lock of its own: each call there is one step for all threads.
 
     Attributes:
-        _stage_class: The class of its futures."""
+        _stage_class: The class of its futures.
+        _joins: The numbers of the stages that end by others, if there are any."""
 
-    __slots__ = ("_title", "_keeps", "_plan", "__weakref__")
+    __slots__ = ("_title", "_keeps", "_plan", "_joins", "__weakref__")
     _stage_class: "ClassVar[Type[Stage[Any]]]"
 
     if TYPE_CHECKING:
         _traces: Dict[int, Tuple[BaseException, Optional[TracebackType]]]
+        _joins: Set[int]
 
         def _link(self, stage: "Stage[Any]", who: int, to: Any) -> bool:
             ...
@@ -151,6 +153,14 @@ class RequestCore(_cf.RequestCore):
         if any(source.request is not self for source in of):
             raise TypeError("no stage of this request")
         return self._attach_all(form, array("H", [source.number for source in of]).tobytes(), name)
+
+    def _join(self, stage: "Stage[Any]", wanted: int, of: "Sequence[Stage[Any]]") -> None:
+        """Lets a stage end once so many of these have values, or too few can have them still."""
+        self._joins = {*self._joins_made(), stage.number}
+        self._join_within(stage.number, wanted, array("H", [source.number for source in of]).tobytes())
+
+    def _joins_made(self) -> Set[int]:
+        return getattr(self, "_joins", set())
 
     @staticmethod
     def _default_error(kind: int) -> BaseException:
@@ -228,7 +238,7 @@ class RequestCore(_cf.RequestCore):
 
     def _facts(self) -> "Tuple[array[int], array[int], List[str], List[Any], List[Optional[BaseException]]]":
         """The words, the time of each in nanoseconds, and names, values and errors. Words that the machine did to a
-        relay by itself have RELAY as caller."""
+        relay or a join by itself have RELAY as caller."""
         words, times = array("Q", self._words()), array("q", self._times)
         del words[len(times) :]
         forms = [row[0] for row in (() if self._plan is None else self._plan.rows)]
@@ -236,9 +246,10 @@ class RequestCore(_cf.RequestCore):
         late = {word & 0xFFFFFFFF for word in words if word >> 56 == FAIL_AS}
         errors = [it if type(it) is not Limit else it.error_in(self) if number in late else None for number, it in enumerate(self._errors)]
         facts = words, times[: len(words)], self._names[: len(forms)], self._values[:], errors
+        joins = self._joins_made()
         for place, word in enumerate(words):
-            above = (word >> 36 & 0xFFF) + 1
-            if word >> 48 & 0xFF == CLOCK and above < len(forms) and forms[above] in COMPOSE_FORMS:
+            stage = word >> 36 & 0xFFF
+            if word >> 48 & 0xFF == CLOCK and (stage in joins or forms[stage + 1 : stage + 2] and forms[stage + 1] in COMPOSE_FORMS):
                 words[place] = word ^ (CLOCK ^ RELAY) << 48
         return facts
 

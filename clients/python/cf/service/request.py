@@ -52,6 +52,10 @@ Relays
     lower one of this request, and else to the relay (`_link`). If the function returned a higher stage of this request,
     the machine lets the relay follow it (`_follow_within`), and else `follow_future` does (`_follow`).
 
+Joins
+    `first`, `all` and `quorum` attach a promise, which the machine settles once the stages that it joins have decided it
+    (`_join`), and a stage behind it, whose function collects values or exceptions.
+
 Time limits
     Each is a deadline of the machine (`_limit`), which tells the moment of the next one with each call, where that has
     changed. The request asks the works' clock for one alarm at a time, for that moment or before. When the alarm rings
@@ -80,9 +84,10 @@ Which methods call a user's code
 import concurrent.futures
 import functools
 import math
+import sys
 import time
 from array import array
-from typing import TYPE_CHECKING, Any, Callable, List, Optional, Sequence, Tuple, TypeVar
+from typing import TYPE_CHECKING, Any, Callable, List, NoReturn, Optional, Sequence, Tuple, TypeVar
 
 from ..values import Form
 from ._core import RequestCore
@@ -263,10 +268,59 @@ class Request(RequestCore):
             takes one stage more than `all_of`."""
         if self._works.closed:
             raise self._works.refusal()
-        here, holds = self._relays_of(of, 1)
+        here, holds = self._relays_of(of, max(len(of) - 1, 1) + 1)
         done: Stage[List[T]] = self._behind(Form.APPLY, self._gather(Form.ALL_OF, here, "all of"), None, functools.partial(_results, here))
         _let_go_with(done, holds)
         return done.named("gather")
+
+    def first(self, *of: "concurrent.futures.Future[T]") -> "Stage[T]":
+        """Waits for the first future that succeeds. The others go on.
+
+            quote = request.first(request.supply(ask, here), request.supply(ask, there))
+
+        Args:
+            of: As in `all_of`.
+
+        Returns:
+            A stage that ends with the value that is there first. Once all have failed, it fails with an `ExceptionGroup`
+            of their exceptions; before Python 3.11 with the last one, and the others as its `__context__`. It takes two
+            stages.
+
+        Raises:
+            ValueError: No future is given."""
+        return self._joined(1, of, Form.EXCEPTIONALLY, _fail_together, "first")
+
+    def all(self, *of: "concurrent.futures.Future[T]") -> "Stage[List[T]]":
+        """Waits for all futures to succeed, and fails as soon as one of them does. The others go on.
+
+            user, price = request.all(request.supply(load_user, 3), request.supply(quote, "lamp")).result()
+
+        Args:
+            of: As in `all_of`.
+
+        Returns:
+            A stage that ends with the list of the values, in this order, or with the exception that comes first. It takes
+            two stages."""
+        if not of:
+            return self.gather()
+        return self._joined(len(of), of, Form.APPLY, _results, "all")
+
+    def quorum(self, wanted: int, *of: "concurrent.futures.Future[T]") -> "Stage[List[T]]":
+        """Waits until so many futures have succeeded. The others go on.
+
+            votes = request.quorum(2, *[request.supply(ask, replica) for replica in replicas])
+
+        Args:
+            wanted: How many, from 1 to all of them.
+            of: As in `all_of`. One that is given twice counts twice.
+
+        Returns:
+            A stage that ends with a list of the values that are there then, as many as are wanted at least, in this
+            order. Once too many have failed, it fails as `first` does. It takes two stages.
+
+        Raises:
+            ValueError: None is wanted, or more than there are."""
+        return self._joined(wanted, of, Form.HANDLE, _values_or_failures, "quorum")
 
     def __getitem__(self, step: "Step[T]") -> "Stage[T]":
         """The stage of a flow's step, in a request that was begun with the flow.
@@ -340,23 +394,41 @@ class Request(RequestCore):
         name = name_of(fn)
         if second is None or isinstance(second, Stage) and second.request is self:
             return self._attach(form, first, second, fn, None, None, name)
-        (here,), holds = self._relays_of([second], 0)
+        (here,), holds = self._relays_of([second], 1)
         stage = self._attach(form, first, here, fn, None, None, name)
         _let_go_with(stage, holds)
         return stage
 
     def _of_all(self, form: Form, of: "Sequence[concurrent.futures.Future[Any]]", name: str) -> "Stage[Any]":
-        here, holds = self._relays_of(of, 0)
+        here, holds = self._relays_of(of, max(len(of) - 1, 1))
         stage = self._gather(form, here, name)
         _let_go_with(stage, holds)
         return stage
 
+    def _joined(self, wanted: int, of: "Sequence[concurrent.futures.Future[Any]]", form: Form, fn: Callable[..., Any], name: str) -> "Stage[Any]":
+        """A stage behind one that ends once so many of these have succeeded, or too few can. Its function is given the
+        stages, too."""
+        if not 1 <= wanted <= len(of):
+            raise ValueError(f"{wanted} of {len(of)} futures can't be wanted")
+        if self._works.closed:
+            raise self._works.refusal()
+        here, holds = self._relays_of(of, 2)
+        join = self.promise(f"{wanted} of {len(of)}")
+        try:
+            joined = self._behind(form, join, None, functools.partial(fn, here)).named(name)
+            self._join(join, wanted, here)
+        except BaseException:
+            join.cancel()
+            raise
+        _let_go_with(joined, holds)
+        return joined
+
     def _relays_of(self, of: "Sequence[concurrent.futures.Future[Any]]", more: int) -> "Tuple[List[Stage[Any]], List[Hold]]":
         """Stages of this request that end as these futures do, and the holds on the relays among them. Where there isn't
-        room to gather them and for `more` stages, nothing is attached."""
+        room for these and for `more` stages, nothing is attached."""
         _check_futures(of)
         others = sum(not isinstance(future, Stage) or future.request is not self for future in of)
-        self._check_room(others + max(len(of) - 1, 1) + more)
+        self._check_room(others + more)
         holds: List[Hold] = []
         return [self._relay_of(future, holds) for future in of], holds
 
@@ -436,6 +508,37 @@ def _check_futures(of: Sequence[object]) -> None:
 
 def _results(stages: "List[Stage[T]]", _: None) -> List[T]:
     return [stage.result() for stage in stages]
+
+
+def _values_or_failures(stages: "List[Stage[T]]", _: None, error: Optional[BaseException]) -> List[T]:
+    """The values that are there; with an exception, those of all that failed are raised."""
+    if error is not None:
+        return _fail_together(stages, error)
+    return [stage.result() for stage in stages if stage.done() and _failure_of(stage) is None]
+
+
+def _fail_together(stages: "List[Stage[Any]]", last: BaseException) -> NoReturn:
+    """Raises the exceptions of all of these that failed, the last of which is given."""
+    failures = {id(error): error for error in map(_failure_of, stages) if error is not None}
+    if failures and sys.version_info >= (3, 11):
+        raise BaseExceptionGroup(f"{len(failures)} of {len(stages)} have failed", list(failures.values()))
+    failures.pop(id(last), None)
+    end, seen = last, {id(last)}
+    for error in failures.values():
+        while end.__context__ is not None and id(end.__context__) not in seen:
+            end = end.__context__
+            seen.add(id(end))
+        if id(error) not in seen:
+            end.__context__ = error
+    raise last
+
+
+def _failure_of(stage: "Stage[Any]") -> Optional[BaseException]:
+    """The exception of a stage, if it has one by now."""
+    try:
+        return stage.exception(0) if stage.done() else None
+    except concurrent.futures.CancelledError as error:
+        return error
 
 
 def _let_go_with(stage: "Stage[Any]", holds: List[Hold]) -> None:

@@ -270,6 +270,11 @@ class WatchedRequest(Request):
             self._meet(self._stage(number), (self._stage(number - 1), of[number - first + 1]))
         return root
 
+    def _join(self, stage: "Stage[Any]", wanted: int, of: "Sequence[Stage[Any]]") -> None:
+        super()._join(stage, wanted, of)
+        self._date()
+        self.watch.on_attached(stage, of)
+
     def _meet(self, stage: "Stage[Any]", of: "Sequence[Stage[Any]]") -> None:
         _meet(stage)
         self.watch.on_attached(stage, of)

@@ -4,7 +4,6 @@
     CF_LIBRARY=/path/to/libcf.so python3 clients/python/tests/service/test_instead.py [-v] [TEST ..]
 """
 import concurrent.futures
-import contextlib
 import threading
 import unittest
 
@@ -36,32 +35,23 @@ class Instead(Case):
                 if kind is not None:  # (who has left may still be sent that the request is cancelled)
                     self.assertEqual(([type(it) for it in sent], answered.result()), ([kind], None))
 
-    def test_a_scope(self):
-        with self.assertRaises(Oops), contextlib.ExitStack() as scope:
-            scope.callback(self.request.cancel)
-            is_open = self.request.promise()
-            fails()
-        self.assertTrue(is_open.cancelled())
-
-    def test_a_gather_that_fails_at_once(self):
-        parts = [self.request.promise() for _ in range(2)]
-        total = self.request.gather(*parts)
-        for part in parts:
-            part.when_done(lambda _, error: error and total.fail(error))
-        parts[1].fail(Oops("x"))
-        self.assertIsInstance(total.exception(20), Oops)
-        self.assertFalse(parts[0].done())
-
     def test_a_gather_that_gives_errors(self):
         parts = [self.request.supply(inc, 1), self.request.supply(fails)]
         total = self.request.gather(*[part.handle(lambda value, error: error or value) for part in parts])
         self.assertEqual((total.result(20)[0], type(total.result()[1])), (2, Oops))
 
-    def test_the_first_success(self):
-        won = self.request.promise()
-        for stage in (self.request.supply(fails), self.request.supply(inc, 1)):
-            stage.then(won.complete)
-        self.assertEqual(won.or_timeout(20).result(20), 2)
+    def test_a_handler_that_takes_the_first(self):
+        """What is left is cancelled, also where none answers in time."""
+        for backends, limit, wanted in (([fails, lambda: 2], 20, 2), ([fails], 20, Exception), ([], 0.01, TimeoutError)):
+            request = self.service.request("quote")
+            quotes = [request.promise("slow"), *map(request.supply, backends)][wanted is Exception :]
+            answer = request.first(*quotes).or_timeout(limit)
+            answer.add_done_callback(lambda _, request=request: request.cancel())
+            if wanted == 2:
+                self.assertEqual(answer.result(20), 2)
+            else:
+                self.assertIsInstance(answer.exception(20), wanted)
+            self.assertTrue(until(lambda quotes=quotes: all(it.done() for it in quotes)))
 
     def test_a_delayed_start(self):
         self.assertEqual(self.request.promise().complete_on_timeout(1, 0.01).then(inc).result(20), 2)

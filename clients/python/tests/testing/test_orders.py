@@ -347,6 +347,19 @@ class LeftOut(unittest.TestCase):
 
         self.assertEqual(self.counts(test)[0], 2)
 
+    def test_what_is_joined(self):
+        """Whoever comes first wins in some order, and each two of three are a quorum."""
+        firsts, votes = set(), set()
+
+        def test(world):
+            request = world.service.request()
+            parts = [request.adopt(world.arrives(name, name)) for name in "abc"]
+            first, voted = request.first(*parts), request.quorum(2, *parts)
+            world.at_end(lambda: firsts.add(first.result()) or votes.add("".join(voted.result())) or True, "they end")
+
+        self.assertTrue(orders(test).whole)
+        self.assertEqual((firsts, votes), (set("abc"), {"ab", "ac", "bc", "abc"}))
+
     def test_a_relay_that_was_let_go(self):
         """What arrives behind a change touches nothing of it, and would have come to something else before it."""
 
