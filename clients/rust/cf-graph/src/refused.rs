@@ -9,7 +9,7 @@ use std::sync::atomic::{AtomicBool, Ordering};
 #[derive(Clone, Copy, PartialEq, Eq, Debug)]
 pub struct Refused(u32);
 
-const WORDS: [&str; 39] = [
+const WORDS: [&str; 40] = [
     "the plan has 4,096 stages already",
     "a source isn't below the new stage's number",
     "the number of sources isn't the form's",
@@ -49,6 +49,7 @@ const WORDS: [&str; 39] = [
     "there are more texts or times than there can be",
     "a put is under way",
     "a session has no such number, or too few tokens left",
+    "a join wants none of its stages, or more than there are",
 ];
 
 impl Refused {
@@ -123,6 +124,8 @@ impl Refused {
     pub const UNDER_WAY: Refused = Refused(38);
     /// A session has no such number, or too few tokens left.
     pub const NO_TOKENS: Refused = Refused(39);
+    /// A join wants none of its stages, or more than there are.
+    pub const NO_QUORUM: Refused = Refused(40);
     /// No code of the library: what is linked isn't the library that this crate was written for.
     pub const OTHER_LIBRARY: Refused = Refused(256);
 

@@ -370,6 +370,32 @@ impl Request {
         self.call(|h, told, room, todo| unsafe { sys::cf_request_follow(h, relay, stage, told, room, todo) })
     }
 
+    /// From now on a stage ends as soon as it is decided what these stages come to, unless it is settled before: with a value once so many of them
+    /// have values as are wanted, that one's if one is wanted, else nil; with the same cause and code as the last to fail once the others are too
+    /// few. One that stands twice counts twice. `NO_QUORUM` where none is wanted or more than there are, `NO_STAGE`, `NO_MEMORY`.
+    ///
+    /// ```
+    /// use cf_graph::{Call, Event, Form, Of, Outcome, PlanBuilder, Request, RequestSizes, Value};
+    /// # fn main() -> Result<(), cf_graph::Refused> {
+    /// let sizes = RequestSizes { room: 3, lanes: 1, own: 63 };
+    /// let mut request = Request::new(&mut PlanBuilder::new()?.build()?, sizes, &[])?;
+    /// for _ in 0..3 {
+    ///     request.apply(Event { who: 0, call: Call::Attach(Form::Source, Of::None, None) }.word()?, 0)?;
+    /// }
+    /// request.join(2, 1, &[0, 1])?;
+    /// request.apply(Event { who: 0, call: Call::Fail(0, 7) }.word()?, 0)?;
+    /// request.apply(Event { who: 0, call: Call::Complete(1, Value::Int(8)) }.word()?, 0)?;
+    /// assert!(request.todo().settled().map(|told| (told.stage, told.outcome)).eq([1, 2].map(|stage| (stage, Outcome::Value(Value::Int(8))))));
+    /// # Ok(())
+    /// # }
+    /// ```
+    pub fn join(&mut self, stage: u16, wanted: u16, sources: &[u16]) -> Result<(), Refused> {
+        let step = sys::cf_request_joining { stage, wanted };
+        let (first, many) = (sources.as_ptr(), sources.len());
+        // SAFETY: alone, pointers: `h` and what is told to are this call's, and `first` and `told` point to as many elements as said.
+        self.call(|h, told, room, todo| unsafe { sys::cf_request_join(h, &step, first, many, told, room, todo) })
+    }
+
     /// Sets a moment by which a stage has to be settled: [`pass_time_to`](Request::pass_time_to) does this to it if it is open then. `NO_STAGE`,
     /// `NO_MEMORY`.
     pub fn set_deadline(&mut self, stage: u16, moment: u64, limit: Limit) -> Result<(), Refused> {

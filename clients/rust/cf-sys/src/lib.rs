@@ -108,6 +108,8 @@ pub const CF_TOO_MANY: u32 = 37;
 pub const CF_UNDER_WAY: u32 = 38;
 /// There is no such session or token, or the session has fewer tokens left than words.
 pub const CF_NO_TOKENS: u32 = 39;
+/// A join wants none of its sources, or more than there are.
+pub const CF_NO_QUORUM: u32 = 40;
 /// A pointer is null that may not be; nothing was done.
 pub const CF_NULL: u32 = 255;
 
@@ -618,6 +620,16 @@ pub struct cf_request_linking {
     pub stage: u16,
 }
 
+/// What cf_request_join is asked.
+#[repr(C)]
+#[derive(Clone, Copy, Debug, Default, PartialEq, Eq)]
+pub struct cf_request_joining {
+    /// The stage that ends by others.
+    pub stage: u16,
+    /// How many of these have to have values, 1 to n.
+    pub wanted: u16,
+}
+
 /// A deadline: the stage, the moment, CF_TIMEOUT or CF_GIVE_VALUE, the code, which is 0 for CF_GIVE_VALUE, and the value, which is CF_NIL for
 /// CF_TIMEOUT.
 #[repr(C)]
@@ -874,6 +886,8 @@ extern "C" {
     pub fn cf_request_next(request: *mut cf_handle, who: u8, lane: u8, task: *mut cf_task, told: *mut cf_told, room: usize, todo: *mut cf_todo) -> u32;
     /// From now on a stage ends as another stage of the request does, unless it is settled before.
     pub fn cf_request_follow(request: *mut cf_handle, relay: u16, stage: u16, told: *mut cf_told, room: usize, todo: *mut cf_todo) -> u32;
+    /// From now on a stage ends as soon as it is decided what n other stages of the request come to, unless it is settled before.
+    pub fn cf_request_join(request: *mut cf_handle, step: *const cf_request_joining, sources: *const u16, n: usize, told: *mut cf_told, room: usize, todo: *mut cf_todo) -> u32;
     /// Sets a moment by which a stage has to be settled.
     pub fn cf_request_deadline(request: *mut cf_handle, stage: u16, moment: u64, kind: u32, code: u32, value: cf_value, todo: *mut cf_todo) -> u32;
     /// Lets time pass up to a moment.
@@ -982,6 +996,7 @@ pub fn mismatch() -> Option<&'static str> {
         known!(cf_request_gathering: who form root),
         known!(cf_request_composing: who lane form source function relay stage),
         known!(cf_request_linking: who relay stage),
+        known!(cf_request_joining: stage wanted),
         known!(cf_deadline: stage moment kind code value),
         known!(cf_request_call: call who lane stage relay code word moment kind value reply task),
         known!(cf_entry: word token),

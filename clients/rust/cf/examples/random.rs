@@ -61,7 +61,7 @@ fn step(dice: &mut Dice, request: &Request, stages: &[Stage<i64>], others: &[Sta
     let (f, by, rest) = (function(dice), request.clone(), function(dice));
     let all = [a.clone(), b.clone(), dice.pick(stages).clone()];
     let late = Duration::from_micros(*dice.pick(&[1, 100, 400_000]));
-    Some(match dice.roll(24) {
+    Some(match dice.roll(27) {
         0 => request.promise(),
         1 | 2 => request.try_supply(move || f(1)),
         3 | 4 => a.and_then(move |n| f(*n)),
@@ -98,6 +98,9 @@ fn step(dice: &mut Dice, request: &Request, stages: &[Stage<i64>], others: &[Sta
             });
             return None;
         }
+        23 => request.first(&all),
+        24 => request.all(&all).then(|all| all.iter().sum()),
+        25 => request.quorum(1 + dice.roll(3), &all).then(|some| some.iter().sum()),
         // A worker that waits runs others; what it waits for is there, or comes by the clock.
         _ => {
             let waits = request.promise().complete_on_timeout(1, Duration::from_micros(200));

@@ -241,6 +241,11 @@ impl Core {
         self.change(|inner, after| inner.gather(who, form, of, made, after))
     }
 
+    /// Attaches a stage that ends once so many of these have values, or too few can have them still.
+    pub(crate) fn join(self: &Arc<Core>, who: u8, wanted: u16, of: &[u16], made: Made) -> Result<u16, Refusal> {
+        self.change(|inner, after| inner.join(who, wanted, of, made, after))
+    }
+
     /// Attaches a composing stage, and right below it a relay. A stage can only link to lower ones, and the stage that its function makes is higher
     /// or another request's. The relay stands in for that.
     pub(crate) fn attach_composing(self: &Arc<Core>, who: u8, form: WordForm, of: u16, call: StageFn, made: Made) -> Result<u16, Refusal> {
@@ -428,6 +433,14 @@ impl Core {
             values.push(inner.end_of(*stage).unwrap_or(Err(Error::BadAnswer))?);
         }
         Ok(values)
+    }
+
+    /// Those that have values by now.
+    pub(crate) fn values_there(&self, stages: &[u16]) -> Vec<Val> {
+        #[cfg(feature = "testing")]
+        stages.iter().for_each(|stage| self.tell_watch(|watch| watch.note_read(*stage)));
+        let inner = self.lock();
+        stages.iter().filter_map(|stage| inner.end_of(*stage)?.ok()).collect()
     }
 
     // Working.

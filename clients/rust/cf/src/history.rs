@@ -5,7 +5,7 @@ use crate::describe::{escape_text, shorten, Describe};
 use crate::error::Error;
 #[cfg(feature = "serde")]
 use crate::json::Json;
-use crate::ledger::{is_replayed, new_tale, replay, Followed, Replayed};
+use crate::ledger::{is_replayed, new_tale, replay, Followed, Joined, Replayed};
 use crate::record::EventTimes;
 use crate::spawn::{CALLER, CLOCK, FIRST_WORKER, RELAY};
 use crate::value::Val;
@@ -43,6 +43,7 @@ pub struct History {
     values: Vec<Option<KeptEnd<Val>>>,
     errors: Vec<Option<KeptEnd<Error>>>,
     relays: Vec<Followed>,
+    joins: Vec<Joined>,
     /// When the request began.
     since: SystemTime,
 }
@@ -89,13 +90,14 @@ impl History {
         let (of, kept): (Vec<u16>, Vec<_>) = slots.map(|slot| (slot.made, (slot.value().cloned(), slot.error().cloned()))).unzip();
         let made = inner.made.clone();
         let (given, relays, describe) = (inner.names.clone(), inner.ledger.relays.clone(), inner.describe.clone());
+        let joins = inner.ledger.joins.clone();
         drop(inner);
         let mut names: Vec<String> = of.into_iter().map(|of| made[usize::from(of)].to_string()).collect();
         given.into_iter().for_each(|(stage, name)| names[usize::from(stage)] = name.into_owned());
         let (values, errors) = kept.into_iter().unzip();
         let (values, mut errors) = (KeptEnd::keep_all(values), KeptEnd::keep_all(errors));
         errors.insert(0, None);
-        (History { name: core.name.to_string(), words, record, outcomes, names, values, errors, relays, since }, describe)
+        (History { name: core.name.to_string(), words, record, outcomes, names, values, errors, relays, joins, since }, describe)
     }
 
     /// The same, which keeps what is told of values and errors alone, where that isn't all.
@@ -122,9 +124,14 @@ impl History {
         replay(&self.words, self.names.len() as u16).expect("memory for a ledger")
     }
 
-    /// The stages for which relays stand.
+    /// The stages for which relays stand, and those that are joined.
     pub(crate) fn relayed_stages(&self) -> impl Iterator<Item = u16> + '_ {
-        self.relays.iter().map(|followed| followed.stage)
+        self.relays.iter().map(|followed| followed.stage).chain(self.joins.iter().flat_map(|joined| joined.of.iter().copied()))
+    }
+
+    /// The stages that end by others.
+    pub(crate) fn joining_stages(&self) -> impl Iterator<Item = u16> + '_ {
+        self.joins.iter().map(|joined| joined.stage)
     }
 
     /// What is told of a cause.
@@ -301,8 +308,8 @@ impl History {
     }
 
     /// The words, of which those that came too late name no value and no error of a stage, since nobody keeps theirs: the number in them is the one
-    /// behind those of all stages, or 0 for a time-out and a bad answer. What settles a relay of this request is a relay's, though the machine does
-    /// it as the clock.
+    /// behind those of all stages, or 0 for a time-out and a bad answer. What settles a relay or a join of this request is a relay's, though the
+    /// machine does it as the clock.
     fn words_without_late(&self) -> Result<Vec<u64>, Refused> {
         let lost = self.names.len() as u64;
         let apart = |Replayed { word, reply, .. }| {
@@ -317,7 +324,7 @@ impl History {
             }
         };
         let mut is_relay = vec![false; self.names.len()];
-        self.relays.iter().for_each(|followed| is_relay[usize::from(followed.relay)] = true);
+        self.relays.iter().map(|followed| followed.relay).chain(self.joining_stages()).for_each(|stage| is_relay[usize::from(stage)] = true);
         let by_relay = |word| {
             let parts = word::decode(word);
             let is_relays = parts.who == CLOCK && parts.kind != ATTACH && is_relay[usize::from(parts.stage)];

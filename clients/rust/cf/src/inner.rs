@@ -368,6 +368,18 @@ impl Inner {
         Ok(root)
     }
 
+    /// Attaches a stage that ends once so many of these have values, or too few can have them still.
+    pub(crate) fn join(&mut self, who: u8, wanted: u16, of: &[u16], made: Made, after: &mut After) -> Result<u16, Refusal> {
+        let stage = self.attach(who, WordForm::Source, &[], None, made, after)?;
+        self.slot(stage).follows = true;
+        match self.ledger.join(stage, wanted, of) {
+            Ok(()) => self.show_settled(after),
+            Err(Refused::NO_MEMORY) => return Err(Refusal::NoLedger), // nobody has it
+            Err(why) => unreachable!("{why}, of so many stages that are there"),
+        }
+        Ok(stage)
+    }
+
     #[inline]
     pub(crate) fn settle(&mut self, who: u8, stage: u16, with: Result<Val, Error>, after: &mut After) -> Result<(), Result<Val, Error>> {
         let (kind, tail, holds) = match with {
@@ -384,6 +396,7 @@ impl Inner {
                 (kind, tail, Held::Error(Box::new(error)))
             }
         };
+        let follows = take(&mut self.slot(stage).follows); // (this event is counted once)
         match self.ledger.act(word::encode(kind, who, stage, tail)) {
             Ok(Reply::Flag(true)) => {
                 self.keep_content(stage, holds, after);
@@ -392,6 +405,7 @@ impl Inner {
             }
             Ok(_) => {}
             Err(why) => {
+                self.slot(stage).follows = follows;
                 Inner::drop_later(holds, after);
                 panic_refused(why)
             }
@@ -455,7 +469,8 @@ impl Inner {
     fn show_from(&mut self, first: usize, after: &mut After, has_event: impl Fn(&mut Inner, SettledStage, &mut After) -> bool) {
         for at in first..self.ledger.settled_count() {
             let told = self.ledger.settled_at(at);
-            if self.slots[usize::from(told.stage)].follows || has_event(self, told, after) {
+            let follows = self.slots[usize::from(told.stage)].follows;
+            if has_event(self, told, after) || follows {
                 self.ledger.record.note_events(1);
             }
             self.mark_settled(told, after);
@@ -692,7 +707,8 @@ impl Inner {
         }
         let hangs = self.ledger.dependencies();
         let (mut row, mut seen) = (vec![stage], vec![false; self.slots.len()]);
-        let relays: BTreeMap<u16, u16> = self.ledger.relays.iter().map(|followed| (followed.relay, followed.stage)).collect();
+        let mut follow: BTreeMap<u16, Vec<u16>> = self.ledger.relays.iter().map(|followed| (followed.relay, vec![followed.stage])).collect();
+        follow.extend(self.ledger.joins.iter().map(|joined| (joined.stage, joined.of.clone())));
         while let Some(stage) = row.pop() {
             if self.slot(stage).is_settled() || replace(&mut seen[usize::from(stage)], true) {
                 continue;
@@ -703,8 +719,8 @@ impl Inner {
             }
             let Dependencies { is_source, sources, target } = hangs[usize::from(stage)];
             row.extend(sources.into_iter().flatten().chain(target));
-            let own = relays.get(&stage);
-            row.extend(own);
+            let own = follow.get(&stage);
+            row.extend(own.into_iter().flatten());
             match self.extras.get(&stage) {
                 Some(Extra { task: Some(task), .. }) if is_own && task.is_queued() => {
                     needs.first = Some(First::Future(Arc::clone(task)));

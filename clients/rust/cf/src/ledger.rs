@@ -29,6 +29,7 @@ pub(crate) struct Ledger {
     rests_from: u16,
     /// The relays of this request's own stages.
     pub(crate) relays: Vec<Followed>,
+    pub(crate) joins: Vec<Joined>,
     pub(crate) record: EventTimes,
     /// The last moment up to which time has passed for deadlines.
     passed: u64,
@@ -46,6 +47,13 @@ struct Spare {
 pub(crate) struct Followed {
     pub(crate) relay: u16,
     pub(crate) stage: u16,
+}
+
+/// A stage that ends by others of the same request.
+#[derive(Clone, Debug)]
+pub(crate) struct Joined {
+    pub(crate) stage: u16,
+    pub(crate) of: Vec<u16>,
 }
 
 /// A word that was done again, what it was answered, which stages it made ready, and what it settled.
@@ -127,6 +135,7 @@ impl Ledger {
             words: Vec::new(),
             rests_from: SLOTS + 1,
             relays: Vec::new(),
+            joins: Vec::new(),
             record: EventTimes::with_room_of(moments),
             passed: 0,
         })
@@ -214,6 +223,13 @@ impl Ledger {
     pub(crate) fn follow(&mut self, relay: u16, stage: u16) -> Result<(), Refused> {
         self.machine()?.follow(relay, stage)?;
         self.relays.push(Followed { relay, stage });
+        Ok(())
+    }
+
+    /// Lets a stage end once so many of these have values, or too few can have them still.
+    pub(crate) fn join(&mut self, stage: u16, wanted: u16, of: &[u16]) -> Result<(), Refused> {
+        self.machine()?.join(stage, wanted, of)?;
+        self.joins.push(Joined { stage, of: of.into() });
         Ok(())
     }
 

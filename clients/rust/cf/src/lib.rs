@@ -29,7 +29,7 @@
 //! | | |
 //! |---|---|
 //! | a request | [`new`](Request::new), [`with_clock`](Request::with_clock), [`try_new`](Request::try_new); [`described`](Request::described), [`on_end`](Request::on_end), [`metered`](Request::metered), [`history`](Request::history) |
-//! | its first stages | [`supply`](Request::supply), [`try_supply`](Request::try_supply), [`spawn`](Request::spawn), [`promise`](Request::promise), [`adopt`](Request::adopt), [`all_of`](Request::all_of), [`first_of`](Request::first_of), [`gather`](Request::gather) |
+//! | its first stages | [`supply`](Request::supply), [`try_supply`](Request::try_supply), [`spawn`](Request::spawn), [`promise`](Request::promise), [`adopt`](Request::adopt), [`all_of`](Request::all_of), [`first_of`](Request::first_of), [`gather`](Request::gather), [`first`](Request::first), [`all`](Request::all), [`quorum`](Request::quorum) |
 //! | attach a stage behind one | [`then`](Stage::then), [`and_then`](Stage::and_then), [`then_async`](Stage::then_async), [`compose`](Stage::compose), [`combine`](Stage::combine), [`either`](Stage::either), [`handle`](Stage::handle), [`inspect`](Stage::inspect), [`recover`](Stage::recover), [`recover_compose`](Stage::recover_compose) |
 //! | settle it, unless it is settled | [`complete`](Stage::complete), [`fail`](Stage::fail), [`cancel`](Stage::cancel), [`cancel_on_drop`](Stage::cancel_on_drop); all of a request [`cancel_all`](Request::cancel_all), [`Request::cancel_on_drop`] |
 //! | settle it by the clock | [`or_timeout`](Stage::or_timeout), [`complete_on_timeout`](Stage::complete_on_timeout) |

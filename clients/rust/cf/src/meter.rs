@@ -220,6 +220,7 @@ impl Marks {
             }
             done.settled.iter().for_each(|(stage, _)| marks[usize::from(*stage)].settled = Some(place));
         }
+        history.joining_stages().for_each(|stage| marks[usize::from(stage)].promised = None); // (others settle it)
         marks
     }
 }

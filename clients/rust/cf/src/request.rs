@@ -279,6 +279,61 @@ impl Request {
         all
     }
 
+    /// The first value of these stages that is there, as `select_ok` gives it; once all have failed, the error of the last. The others go on. It takes
+    /// one stage, however many they are.
+    ///
+    /// # Panics
+    ///
+    /// Where there is no stage.
+    ///
+    /// ```
+    /// let basket = cf::Request::new("basket 3", cf::Inline);
+    /// let quotes = [basket.try_supply(|| Err("away")), basket.promise(), basket.supply(|| 49)];
+    /// assert_eq!(basket.first(&quotes).wait().unwrap(), 49);
+    /// ```
+    #[track_caller]
+    pub fn first<'a, T: Send + Sync + 'static>(&self, stages: impl IntoIterator<Item = &'a Stage<T>>) -> Stage<T> {
+        let row = self.adopt_row(1, stages);
+        let join = self.attach_join(1, &row, Made::without_function(|| "first")).map(|(_, join)| join);
+        self.0.cancel_relays_with(join, relays_of(&row));
+        Stage::new(&self.0, join)
+    }
+
+    /// The values of all, in this order; or the error of the first to fail, at once, as `try_join_all` gives it. The others go on. It takes two
+    /// stages.
+    ///
+    /// ```
+    /// let basket = cf::Request::new("basket 3", cf::Inline);
+    /// let quotes = [basket.supply(|| 52), basket.supply(|| 49)];
+    /// assert_eq!(basket.all(&quotes).wait().unwrap(), [52, 49]);
+    /// let failed = basket.try_supply(|| Err("away"));
+    /// assert_eq!(basket.all([&basket.promise::<u32>(), &failed]).wait().unwrap_err().to_string(), "away");
+    /// ```
+    pub fn all<'a, T: Clone + Send + Sync + 'static>(&self, stages: impl IntoIterator<Item = &'a Stage<T>>) -> Stage<Vec<T>> {
+        let stages: Vec<&Stage<T>> = stages.into_iter().collect();
+        match stages.len() {
+            0 => self.gather(stages),
+            wanted => self.attach_quorum(wanted, stages, || "all"),
+        }
+    }
+
+    /// The values that are there, in this order, once so many stages have some; or the error of the last to fail, once too many have. The others go
+    /// on. A stage that is given twice counts twice. It takes two stages.
+    ///
+    /// # Panics
+    ///
+    /// Where none is wanted, or more than there are.
+    ///
+    /// ```
+    /// let basket = cf::Request::new("basket 3", cf::Inline);
+    /// let votes = [basket.supply(|| true), basket.promise(), basket.supply(|| false)];
+    /// assert_eq!(basket.quorum(2, &votes).wait().unwrap(), [true, false]);
+    /// ```
+    #[track_caller]
+    pub fn quorum<'a, T: Clone + Send + Sync + 'static>(&self, wanted: usize, stages: impl IntoIterator<Item = &'a Stage<T>>) -> Stage<Vec<T>> {
+        self.attach_quorum(wanted, stages, || "quorum")
+    }
+
     /// Cancels all open stages, the last one first.
     ///
     /// ```
@@ -334,15 +389,51 @@ impl Request {
 
     /// The numbers of all of these, and that of a stage of this form behind them, unless one of them was refused.
     fn attach_root(&self, form: cf_graph::Form, row: &[Adopted], made: Made) -> (Vec<u16>, Result<u16, Refusal>) {
-        let mut numbers = Vec::with_capacity(row.len());
-        for it in row {
-            match it.at {
-                Ok(number) => numbers.push(number),
-                Err(why) => return (numbers, Err(why)),
+        match numbers_of(row) {
+            Ok(numbers) => {
+                let root = self.0.gather(caller_number(), form, &numbers, made);
+                (numbers, root)
             }
+            Err(why) => (Vec::new(), Err(why)),
         }
-        let root = self.0.gather(caller_number(), form, &numbers, made);
-        (numbers, root)
+    }
+
+    /// A stage that ends once so many of these have values, or too few can have them still, with the values that are there.
+    #[track_caller]
+    fn attach_quorum<'a, T>(&self, wanted: usize, of: impl IntoIterator<Item = &'a Stage<T>>, name: fn() -> &'static str) -> Stage<Vec<T>>
+    where
+        T: Clone + Send + Sync + 'static,
+    {
+        let row = self.adopt_row(wanted, of);
+        let (numbers, join) = match self.attach_join(wanted, &row, Made::without_function(|| "join")) {
+            Ok((numbers, join)) => (numbers, Ok(join)),
+            Err(why) => (Vec::new(), Err(why)),
+        };
+        let request = Arc::downgrade(&self.0);
+        let values = move || -> Result<Vec<T>, Error> {
+            let values = request.upgrade().ok_or(Error::BadAnswer)?.values_there(&numbers);
+            Ok(values.iter().map(|value| value::downcast_ref::<T>(value).clone()).collect())
+        };
+        let call: StageFn = Box::new(move |_| Returned::from_result(values()));
+        let all = Stage::<()>::new(&self.0, join).attach_behind(WordForm::Apply, call, Made::without_function(name));
+        self.0.cancel_relays_with(all.at, relays_of(&row));
+        all
+    }
+
+    /// These as stages of this request, of which so many are wanted.
+    #[track_caller]
+    fn adopt_row<'a, T: Send + Sync + 'static>(&self, wanted: usize, of: impl IntoIterator<Item = &'a Stage<T>>) -> Vec<Adopted> {
+        let of: Vec<&Stage<T>> = of.into_iter().collect();
+        assert!(1 <= wanted && wanted <= of.len(), "{wanted} of {} stages can't be wanted", of.len());
+        of.into_iter().map(|stage| stage.adopt_into(self)).collect()
+    }
+
+    /// The numbers of these, and that of a stage that ends once so many have values, or too few can, unless one of them was refused.
+    fn attach_join(&self, wanted: usize, row: &[Adopted], made: Made) -> Result<(Vec<u16>, u16), Refusal> {
+        let numbers = numbers_of(row)?;
+        let wanted = u16::try_from(wanted).map_err(|_| Refusal::Full)?;
+        let join = self.0.join(caller_number(), wanted, &numbers, made)?;
+        Ok((numbers, join))
     }
 
     fn attach<U>(&self, form: WordForm, of: &[u16], call: Option<StageFn>, made: Made) -> Stage<U> {
@@ -371,6 +462,11 @@ impl Drop for Scope {
     fn drop(&mut self) {
         run_in_drop(|| self.0.cancel_all());
     }
+}
+
+/// The numbers of these, unless one of them was refused.
+fn numbers_of(row: &[Adopted]) -> Result<Vec<u16>, Refusal> {
+    row.iter().map(|it| it.at).collect()
 }
 
 /// Those that were made to stand for stages of other requests.

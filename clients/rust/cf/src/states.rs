@@ -78,7 +78,7 @@ impl Wake for Rings {
 const STATES: [&str; 9] = ["open", "closed", "cancelled", "over", "full", "left by a panic", "without memory", "unwinding", "in a function"];
 
 #[rustfmt::skip]
-const TABLE: [(&str, StageFn, [&str; STATES.len()]); 16] = [
+const TABLE: [(&str, StageFn, [&str; STATES.len()]); 17] = [
     //                            open         closed       cancelled    over         full         panic        no memory    unwinding    function
     ("supply", supplies,         ["3",         "closed",    "3",         "3",         "full",      "3",         "no memory", "3",         "3"]),
     ("spawn", spawns,            ["3",         "closed",    "3",         "3",         "full",      "3",         "no memory", "3",         "3"]),
@@ -88,6 +88,7 @@ const TABLE: [(&str, StageFn, [&str; STATES.len()]); 16] = [
     ("combine", combines,        ["9",         "closed",    "cancelled", "5",         "full",      "9",         "no memory", "9",         "9"]),
     ("gather", gathers,          ["1",         "closed",    "cancelled", "1",         "full",      "1",         "no memory", "1",         "1"]),
     ("first_of", firsts,         ["5",         "5",         "cancelled", "1",         "full",      "5",         "no memory", "5",         "5"]),
+    ("first", succeeds,          ["5",         "5",         "cancelled", "1",         "full",      "5",         "no memory", "5",         "5"]),
     ("adopt", adopts,            ["4",         "4",         "4",         "4",         "full",      "4",         "no memory", "4",         "4"]),
     ("or_timeout", limits,       ["late",      "late",      "cancelled", "1",         "late",      "late",      "panics",    "late",      "late"]),
     ("complete", completes,      ["Ok(())",    "Ok(())",    "Err(5)",    "Err(5)",    "Ok(())",    "Ok(())",    "panics",    "Ok(())",    "Ok(())"]),
@@ -137,6 +138,10 @@ fn gathers(on: &On) -> End {
 
 fn firsts(on: &On) -> End {
     settles(on, on.request.first_of([&on.gate, &on.gate]))
+}
+
+fn succeeds(on: &On) -> End {
+    settles(on, on.request.first([&on.gate, &on.gate]))
 }
 
 fn adopts(on: &On) -> End {

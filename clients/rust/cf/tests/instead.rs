@@ -1,5 +1,5 @@
-//! What GUIDE.md says to write for what isn't there: a delayed start, further tries, a deadline for a whole request.
-use cf::{HandClock, Inline, Request, Stage};
+//! What GUIDE.md says to write: a delayed start, further tries, the first of two backends, a deadline for a whole request.
+use cf::{Error, HandClock, Inline, Request, Stage};
 use std::sync::atomic::{AtomicU32, Ordering::SeqCst};
 use std::sync::Arc;
 use std::time::Duration;
@@ -50,6 +50,18 @@ fn tries_with_longer_and_longer_waits() {
         clock.turn(SECOND);
         assert_eq!(told.wait().map_or_else(|error| error.to_string(), |cents| cents.to_string()), wanted);
     }
+}
+
+async fn quote(request: Request, backends: [fn() -> Result<u32, &'static str>; 2]) -> Result<u32, Error> {
+    let scope = request.cancel_on_drop();
+    let quotes = backends.map(|backend| scope.try_supply(backend));
+    scope.first(&quotes).or_timeout(Duration::from_secs(2)).await
+}
+
+#[test]
+fn the_first_of_two_backends() {
+    let (server, request) = (Request::new("server", Inline), Request::new("quote", Inline));
+    assert_eq!(server.spawn(quote(request, [|| Err("away"), || Ok(49)])).wait().unwrap(), 49);
 }
 
 /// What the answer waits for is cancelled with it.

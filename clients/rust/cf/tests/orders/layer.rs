@@ -69,6 +69,20 @@ fn the_first_to_come_decides() {
     assert_eq!(ends, ["1 10", "2 20", "lost 10", "lost 20"]);
 }
 
+/// Whichever of two comes first is the first success, whenever a third one fails, and with two of these three all that are wanted are there.
+#[test]
+fn the_first_to_succeed_decides() {
+    let ends = ends(|world| {
+        let (request, other) = (world.request("first"), world.request("other"));
+        let sources = [world.arrives(request.promise(), 1), world.arrives(other.promise(), 2), world.fails(request.promise(), "lost")];
+        let (first, votes) = (request.first(&sources), request.quorum(2, &sources).then(|some| some.iter().sum::<i32>()));
+        let both = votes.clone();
+        world.end_is(move || format!("{} {}", told(first.wait()), told(both.wait())));
+        votes
+    });
+    assert_eq!(ends, ["1 3", "2 3"]);
+}
+
 /// A future goes once its stage is settled, wherever it stands: it isn't polled any more, and is dropped.
 #[test]
 fn a_future_goes_with_its_stage() {
