@@ -387,6 +387,26 @@ CALL(jint, gather)(JNIEnv *env, jobject machine, jlong at, jint waiting, jint fo
   return end(core, code);
 }
 
+/* Does the words that wait, and lets a stage end once so many of these have values, or too few can have them still. */
+CALL(jint, join)(JNIEnv *env, jobject machine, jlong at, jint waiting, jint stage, jint wanted, jshortArray sources, jint who) {
+  (void)machine;
+  const cf_request_joining step = {.stage = (uint16_t)stage, .wanted = (uint16_t)wanted};
+  struct core *core = begin(at);
+  uint32_t code = do_waiting(core, waiting);
+  if (code != CF_OK) return end(core, code);
+  jsize n = (*env)->GetArrayLength(env, sources);
+  jshort *of = (*env)->GetShortArrayElements(env, sources, NULL);
+  if (!of) return end(core, CF_NO_MEMORY);
+  core->settles = true;
+  code = cf_request_join(&core->request, &step, (const uint16_t *)of, (size_t)n, ROW(core), &core->block.todo);
+  (*env)->ReleaseShortArrayElements(env, sources, of, JNI_ABORT);
+  if (code == CF_OK) {
+    take(core);
+    code = claim_all(core, who);
+  }
+  return end(core, code);
+}
+
 /* Does the words that wait, and sets a deadline of a stage: it times out then with this number as its code, or gets the value of this number, -1 for
  * null. */
 CALL(jint, setDeadline)(JNIEnv *env, jobject machine, jlong at, jint waiting, jint stage, jlong moment, jboolean gives, jint number) {

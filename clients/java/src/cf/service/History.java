@@ -7,6 +7,7 @@ import cf.internal.Teller;
 import cf.internal.Text;
 import cf.internal.Words;
 import java.util.Arrays;
+import java.util.BitSet;
 import java.util.List;
 
 /** The history of a request in memory, which has times and spans, too. */
@@ -26,6 +27,8 @@ public final class History extends RequestHistory {
     /** Values and exceptions; but the texts of them where the request doesn't tell all. */
     private final Object[] values, errors;
     private Describe describe = Describe.ALL;
+    /** The stages that end by others. */
+    final BitSet joins;
     private final String[] threads;
     /** What the machine brought, for tests; else null. */
     final int[][] witness;
@@ -35,7 +38,8 @@ public final class History extends RequestHistory {
     private int[] attached, ready, settled;
 
     /** Its request's lock is held. {@link #describe} is called once that is free. Where moments are null, they are the machine's. */
-    History(String name, Flow flow, Machine machine, String[] names, Object[] values, Throwable[] errors, String[] threads, long[] moments) {
+    History(String name, Flow flow, Machine machine, String[] names, Object[] values, Throwable[] errors, BitSet joins, String[] threads,
+            long[] moments) {
         this.name = name;
         words = Arrays.copyOf(machine.wordsAndMoments(), machine.events());
         this.flow = flow;
@@ -47,6 +51,7 @@ public final class History extends RequestHistory {
         this.names = names;
         this.values = values;
         this.errors = Arrays.copyOf(errors, errors.length, Object[].class);
+        this.joins = joins;
         this.threads = threads;
     }
 
@@ -292,12 +297,15 @@ public final class History extends RequestHistory {
         };
     }
 
-    /** The words, with those as a relay's that settle one of this request, which the machine does as the clock. It stands right below a composing stage. */
+    /**
+     * The words, with those as a relay's that settle one of this request, or a join, which the machine does as the clock. A relay stands right
+     * below a composing stage.
+     */
     private long[] relayWords() {
         Form[] forms = allForms();
         return Arrays.stream(words).map(word -> {
-            int above = Words.stage(word) + 1;
-            boolean isRelays = Words.caller(word) == Request.CLOCK && above < stages && forms[above].composes;
+            int stage = Words.stage(word), above = stage + 1;
+            boolean isRelays = Words.caller(word) == Request.CLOCK && (joins.get(stage) || above < stages && forms[above].composes);
             return isRelays ? Words.withCaller(Request.RELAY, word) : word;
         }).toArray();
     }

@@ -436,6 +436,11 @@ final class Machine {
         accept(link(core().address, waitingWords, 0, relay, stage, NOBODY));
     }
 
+    /** Lets a stage end once so many of these have values, or too few can have them still. */
+    void join(int stage, int wanted, short[] of, int who) {
+        accept(join(core().address, waitingWords, stage, wanted, of, who));
+    }
+
     void setDeadline(int stage, Stage.Limit limit) {
         accept(setDeadline(core().address, waitingWords, stage, limit.moment, limit.hasValue, limit.number));
     }
@@ -748,6 +753,8 @@ final class Machine {
     native int finish(long core, int waiting, int stage, boolean isThrown, int number, int who, boolean last);
 
     native int gather(long core, int waiting, int form, short[] sources, int who);
+
+    native int join(long core, int waiting, int stage, int wanted, short[] sources, int who);
 
     native int link(long core, int waiting, long word, int relay, int stage, int who);
 

@@ -96,7 +96,7 @@ public final class Meter implements MeterMXBean {
         /** The event from which on somebody has to settle a promise, or NEVER. */
         int promised(int k) {
             if (forms[k] != Form.SOURCE || !isRelay(k)) {
-                return forms[k] != Form.SOURCE ? History.NEVER : history.attached(k);
+                return forms[k] != Form.SOURCE || history.joins.get(k) ? History.NEVER : history.attached(k);
             }
             int finish = calls.finish(k + 1);
             boolean isLinked = finish != History.NEVER && Words.isLinking(history.word(finish)) && Words.lowBits(history.word(finish)) == k;

@@ -175,8 +175,10 @@ public final class Request implements AutoCloseable {
     private long[] threads;
     private String[] threadNames = new String[1];
     private int threadCount;
-    /** How many relays and deadlines of open stages the machine has: these aren't in the words. */
+    /** How many relays, joins and deadlines of open stages the machine has: these aren't in the words. */
     private int unwritten;
+    /** The stages that end by others, or null where there is none. */
+    private BitSet joins;
     /** Null where there was never a limit. */
     private Alarm alarm;
     /** Whether a core that it has again is given back once all relays and deadlines have ended. */
@@ -374,6 +376,90 @@ public final class Request implements AutoCloseable {
     }
 
     /**
+     * Waits for the first of these that succeeds; the others go on. Of stages of this request it takes two, of others also a relay each.
+     *
+     * <pre>{@code Stage<String> quote = request.first(request.supplyAsync(here), request.supplyAsync(there));}</pre>
+     *
+     * @return a stage with the value that is there first. Once all have failed, it fails with the exception of the last, which has those of the
+     *         others as suppressed ones
+     * @throws IllegalArgumentException there is no stage
+     */
+    @SafeVarargs
+    @SuppressWarnings({"unchecked", "varargs"})
+    public final <U> Stage<U> first(CompletionStage<? extends U>... of) {
+        Joined join = attachJoin(1, of.clone());
+        return ((Stage<U>) join.stage).exceptionally(join::fail).named("first");
+    }
+
+    /**
+     * Waits for all of these to succeed, and fails as soon as one does; the others go on. Of stages of this request it takes two, of others also a
+     * relay each.
+     *
+     * @return a stage with the values, in this order; or it fails with the exception that comes first
+     */
+    @SafeVarargs
+    @SuppressWarnings("varargs")
+    public final <U> Stage<List<U>> all(CompletionStage<? extends U>... of) {
+        if (of.length == 0) {
+            return allOf().thenApply(none -> Collections.emptyList());
+        }
+        Joined join = attachJoin(of.length, of.clone());
+        return join.stage.thenApply(none -> join.<U>values()).named("all");
+    }
+
+    /**
+     * Waits until so many of these have succeeded; the others go on. A stage that is given twice counts twice. Of stages of this request it takes
+     * two, of others also a relay each.
+     *
+     * @return a stage with the values that are there then, as many as are wanted at least, in this order. Once too many have failed, it fails as
+     *         {@link #first} does
+     * @throws IllegalArgumentException none is wanted, or more than there are
+     */
+    @SafeVarargs
+    @SuppressWarnings("varargs")
+    public final <U> Stage<List<U>> quorum(int wanted, CompletionStage<? extends U>... of) {
+        Joined join = attachJoin(wanted, of.clone());
+        return join.stage.handle((none, error) -> error == null ? join.<U>values() : join.<List<U>>fail(error)).named("quorum");
+    }
+
+    /** A stage that ends by others. */
+    private static final class Joined {
+        final Stage<?> stage;
+        private final Stage<?>[] of;
+
+        Joined(Stage<?> stage, Stage<?>[] of) {
+            this.stage = stage;
+            this.of = of;
+        }
+
+        /** The values that are there. */
+        @SuppressWarnings("unchecked")
+        <U> List<U> values() {
+            List<U> values = new ArrayList<>();
+            for (Stage<?> each : of) {
+                Object told = each.readOutcome();
+                if (told != null && !(told instanceof Fault)) {
+                    values.add(told == Stage.NIL ? null : (U) told);
+                }
+            }
+            return values;
+        }
+
+        /** Throws the exception of the one that failed last, with those of the others. */
+        <U> U fail(Throwable last) {
+            for (Stage<?> each : of) {
+                Object told = each.readOutcome();
+                Throwable error = told instanceof Fault ? ((Fault) told).rawError() : null;
+                if (error != null && error != last && !Arrays.asList(last.getSuppressed()).contains(error)) {
+                    last.addSuppressed(error);
+                }
+            }
+            Request.<RuntimeException>rethrow(last);
+            return null;
+        }
+    }
+
+    /**
      * Attaches a relay: a stage of this request that ends as that stage does, be it of another request, another future, or any other
      * {@link CompletionStage}. A stage of this request is given back itself. Methods that take a second stage, or whose function gives one, make a
      * relay by themselves.
@@ -505,7 +591,7 @@ public final class Request implements AutoCloseable {
             names[k] = names[k] == null ? flow.name(k) : names[k];
         }
         return new History(name, flow, machine, names, Arrays.copyOf(values, valueCount), faults == null ? new Throwable[0] : faults.errors(),
-                Arrays.copyOf(threadNames, threadCount), watch == null ? null : Arrays.copyOf(moments, machine.events()));
+                joins == null ? new BitSet(0) : (BitSet) joins.clone(), Arrays.copyOf(threadNames, threadCount), watch == null ? null : Arrays.copyOf(moments, machine.events()));
     }
 
     /**
@@ -696,21 +782,12 @@ public final class Request implements AutoCloseable {
             return gatherInParts(form, of);
         }
         checkDepth();
-        int count = 0;
-        for (CompletionStage<?> each : of) {
-            count += isForeign(each) ? 1 : 0;
-        }
         Stage<U> root = null;
         FollowUps followUps = new FollowUps(watch);
-        Link[] links = new Link[count];
-        if (hasPlace(of.length - 1 + count)) {
+        Link[] links = new Link[countForeign(of)];
+        if (hasPlace(of.length - 1 + links.length)) {
             Stage<?>[] row = new Stage<?>[of.length];
-            boolean isWhole = true;
-            for (int k = 0, made = 0; k < row.length; k++) {
-                // Who needs only the root needs no relay either once that is settled.
-                row[k] = isForeign(of[k]) ? attachRelay(of[k], links, made++, true) : (Stage<?>) of[k];
-                isWhole &= row[k].request == this;
-            }
+            boolean isWhole = adoptAll(of, row, links);
             synchronized (lock()) {
                 if (isWhole && machine.hasPlace(of.length - 1)) {
                     root = attachGathered(form, row, followUps);
@@ -723,6 +800,82 @@ public final class Request implements AutoCloseable {
         }
         tell(followUps);
         return root;
+    }
+
+    private int countForeign(CompletionStage<?>[] of) {
+        int count = 0;
+        for (CompletionStage<?> each : of) {
+            count += isForeign(Objects.requireNonNull(each)) ? 1 : 0;
+        }
+        return count;
+    }
+
+    /** Fills a row with those that are stages of this request, and relays of the others, which nobody needs once what they are made for is settled. */
+    private boolean adoptAll(CompletionStage<?>[] of, Stage<?>[] row, Link[] links) {
+        boolean isWhole = true;
+        for (int k = 0, made = 0; k < row.length; k++) {
+            row[k] = isForeign(of[k]) ? attachRelay(of[k], links, made++, true) : (Stage<?>) of[k];
+            isWhole &= row[k].request == this;
+        }
+        return isWhole;
+    }
+
+    /** A stage that ends once so many of those, which are of any request, have values, or too few can have them still. */
+    private Joined attachJoin(int wanted, CompletionStage<?>[] of) {
+        if (wanted < 1 || wanted > of.length) {
+            throw new IllegalArgumentException(wanted + " of " + of.length + " stages can't be wanted");
+        }
+        if (next != null) {
+            return lastRequest().attachJoin(wanted, of);
+        }
+        checkDepth();
+        Stage<?> join = null;
+        FollowUps followUps = new FollowUps(watch);
+        Link[] links = new Link[countForeign(of)];
+        Stage<?>[] row = new Stage<?>[of.length];
+        if (of.length <= Machine.MOST_STAGES && hasPlace(1 + links.length)) {
+            boolean isWhole = adoptAll(of, row, links);
+            synchronized (lock()) {
+                if (isWhole && machine.hasPlace(1)) {
+                    join = attachJoined(wanted, row, followUps);
+                }
+            }
+        }
+        removeOnceSettled(links, join);
+        if (join == null) {
+            return openFurther().attachJoin(wanted, of);
+        }
+        tell(followUps);
+        return new Joined(join, row);
+    }
+
+    private Stage<?> attachJoined(int wanted, Stage<?>[] of, FollowUps followUps) {
+        int who = callerNumber();
+        Stage<?> join = attachHere(Form.SOURCE, null, null, null, null, false, null);
+        short[] numbers = numbersOf(of);
+        setName(join.number, wanted + " of " + of.length);
+        machine.join(join.number, wanted, numbers, who);
+        join.extras().joined = numbers;
+        join.extras().wanted = wanted;
+        countUnwritten(join); // Also where the machine has just settled it, which is yet to be told.
+        joins = joins == null ? new BitSet() : joins;
+        joins.set(join.number);
+        for (Stage<?> each : of) {
+            each.dependents++;
+            if (watch != null) {
+                watch.stageFollows(this, join.number, each.number);
+            }
+        }
+        publish(followUps, who);
+        return join;
+    }
+
+    private static short[] numbersOf(Stage<?>[] of) {
+        short[] numbers = new short[of.length];
+        for (int k = 0; k < of.length; k++) {
+            numbers[k] = of[k].number;
+        }
+        return numbers;
     }
 
     /** More than one request may have room for: what waits for all waits for stages that wait for a part each. */
@@ -746,11 +899,8 @@ public final class Request implements AutoCloseable {
     /** Attaches one stage less than there are sources, and gives the last one. The others have an object only for a watch or a recording. */
     private <U> Stage<U> attachGathered(Form form, Stage<?>[] of, FollowUps followUps) {
         int who = callerNumber(), first = machine.stages(), count = of.length - 1;
-        short[] numbers = new short[of.length];
+        short[] numbers = numbersOf(of);
         Stage<?>[] made = new Stage<?>[count];
-        for (int k = 0; k < of.length; k++) {
-            numbers[k] = of[k].number;
-        }
         for (int k = watch != null || Recorder.hasStages() ? 0 : count - 1; k < count; k++) {
             made[k] = new Stage<>(this, first + k, form, null, null);
         }
@@ -1028,7 +1178,7 @@ public final class Request implements AutoCloseable {
 
     /** Cancels what is open, but what stands behind this stage and what that needs. The lock is held. */
     private void cancelRest(Stage<?> stage, int who, FollowUps followUps) {
-        cancelAllBut(sources().needed(stage.number, this::isPending, this::followedStage), who, followUps);
+        cancelAllBut(sources().needed(stage.number, this::isPending, this::followedStages), who, followUps);
     }
 
     /** Cancels what is open but these, the last stage first. The lock is held. */
@@ -1133,7 +1283,7 @@ public final class Request implements AutoCloseable {
         tell(followUps);
     }
 
-    /** Sets relays and deadlines in a machine that was opened again. */
+    /** Sets relays, joins and deadlines in a machine that was opened again. */
     private void restoreUnwritten() {
         for (Stage<?> stage : stages) {
             if (stage != null && stage.hasUnwritten()) {
@@ -1142,6 +1292,9 @@ public final class Request implements AutoCloseable {
                 }
                 if (stage.extras.followedStage >= 0) {
                     machine.follow(stage.number, stage.extras.followedStage);
+                }
+                if (stage.extras.joined != null) {
+                    machine.join(stage.number, stage.extras.wanted, stage.extras.joined, Machine.NOBODY);
                 }
             }
         }
@@ -1385,6 +1538,17 @@ public final class Request implements AutoCloseable {
     private int followedStage(int number) {
         Stage<?> stage = number < stages.length ? stages[number] : null;
         return stage == null || stage.extras == null ? -1 : stage.extras.followedStage;
+    }
+
+    /** The stages of this request that a relay follows, or that a join waits for, while it is open. */
+    private int[] followedStages(int number) {
+        Stage<?> stage = number < stages.length ? stages[number] : null;
+        short[] joined = stage == null || stage.extras == null ? null : stage.extras.joined;
+        int[] some = new int[joined != null ? joined.length : followedStage(number) >= 0 ? 1 : 0];
+        for (int k = 0; k < some.length; k++) {
+            some[k] = joined != null ? joined[k] : followedStage(number);
+        }
+        return some;
     }
 
     /** The exception of a stage's failed source. It may have to be made: no lock is held. */

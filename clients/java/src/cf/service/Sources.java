@@ -4,8 +4,8 @@ import cf.internal.Form;
 import cf.internal.Words;
 import java.util.Arrays;
 import java.util.BitSet;
+import java.util.function.IntFunction;
 import java.util.function.IntPredicate;
-import java.util.function.IntUnaryOperator;
 
 /**
  * Of which stages a stage of a request takes what it ends with, by the words. A request keeps none of that while nobody asks. Who asks has the words
@@ -73,9 +73,9 @@ final class Sources {
 
     /**
      * The stages behind this one, and those that these still wait for. What a stage follows isn't in the words, as the relay of one that composes
-     * does: that is asked for, or -1.
+     * does, or a join: that is asked for.
      */
-    BitSet needed(int first, IntPredicate isOpen, IntUnaryOperator follows) {
+    BitSet needed(int first, IntPredicate isOpen, IntFunction<int[]> follows) {
         read();
         BitSet needed = new BitSet();
         needed.set(first);
@@ -95,10 +95,11 @@ final class Sources {
     }
 
     /** What a stage waits for, also of one that composes: its relay, which stands right below it. */
-    private int[] awaitedStages(int stage, IntUnaryOperator follows) {
-        int[] some = forms[stage].composes ? append(allSources(stage), stage - 1) : allSources(stage);
-        int followed = follows.applyAsInt(stage);
-        return followed < 0 ? some : append(some, followed);
+    private int[] awaitedStages(int stage, IntFunction<int[]> follows) {
+        int[] some = forms[stage].composes ? append(allSources(stage), stage - 1) : allSources(stage), followed = follows.apply(stage);
+        int[] all = Arrays.copyOf(some, some.length + followed.length);
+        System.arraycopy(followed, 0, all, some.length, followed.length);
+        return all;
     }
 
     /** Whether a stage may need its sources: one that needs one alone doesn't once it has that. */

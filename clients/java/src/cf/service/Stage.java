@@ -81,11 +81,12 @@ public class Stage<T> extends Waits<T> {
         /** Relays of other requests that are settled as this stage is. */
         Link.Chain outsideLinks;
         Observer observers;
-        /** How many relays and deadlines of it the machine has. */
+        /** How many relays, joins and deadlines of it the machine has. */
         int unwritten;
-        /** What isn't in the words: deadlines, in the order in which they were set, and the stage that it follows, or -1. */
+        /** What isn't in the words: deadlines, in the order in which they were set, the stage that it follows, or -1, and those that it joins. */
         List<Limit> limits;
-        int followedStage = -1;
+        int followedStage = -1, wanted;
+        short[] joined;
     }
 
     /** A deadline: with a value's number, or as timed out, with a code. */
@@ -129,7 +130,7 @@ public class Stage<T> extends Waits<T> {
         return request.lock();
     }
 
-    /** Whether the machine has relays or deadlines of it, which aren't in the words. */
+    /** Whether the machine has relays, joins or deadlines of it, which aren't in the words. */
     final boolean hasUnwritten() {
         Extras it = extras;
         return it != null && it.unwritten > 0;

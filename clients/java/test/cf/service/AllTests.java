@@ -60,6 +60,13 @@ public final class AllTests {
         test("all of many, or one", GatheringTest::asJavas);
         test("room for all of many", GatheringTest::room);
         test("many in parts", GatheringTest::parts);
+        test("the first success", JoinsTest::first);
+        test("all or the first failure", JoinsTest::all);
+        test("a quorum", JoinsTest::quorum);
+        test("joins of others", JoinsTest::others);
+        test("joins of requests that are closed", JoinsTest::closed);
+        test("what is told of joins", JoinsTest::told);
+        test("joins in threads", JoinsTest::inThreads);
         test("chains through requests", ChainsTest::backAndForth);
         test("chains of finished futures", ChainsTest::finishedChains);
         test("chains of links", ChainsTest::linkedChains);

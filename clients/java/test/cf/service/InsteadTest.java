@@ -8,7 +8,6 @@ import cf.service.Checks.Broken;
 import java.util.Arrays;
 import java.util.List;
 import java.util.concurrent.CancellationException;
-import java.util.concurrent.CompletionException;
 import java.util.concurrent.ExecutionException;
 import java.util.concurrent.Executor;
 import java.util.concurrent.TimeUnit;
@@ -50,30 +49,17 @@ final class InsteadTest {
         is(timesOut(SERVICE.start(flow).stage(step).orTimeout(10, TimeUnit.MILLISECONDS)), true);
     }
 
-    /** The first stage that succeeds; an allOf that fails at once, and one that gives errors, too. */
+    /** An allOf that gives errors, too. */
     static void ofSeveral() {
         Request request = SERVICE.request();
         List<Stage<Integer>> stages = Arrays.asList(request.promise(), request.promise(), request.promise());
-        Stage<Integer> won = request.promise();
-        Stage<Void> total = request.allOf(stages.toArray(new Stage<?>[0]));
-        for (Stage<Integer> stage : stages) {
-            stage.thenAccept(won::complete);
-            stage.whenComplete((value, error) -> {
-                if (error != null) {
-                    total.completeExceptionally(error);
-                }
-            });
-        }
         Stage<?>[] both = stages.stream().map(stage -> stage.<Object>handle((value, error) -> error == null ? value : error)).toArray(Stage<?>[]::new);
         Broken broken = new Broken();
         stages.get(1).completeExceptionally(broken);
-        is(won.isDone(), false);
-        is(thrown(CompletionException.class, total::join).getCause(), broken);
         stages.get(2).complete(7);
-        is(won.join(), 7);
         stages.get(0).complete(8);
         request.allOf(both).join();
-        is(Arrays.asList(won.join(), both[0].join(), both[1].join(), both[2].join()), Arrays.asList(7, 8, broken, 7));
+        is(Arrays.asList(both[0].join(), both[1].join(), both[2].join()), Arrays.asList(8, broken, 7));
     }
 
     /** A start after a while, and tries with longer and longer waits. */

@@ -203,7 +203,7 @@ final class MachineTest {
         machine.passTimeTo(9, Machine.NOBODY);
         is(machine.settledCount() + " " + machine.settledKind(0) + " " + machine.settledNumber(0), "1 " + Layout.TIMED_OUT + " 8");
         String[] threads = {"main"};
-        History history = new History("causes", null, machine, new String[4], new Object[0], new Throwable[0], threads, null);
+        History history = new History("causes", null, machine, new String[4], new Object[0], new Throwable[0], new java.util.BitSet(), threads, null);
         is(history.script(), "{\"cf\":3,\"room\":4,\"stages\":[],\"steps\":[[\"attach\",{\"form\":\"source\"}],"
                 + "[\"attach\",{\"form\":\"handle\",\"of\":[0],\"fn\":{\"const\":1}}],[\"attach\",{\"form\":\"source\"}],[\"attach\",{\"form\":\"source\"}],"
                 + "[\"failAs\",0,\"badanswer\",4294967295],[\"claim\",3,1],[\"failAs\",2,\"timeout\"],[\"failAs\",2,\"badanswer\",7],"

@@ -197,7 +197,7 @@ public final class RandomRequests {
         Stage<Object> one = any(random), two = any(random);
         boolean async = random.nextBoolean();
         Function<Object, Object> fn = x -> give(random);
-        switch (random.nextInt(26)) {
+        switch (random.nextInt(29)) {
             case 0: made.add(request.promise()); break;
             case 1: made.add(request.supplyAsync(() -> give(random))); break;
             case 2: made.add(async ? one.thenApplyAsync(fn) : one.thenApply(fn)); break;
@@ -223,6 +223,9 @@ public final class RandomRequests {
             case 22: stays(one); break;
             case 23: Checks.timeOut(one); break;
             case 24: made.add(async ? one.thenCompose(x -> behindOutside) : one.applyToEither(behindOutside, x -> x)); break;
+            case 25: made.add(request.first(one, two, async ? outside : any(random))); break;
+            case 26: made.add(cast(request.all(one, two, async ? foreign : any(random)))); break;
+            case 27: made.add(cast(request.quorum(1 + random.nextInt(3), one, two, any(random)))); break;
             default: waits(one, random.nextInt(2));
         }
     }
