@@ -4,14 +4,11 @@ import cf.service.Request;
 import cf.service.Service;
 import cf.service.Stage;
 import java.util.Arrays;
-import java.util.List;
 import java.util.concurrent.ExecutionException;
 import java.util.concurrent.Executor;
 import java.util.concurrent.TimeUnit;
-import java.util.concurrent.TimeoutException;
 import java.util.concurrent.atomic.AtomicInteger;
 import java.util.function.Supplier;
-import java.util.stream.Collectors;
 
 /** The listings of GUIDE.md, and a run of each. */
 public class Guide {
@@ -24,24 +21,12 @@ public class Guide {
         return answer;
     }
 
-    static <T> Stage<List<T>> values(Request request, List<Stage<T>> stages) {
-        return request.allOf(stages.toArray(new Stage<?>[0])).thenApply(none -> stages.stream().map(Stage::join).collect(Collectors.toList()));
-    }
-
-    static Stage<Void> allOrFirstError(Request request, List<? extends Stage<?>> stages) {
-        Stage<Void> all = request.allOf(stages.toArray(new Stage<?>[0]));
-        stages.forEach(stage -> stage.whenComplete((value, error) -> {
-            if (error != null) {
-                all.completeExceptionally(error);
-            }
-        }));
-        return all;
-    }
-
-    static <T> Stage<T> firstValue(Request request, List<Stage<T>> stages) {
-        Stage<T> won = request.promise();
-        stages.forEach(stage -> stage.thenAccept(won::complete));
-        return won.orTimeout(1, TimeUnit.SECONDS); // in case all fail
+    static String quote(Service service, Supplier<String> here, Supplier<String> there) {
+        try (Request request = service.request("quote")) {
+            Stage<String> quote = request.first(request.supplyAsync(here), request.supplyAsync(there)).orTimeout(2, TimeUnit.SECONDS);
+            request.cancelRestAfter(quote);
+            return quote.join();
+        }
     }
 
     static final Flow QUOTE = new Flow("quote");
@@ -83,20 +68,16 @@ public class Guide {
             AtomicInteger asked = new AtomicInteger();
             Supplier<String> ask = () -> "try " + 1 / Math.max(0, asked.incrementAndGet() - 2); // throws twice
             holds(gives(tried(request, ask, 1, 1), "try 1") && asked.get() == 3);
-            List<Stage<Integer>> open = Arrays.asList(request.promise(), request.promise());
-            Stage<List<Integer>> values = values(request, open);
-            Stage<Integer> first = firstValue(request, open);
-            Stage<Void> all = allOrFirstError(request, open);
-            open.get(1).completeExceptionally(new IllegalStateException("away"));
-            holds(fails(all, IllegalStateException.class) && !first.isDone() && !values.isDone());
-            open.get(0).complete(4);
-            holds(gives(first, 4) && fails(values, IllegalStateException.class));
-            holds(gives(values(request, Arrays.asList(request.completedFuture(7), open.get(0))), Arrays.asList(7, 4)));
-            holds(fails(firstValue(request, Arrays.asList(request.<Integer>promise())), TimeoutException.class));
+            Stage<Integer> open = request.promise(), seven = request.completedFuture(7);
+            holds(gives(request.all(seven, open.completeOnTimeout(4, 0, TimeUnit.SECONDS)), Arrays.asList(7, 4)));
+            Stage<Integer> failed = request.failedFuture(new IllegalStateException("away"));
+            holds(fails(request.all(request.promise(), failed), IllegalStateException.class) && gives(request.first(failed, seven), 7));
+            holds(gives(request.quorum(2, failed, seven, open), Arrays.asList(7, 4)) && fails(request.first(failed), IllegalStateException.class));
             String told = request.history().toString();
             holds(told.contains("0 supply ends: java.lang.ArithmeticException: / by zero") && told.contains("which gave java.lang.String of 5"));
         }
         holds(quote(service, 2) == 10300);
+        holds(quote(service, () -> Integer.toString(Integer.parseInt("away")), () -> "49").equals("49"));
         System.out.println("all that the guide shows holds");
     }
 }
