@@ -3,5 +3,6 @@
 mod composes;
 mod joins;
 mod machines;
+mod scopes;
 mod steps;
 mod threads;

@@ -215,7 +215,7 @@ pub found_none : (t : Teller) (words : ℕ) → words ≤ t.ledger.free → t �
 found_none t words l = sym (ap (λ (n : ℕ). let x : Teller = record t { ledger = record t.ledger { free = n } } in x) (max-eq_left l))
 
 -- a stage is attached as by its word alone
-applies_attach : (who : ℕ) (form : Form) (of : Of) (function : Option ℕ) (lane : ℕ) (m : Machine) (between : Teller) → TellsAttach lane (Attaches who form of function) m.teller between → waiting_in m ≤ free_in m → NoneBehind m.follows (state_of between.ledger).stages →
+pub applies_attach : (who : ℕ) (form : Form) (of : Of) (function : Option ℕ) (lane : ℕ) (m : Machine) (between : Teller) → TellsAttach lane (Attaches who form of function) m.teller between → waiting_in m ≤ free_in m → NoneBehind m.follows (state_of between.ledger).stages →
     AppliesWord (word_of (Attaches who form of function)) lane m (ToldAttach (At (stages_in m))) (record m { teller = between })
 applies_attach who form of function lane m between done enough none =
     let few = few_relays (state_in m).stages m.follows in
@@ -229,7 +229,7 @@ applies_attach who form of function lane m between done enough none =
     }
 
 -- relays that are open
-waiting_less : (follows : List Join) (old new : Teller) → StaySettled (state_of old.ledger).stages (state_of new.ledger).stages → length (waiting_of (state_of new.ledger).stages follows) ≤ length (waiting_of (state_of old.ledger).stages follows)
+pub waiting_less : (follows : List Join) (old new : Teller) → StaySettled (state_of old.ledger).stages (state_of new.ledger).stages → length (waiting_of (state_of new.ledger).stages follows) ≤ length (waiting_of (state_of old.ledger).stages follows)
 waiting_less follows old new stay = relays_stay follows (state_of old.ledger).stages (state_of new.ledger).stages stay
 
 calls_row : (lane : ℕ) (events : List Event) (m : Machine) (end : Teller) → AreAttaches events → length events ≤ (state_in m).plan.room → length events + waiting_in m ≤ free_in m → AreThere (state_in m) m.follows →

@@ -221,7 +221,7 @@ either_one : (o : Outcome) → one_if (has_value (Some o)) + one_if (has_failed 
 either_one (Gives v) = refl
 either_one (Fault cause wrapped) = refl
 
-decided_one : (f : ℕ → Option Outcome) (n : ℕ) (j : Join) (o : Outcome) → IsJoin n j → j.others.items ≡ [] → f j.source ≡ Some o → IsUndecided f j → ⊥
+pub decided_one : (f : ℕ → Option Outcome) (n : ℕ) (j : Join) (o : Outcome) → IsJoin n j → j.others.items ≡ [] → f j.source ≡ Some o → IsUndecided f j → ⊥
 decided_one f n j o h none is undecided =
     let all : sources_of j ≡ j.source ∷ [] = ap (λ (l : List ℕ). j.source ∷ l) none in
     let size = ap (λ (l : List ℕ). length l) all in

@@ -17,3 +17,4 @@ pub mod Found
 pub mod Attached
 pub mod Gathered
 pub mod Composes
+pub mod Ends

@@ -25,7 +25,7 @@ use Rattle.cf_ledger.specs.declared.step.Finish.{Finish}
 use Rattle.cf_ledger.specs.declared.step.Held.{Held}
 use Rattle.cf_ledger.specs.declared.step.Taken.{Taken}
 use Rattle.cf_request.specs.Deadlines.{Forgets, Sets}
-use Rattle.cf_request.specs.Joins.{AreAllThere, IsFollow, IsJoin, sources_of}
+use Rattle.cf_request.specs.Joins.{AreAllThere, IsJoin, IsOfOne, sources_of}
 use Rattle.cf_request.specs.Lanes.{FinishesHeld, IsIdle, NoneReadyIn, NothingIsReady, TakesIn, ready_below}
 use Rattle.cf_request.specs.Machines.{AreBothThere, CancelsAll, CatchesUp, GoesOn, IsMachine, IsNoFollow, IsNoJoin, IsNoWord, Machine, Refuses, open_in, stages_in}
 use Rattle.cf_request.specs.Ready.{Lanes, lane_of}
@@ -202,7 +202,7 @@ pub filter_push : (p : Join → Bool) (xs : List Join) (j : Join) → length (fi
 filter_push p [] j = push_first (p j) j
 filter_push p (x ∷ xs) j = push_by (p x) x (filter p (xs ++ j ∷ [])) (filter p xs) (filter_push p xs j)
 
-relays_push : (stages : List Stage) (follows : List Join) (flags now : List Bool) (waiting : ℕ) (j : Join) → AreRelays stages follows flags waiting → MarksAll (sources_of j) flags now → AreRelays stages (follows ++ j ∷ []) now (waiting + 1)
+pub relays_push : (stages : List Stage) (follows : List Join) (flags now : List Bool) (waiting : ℕ) (j : Join) → AreRelays stages follows flags waiting → MarksAll (sources_of j) flags now → AreRelays stages (follows ++ j ∷ []) now (waiting + 1)
 relays_push stages follows flags now waiting j h marks =
     let more = filter_push (λ (x : Join). not (is_settled_in stages x.stage)) follows j in
     let most = h.most in
@@ -257,27 +257,27 @@ may_join words a r old w deadlines own j is_due rows marks count machine none re
 
 -- ---- a join of one
 
-follow_there : (relay stage n : ℕ) (j : Join) → IsFollow relay stage j → relay < n → stage < n → AreAllThere n j
-follow_there relay stage n j is first second =
+pub follow_there : (relay stage n : ℕ) (ends : Bool) (j : Join) → IsOfOne relay stage ends j → relay < n → stage < n → AreAllThere n j
+follow_there relay stage n ends j is first second =
     let a = is.same in
     let b = is.source in (
       omega (arith, first, a),
       All-cons (λ (i : ℕ). i < n) j.source j.others.items (omega (arith, second, b)) (subst (λ (l : List ℕ). All (λ (i : ℕ). i < n) l) (sym is.none) (All-nil (λ (i : ℕ). i < n))),
     )
 
-pub no_follow : (relay stage : ℕ) (j : Join) (m : Machine) → IsFollow relay stage j → IsNoJoin j m NoMemoryForJoin → IsNoFollow relay stage m NoMemoryForIt
-no_follow relay stage j m is (inl short) = inl short
-no_follow relay stage j m is (inr (join, none)) =
+pub no_follow : (relay stage : ℕ) (ends : Bool) (j : Join) (m : Machine) → IsOfOne relay stage ends j → IsNoJoin j m NoMemoryForJoin → IsNoFollow relay stage m NoMemoryForIt
+no_follow relay stage ends j m is (inl short) = inl short
+no_follow relay stage ends j m is (inr (join, none)) =
     let first = join.stage in
     let second = join.sources 0 0 (omega arith) in
     let a = is.same in
     let b = is.source in
     inr (omega (arith, first, a), omega (arith, second, b), none)
 
-pub not_there : (relay stage : ℕ) (j : Join) (m : Machine) (fault : JoinFault) → IsFollow relay stage j → fault ≢ NoMemoryForJoin → IsNoJoin j m fault → ¬ AreBothThere relay stage m
-not_there relay stage j m NoMemoryForJoin is other h both = other refl
-not_there relay stage j m NoStageForJoin is other h both = h (follow_there relay stage (stages_in m) j is both.0 both.1)
-not_there relay stage j m NoQuorum is other h both = h.1 (let one = is.one in (omega (arith, one), omega (arith, one)))
+pub not_there : (relay stage : ℕ) (ends : Bool) (j : Join) (m : Machine) (fault : JoinFault) → IsOfOne relay stage ends j → fault ≢ NoMemoryForJoin → IsNoJoin j m fault → ¬ AreBothThere relay stage m
+not_there relay stage ends j m NoMemoryForJoin is other h both = other refl
+not_there relay stage ends j m NoStageForJoin is other h both = h (follow_there relay stage (stages_in m) ends j is both.0 both.1)
+not_there relay stage ends j m NoQuorum is other h both = h.1 (let one = is.one in (omega (arith, one), omega (arith, one)))
 
 -- where nothing is told to be due
 pub behind_if : (o : Option Due) (b : Bool) (P : Type 0) → IfNone o P → b ≡ is_some o → b ≡ false → P

@@ -351,6 +351,10 @@ tells_once old new outs opened calls =
 pub runs_once : RunsOnce
 runs_once old new outs calls = let e = effects old new outs calls in record { apart = e.apart; granted = e.granted }
 
+-- each stage that a row tells might be claimed before the row
+pub claimable_before : (old new : Machine) (outs : List Out) → AreCalls old outs new → All (λ i. is_claimable (stage_at (state_in old) i) ≡ true) (map stage_of (all_jobs outs))
+claimable_before old new outs calls = (effects old new outs calls).before
+
 pub comes_to_an_end : ComesToAnEnd
 comes_to_an_end old new outs calls = (effects old new outs calls).fewer
 

@@ -32,7 +32,7 @@ use Rattle.cf_request.proofs.Words.{same_count}
 
 -- ---- an open stage is settled
 
-none_of : (o : Option Outcome) → is_some o ≡ false → o ≡ None
+pub none_of : (o : Option Outcome) → is_some o ≡ false → o ≡ None
 none_of None h = refl
 none_of (Some o) h = cc
 
@@ -50,7 +50,7 @@ settles_by : (x : Option Outcome) (s : State) (i : ℕ) (o : Outcome) → x ≡ 
 settles_by None s i o e none l = after_settled s i o none l
 settles_by (Some p) s i o e none l = cc
 
-cancels_by : (x : Option Outcome) (s : State) (i : ℕ) → x ≡ None → outcome_at s i ≡ None → i < length s.stages → outcome_in ((cancelled_by x s i).1.stages) i ≡ Some (Fault Cancelled false)
+pub cancels_by : (x : Option Outcome) (s : State) (i : ℕ) → x ≡ None → outcome_at s i ≡ None → i < length s.stages → outcome_in ((cancelled_by x s i).1.stages) i ≡ Some (Fault Cancelled false)
 cancels_by None s i e none l = after_settled s i (Fault Cancelled false) none l
 cancels_by (Some p) s i e none l = cc
 

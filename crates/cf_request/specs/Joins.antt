@@ -1,6 +1,7 @@
 -- Stages that end by what other stages of the same request end as.
 use Rattle.std.specs.Prelude.{◌≡◌, ℕ, ◌+◌, ◌<◌, ◌≤◌, ◌||◌, ◌==◌, Bool, true, false, cond, Option, Some, None, List, [], ◌∷◌, ◌++◌, All, length}
 use Rattle.std.specs.List.{count_by}
+use Rattle.cf_outcome.specs.declared.outcome.Cause.TheVariants.{Cancelled}
 use Rattle.cf_outcome.specs.declared.outcome.Outcome.{Outcome}
 use Rattle.cf_outcome.specs.declared.outcome.Outcome.TheVariants.{Value as Gives, Fault}
 use Rattle.cf_outcome.specs.declared.outcome.Value.{Value}
@@ -37,12 +38,17 @@ MayNotJoin stages j NoMemory = ⊥
 MayNotJoin stages j NoStage = ¬ AreAllThere stages j
 MayNotJoin stages j NoQuorum = AreAllThere stages j × ¬ IsQuorum j
 
--- it follows one stage: a join of one
-pub record IsFollow (relay stage : ℕ) (j : Join) : Type 0 where
-  pub same : j.stage ≡ relay
+-- a join of one: the stage ends by the source, and is cancelled then or not
+pub record IsOfOne (stage by : ℕ) (ends : Bool) (j : Join) : Type 0 where
+  pub same : j.stage ≡ stage
   pub one : j.wanted ≡ 1
-  pub source : j.source ≡ stage
+  pub source : j.source ≡ by
   pub none : j.others.items ≡ []
+  pub cancels : j.cancels ≡ ends
+
+-- a relay follows a stage
+abbrev pub IsFollow : ℕ → ℕ → Join → Type 0
+IsFollow relay stage j = IsOfOne relay stage false j
 
 -- ---- when it is decided
 
@@ -97,9 +103,13 @@ pub record IsDecided (stages : List Stage) (settled : List ℕ) (j : Join) (o : 
 abbrev pub value_by : Join → Value → Value
 value_by j v = cond (j.wanted == 1) v Nil
 
+abbrev pub ending_of : Join → Outcome → Outcome
+ending_of j (Gives v) = Gives (value_by j v)
+ending_of j (Fault cause wrapped) = Fault cause false
+
+-- but one that cancels is cancelled
 abbrev pub ending_by : Join → Outcome → Outcome
-ending_by j (Gives v) = Gives (value_by j v)
-ending_by j (Fault cause wrapped) = Fault cause false
+ending_by j o = cond j.cancels (Fault Cancelled false) (ending_of j o)
 
 -- it is decided, and this is what it is settled with
 pub record IsDueBy (stages : List Stage) (settled : List ℕ) (j : Join) (d : Due) : Type 0 where

@@ -12,3 +12,4 @@ pub mod Gathering
 pub mod Composing
 pub mod Growing
 pub mod Rows
+pub mod Scopes

@@ -1,5 +1,5 @@
 -- A request as a machine, and what its calls do.
-use Rattle.std.specs.Prelude.{◌≡◌, ℕ, ◌+◌, ◌<◌, ◌≤◌, Option, List, [], ◌∷◌, ◌++◌, length, max, take, ◌⊎◌}
+use Rattle.std.specs.Prelude.{◌≡◌, ℕ, ◌+◌, ◌<◌, ◌≤◌, Bool, false, Option, List, [], ◌∷◌, ◌++◌, length, max, take, ◌⊎◌}
 use Rattle.cf_model.specs.declared.events.Reply.{Reply}
 use Rattle.cf_model.specs.States.{State, start}
 use Rattle.cf_ledger.specs.Ledgers.{LedgerRefuses, stages_of, state_of}
@@ -10,7 +10,7 @@ use Rattle.cf_ledger.specs.declared.faults.StepFault.{StepFault}
 use Rattle.cf_ledger.specs.declared.faults.StepFault.TheVariants.{NoMemory as NoMemoryForStep, NoCaller, NoStage as NoStageForStep, NotHeld}
 use Rattle.cf_ledger.specs.declared.step.Held.{Held}
 use Rattle.cf_request.specs.Deadlines.{AllOpen, AreCome, AreSet, Forgets, IsOverdue, NoneLeft, Sets, open_of}
-use Rattle.cf_request.specs.Joins.{IsFollow, IsJoin, MayNotJoin}
+use Rattle.cf_request.specs.Joins.{IsJoin, IsOfOne, MayNotJoin}
 use Rattle.cf_request.specs.Lanes.{FinishesHeld, IsIdle, TakesIn}
 use Rattle.cf_request.specs.Refusals.{AllSettled, IsCancelled, IsRefused, NoneToRefuse, open_below}
 use Rattle.cf_request.specs.Relays.{AreThere, IsRelayDue, IsRelayOr, NoneBehind, waiting_of}
@@ -167,11 +167,15 @@ pub record SetsJoin (join : Join) (old new : Machine) : Type 0 where
   pub catches_up : CatchesUp old.own new.follows found new.teller
   pub same : new ≡ record old { teller = new.teller; follows = new.follows; relay_places = new.relay_places }
 
--- so is a relay that follows a stage
-pub record SetsFollow (relay stage : ℕ) (old new : Machine) : Type 0 where
+-- so is a join of one
+pub record SetsOne (stage source : ℕ) (cancels : Bool) (old new : Machine) : Type 0 where
   pub join : Join
-  pub is : IsFollow relay stage join
+  pub is : IsOfOne stage source cancels join
   pub sets : SetsJoin join old new
+
+-- as a relay that follows a stage
+abbrev pub SetsFollow : ℕ → ℕ → Machine → Machine → Type 0
+SetsFollow relay stage old new = SetsOne relay stage false old new
 
 -- there is a place for no relay more
 abbrev pub NoRelayFits : Machine → Type 0

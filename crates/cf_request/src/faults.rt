@@ -46,3 +46,28 @@ impl From<AllocError> for JoinFault {
         JoinFault::NoMemory
     }
 }
+
+/// Why nothing is put into a scope.
+#[derive(Clone, Copy, Debug, PartialEq, Eq)]
+pub enum ScopeFault {
+    /// There is no memory for it, and nothing else stands against it.
+    NoMemory,
+    /// The word attaches no stage.
+    NoEvent,
+    /// The scope or a stage isn't there.
+    NoStage,
+    /// There is no room for one more stage.
+    NoRoom,
+    /// The scope has ended.
+    ScopeEnded,
+}
+
+impl From<AllocError> for ScopeFault {
+    ghost use Rattle.cf_request.specs.declared.faults.ScopeFault.TheVariants.{NoMemory};
+
+    ghost from_gives = { λ _ fault. fault ≡ NoMemory };
+
+    fn from(_refused: AllocError) -> ScopeFault {
+        ScopeFault::NoMemory
+    }
+}

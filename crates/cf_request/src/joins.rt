@@ -1,8 +1,9 @@
 //! Stages that end by what other stages of the same request end as.
-ghost use Rattle.std.specs.Prelude.{◌≡◌, ◌↔◌, ◌+◌, ◌^◌, ◌<◌, ◌≤◌, cond, IfErr, IfNone, IfSome, IsTrue, OnOk, length};
+ghost use Rattle.std.specs.Prelude.{◌≡◌, ◌↔◌, ◌+◌, ◌^◌, ◌<◌, ◌≤◌, cond, false, IfErr, IfNone, IfSome, IsTrue, OnOk, length};
+ghost use Rattle.cf_outcome.specs.declared.outcome.Outcome.TheVariants.{Fault};
 ghost use Rattle.cf_ledger.specs.Ledgers.{stages_of, state_of};
 ghost use Rattle.cf_model.specs.States.{outcome_in};
-ghost use Rattle.cf_request.specs.Joins.{AreAllThere, IsDecided, IsDueBy, IsJoin, IsQuorum, IsUndecided, MayNotJoin, ending_by, failures_by, has_failed, has_value, sources_of, times_in, value_by, values_by};
+ghost use Rattle.cf_request.specs.Joins.{AreAllThere, IsDecided, IsDueBy, IsJoin, IsQuorum, IsUndecided, MayNotJoin, ending_by, ending_of, failures_by, has_failed, has_value, sources_of, times_in, value_by, values_by};
 ghost use Rattle.cf_request.specs.Relays.{IsNotBehind};
 ghost use Rattle.cf_request.specs.Settling.{IsOpen};
 ghost use Rattle.cf_request.specs.Telling.{order_in};
@@ -10,19 +11,21 @@ ghost use Rattle.cf_request.specs.Telling.{order_in};
 use crate::faults::JoinFault;
 use crate::settling::Due;
 use crate::teller::Teller;
-use cf_outcome::{Outcome, Value};
+use cf_outcome::{Cause, Outcome, Value};
 
 /// A stage that ends as soon as it is decided what a number of other stages come to.
 ///
 /// The others, of which there is one at least, are its sources. One that stands twice counts twice. The stage ends with
 /// a value once so many of them have values as are wanted: with the value of the one that decides it if one is wanted,
-/// else with nil. It ends with a raw fault of the same cause once so many have failed that the others are too few.
+/// else with nil. It ends with a raw fault of the same cause once so many have failed that the others are too few. One
+/// that cancels is cancelled in either case.
 #[derive(Drop)]
 pub struct Join {
     pub stage: u16,
     pub wanted: u16,
     pub source: u16,
     pub others: Vec<u16>,
+    pub cancels: bool,
 }
 
 /// How many sources have values, and how many have failed.
@@ -171,12 +174,29 @@ fn times_in(join: &Join, stage: u16) -> usize
 fn ending(join: &Join, outcome: Outcome) -> Outcome
     ensures { result ≡ ending_by join.now outcome }
 {
+    if join.cancels {
+        return raw(Cause::Cancelled);
+    }
+    ending_of(join, outcome)
+}
+
+/// The same where it doesn't cancel.
+fn ending_of(join: &Join, outcome: Outcome) -> Outcome
+    ensures { result ≡ ending_of join.now outcome }
+{
     match outcome {
         Outcome::Value(value) => Outcome::Value(value_of(join, value)),
-        Outcome::Fault { cause, .. } => Outcome::Fault {
-            cause,
-            wrapped: false,
-        },
+        Outcome::Fault { cause, .. } => raw(cause),
+    }
+}
+
+/// A raw fault of this cause.
+fn raw(cause: Cause) -> Outcome
+    ensures { result ≡ Fault cause false }
+{
+    Outcome::Fault {
+        cause,
+        wrapped: false,
     }
 }
 

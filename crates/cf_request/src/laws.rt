@@ -2,6 +2,7 @@
 //! any row of calls, by any callers, in any order.
 ghost use Rattle.cf_request.specs.Gathering.{GathersAsOne, GathersAtOnce};
 ghost use Rattle.cf_request.specs.Rows.{AddsBehind, BeginsAnew, ComesToAnEnd, RunsOnce, TellsOnce, WordsTellAll};
+ghost use Rattle.cf_request.specs.Scopes.{RunsNoneWithin};
 
 /// All that was taken, one taking behind the other, and then what is told and not yet taken, are each settled stage
 /// once, in the order of the events.
@@ -48,4 +49,9 @@ pub fn stages_gather_as_one()
 /// Where stages are gathered, the root has at once what one stage of the form over all of them would have.
 pub fn roots_have_it_at_once()
     ensures { GathersAtOnce }
+{}
+
+/// Behind the end of a scope, `next` tells no stage within it, over any row of calls.
+pub fn ended_scopes_run_nothing()
+    ensures { RunsNoneWithin }
 {}

@@ -28,13 +28,14 @@ mod machine;
 mod ready;
 mod refusals;
 mod relays;
+mod scopes;
 mod settling;
 mod teller;
 
 pub use cf_ledger::{Event, Finish, Held, Ledger, LedgerFault, Reply, StepFault, Taken};
 pub use composing::{Composed, Composing};
 pub use deadlines::Deadline;
-pub use faults::{JoinFault, MachineFault};
+pub use faults::{JoinFault, MachineFault, ScopeFault};
 pub use gathering::Gathering;
 pub use joins::Join;
 pub use machine::{Machine, Next};

@@ -1,5 +1,5 @@
 //! The machine.
-ghost use Rattle.std.specs.Prelude.{◌≡◌, ◌≢◌, ℕ, ◌+◌, ◌-◌, ◌^◌, ◌<◌, ◌≤◌, ◌++◌, ◌∷◌, [], All, IfErr, IfNone, IfOk, IfSome, None, OnErr, OnOk, Some, drop, length, replicate, take, true};
+ghost use Rattle.std.specs.Prelude.{◌≡◌, ◌≢◌, ◌⊎◌, ℕ, ◌+◌, ◌-◌, ◌^◌, ◌<◌, ◌≤◌, ◌++◌, ◌∷◌, [], All, IfErr, IfNone, IfOk, IfSome, None, OnErr, OnOk, Some, drop, false, length, replicate, take, true};
 ghost use Rattle.cf_event.specs.Decoding.{event_of};
 ghost use Rattle.cf_event.specs.Words.{word_of};
 ghost use Rattle.cf_forms.specs.Plans.{has_place, with_room};
@@ -8,16 +8,18 @@ ghost use Rattle.cf_request.specs.Composing.{Composes, FinishesClaimed, Links, I
 ghost use Rattle.cf_request.specs.Deadlines.{AreInOrder, Forgets, IsNextDue, NoneOpen};
 ghost use Rattle.cf_request.specs.Gathering.{Gathers, IsNoGather, gathers, stages_for};
 ghost use Rattle.cf_request.specs.Growing.{Grows, IsNoGrowth};
+ghost use Rattle.cf_request.specs.Joins.{IsOfOne};
 ghost use Rattle.cf_request.specs.Lanes.{IsIdle, NothingIsReady, ready_in};
 ghost use Rattle.cf_request.specs.Ready.{IsLaneCount};
-ghost use Rattle.cf_request.specs.Machines.{AppliesWord, CancelsAll, FindsFor, FindsToPass, GoesOn, IsNoCancel, IsNoDeadline, IsNoFollow, IsNoJoin, IsNoNext, IsNoPass, IsNoWord, IsShortFor, OnlyDeadlines, OnlyFinds, OnlyTeller, Passes, Refuses, Restarts, SetsDeadline, SetsFollow, SetsJoin, free_in, open_in, stages_in, state_in, waiting_in};
+ghost use Rattle.cf_request.specs.Machines.{AppliesWord, CancelsAll, FindsFor, FindsToPass, GoesOn, IsNoCancel, IsNoDeadline, IsNoFollow, IsNoJoin, IsNoNext, IsNoPass, IsNoWord, IsShortFor, NoRelayFits, OnlyDeadlines, OnlyFinds, OnlyTeller, Passes, Refuses, Restarts, SetsDeadline, SetsFollow, SetsJoin, SetsOne, free_in, open_in, stages_in, state_in, waiting_in};
 ghost use Rattle.cf_request.specs.Relays.{NoneBehind};
 ghost use Rattle.cf_request.specs.Rows.{AreCalls, nothing, unclaimed};
-ghost use Rattle.cf_request.specs.Telling.{AreFresh, AreSettled, IsOnce, with_memory};
+ghost use Rattle.cf_request.specs.Scopes.{AttachesFound, FindsPlace, MayAttach, NoneOutlives, PutsIn, stopped_in};
+ghost use Rattle.cf_request.specs.Telling.{AreFresh, AreSettled, IsOnce, is_settled_in, with_memory};
 
 use crate::composing::{Composed, Composing, check_composing, check_linking, compose};
 use crate::deadlines::{Deadline, come_by, next_open, pass, set, told_from};
-use crate::faults::{JoinFault, MachineFault};
+use crate::faults::{JoinFault, MachineFault, ScopeFault};
 use crate::gathering::{Gathering, check_gathering, gather};
 use crate::growing::room_for;
 use crate::joins::{Join, check_join, due_by};
@@ -396,17 +398,40 @@ impl Machine {
         ensures found { IfErr result (λ fault.
             fault ≡ MachineFault.NoStage → 1 + waiting_in self.old ≤ free_in self.new) }
     {
-        let others = Vec::new(*self.relays.follows.allocator());
-        let join = Join {
-            stage: relay,
-            wanted: 1,
-            source: stage,
-            others,
-        };
+        self.join_one(relay, stage, false)
+    }
+
+    /// A stage ends from now on once its source is settled, and is cancelled then or not. It is refused as `follow` is.
+    pub(crate) fn join_one(
+        &mut self,
+        stage: u16,
+        source: u16,
+        cancels: bool,
+    ) -> Result<(), MachineFault>
+        ensures set { OnOk result (SetsOne stage source cancels self.old self.new) }
+        ensures refused { OnErr result (OnlyFinds self.old self.new) }
+        ensures why { IfErr result (λ fault. IsNoFollow stage source self.old fault) }
+        ensures found { IfErr result (λ fault.
+            fault ≡ MachineFault.NoStage → 1 + waiting_in self.old ≤ free_in self.new) }
+    {
+        let join = self.join_of(stage, source, cancels);
         match self.join(join) {
             Ok(()) => Ok(()),
             Err(JoinFault::NoMemory) => Err(MachineFault::NoMemory),
             Err(_) => Err(MachineFault::NoStage),
+        }
+    }
+
+    /// A join of one.
+    fn join_of(&self, stage: u16, source: u16, cancels: bool) -> Join
+        ensures { IsOfOne stage source cancels result }
+    {
+        Join {
+            stage,
+            wanted: 1,
+            source,
+            others: Vec::new(*self.relays.follows.allocator()),
+            cancels,
         }
     }
 
@@ -429,6 +454,48 @@ impl Machine {
         self.relays.waiting += 1;
         self.relays.waiting = catch_up_with(&mut self.teller, &self.relays, is_due, self.own);
         Ok(())
+    }
+
+    /// Finds memory for two words and for one of each join that may be open, and a place for one join more.
+    pub(crate) fn find_place(&mut self) -> Result<(), ScopeFault>
+        ensures finds { OnOk result (FindsPlace self.old self.new) }
+        ensures refused { OnErr result (OnlyFinds self.old self.new) }
+        ensures why { IfErr result (λ fault. fault ≡ ScopeFault.NoMemory) }
+        ensures short { OnErr result (IsShortFor 2 self.old ⊎ NoRelayFits self.old) }
+    {
+        self.teller.reserve(2 + self.relays.waiting)?;
+        Ok(self.relays.follows.reserve(1)?)
+    }
+
+    /// Attaches a stage by its word, where nothing stands against it and memory was found.
+    pub(crate) fn attach_found(&mut self, word: u64, lane: u8)
+        requires lane { lane < self.old.teller.lanes.count }
+        requires may { MayAttach word (state_in self.old) }
+        requires memory { 2 + waiting_in self.old ≤ free_in self.old }
+        ensures { AttachesFound word lane self.old self.new }
+    {
+        match self.teller.apply(word, lane) {
+            Ok(_) => {}
+            Err(_) => unreachable!(),
+        }
+    }
+
+    /// A stage is of a scope from now on, where a place was found.
+    pub(crate) fn tie(&mut self, stage: u16, scope: u16)
+        requires stage { stage < stages_in self.old }
+        requires scope { scope < stages_in self.old }
+        requires open_still { is_settled_in (state_in self.old).stages scope ≡ false }
+        requires place { length self.old.follows < self.old.relay_places }
+        requires memory { 1 + waiting_in self.old ≤ free_in self.old }
+        ensures { PutsIn scope stage self.old self.new }
+    {
+        // Only here is it known that no stage's number is above 4,095.
+        let _stages = self.teller.stages();
+        let tie = self.join_of(stage, scope, true);
+        let relays = &mut self.relays;
+        mark_sources(&mut relays.followed, &tie);
+        relays.follows.push_reserved(tie);
+        relays.waiting += 1;
     }
 
     /// A stage has to be settled by a moment, or else `pass` settles it. The deadline stands behind those that come up
@@ -580,12 +647,35 @@ impl Machine {
         self.teller.took(count);
     }
 
-    /// The ledger, with its words. No relay is open whose stage is settled.
+    /// The teller.
+    #[inline(always)]
+    pub(crate) fn teller(&self) -> &Teller
+        ensures teller { result.now ≡ self.now.teller }
+        ensures relays { NoneBehind self.now.follows (state_in self.now).stages }
+        ensures scopes { NoneOutlives self.now.follows (state_in self.now) }
+    {
+        &self.teller
+    }
+
+    /// The caller whose claim of a stage is open though the stage is settled, if there is one: what its function gives
+    /// comes too late. A host that asks this of each stage that is told hears of each such claim once.
+    pub fn stopped(&self, stage: u16) -> Option<u8>
+        requires { stage < stages_in self.now }
+        ensures { result ≡ stopped_in (state_in self.now) stage }
+    {
+        if self.teller.outcome(stage).is_none() {
+            return None;
+        }
+        self.teller.ledger().claimant(stage)
+    }
+
+    /// The ledger, with its words. No relay is open whose stage is settled, and no stage within a scope that has ended.
     pub fn ledger(&self) -> &Ledger
         ensures ledger { result.now ≡ self.now.teller.ledger }
         ensures relays { NoneBehind self.now.follows (state_in self.now).stages }
+        ensures scopes { NoneOutlives self.now.follows (state_in self.now) }
     {
-        self.teller.ledger()
+        self.teller().ledger()
     }
 }
 

@@ -6,6 +6,7 @@ use cf_ledger::{Finish, Held, LedgerFault, Reply, Stage, StepFault};
 use cf_outcome::Outcome;
 use cf_request::{
     Composed, Composing, Deadline, Gathering, Join, JoinFault, Machine, MachineFault, Next,
+    ScopeFault,
 };
 use std::alloc::Global;
 use std::process::Abort;
@@ -30,6 +31,16 @@ pub(crate) enum Step {
     Follow(u16, u16, Result<(), MachineFault>),
     /// A join, how many of its sources it wants, and these.
     Join(u16, u16, &'static [u16], Result<(), JoinFault>),
+    /// A word, the lane and the scope of the stage that it attaches.
+    AttachIn(u64, u8, u16, Result<u16, ScopeFault>),
+    /// A stage, and its scope.
+    PutIn(u16, u16, Result<(), ScopeFault>),
+    /// A scope, and the stage that it ends with.
+    EndsWith(u16, u16, Result<(), MachineFault>),
+    /// A caller, and the scope that it ends.
+    EndScope(u8, u16, Result<(), StepFault>),
+    /// A stage, and whose claim of it is open though it is settled.
+    Stopped(u16, Option<u8>),
     /// A relay, and the stage that it follows, so many times.
     FollowOften(u16, u16, usize),
     Deadline(Deadline, Result<(), MachineFault>),
@@ -71,6 +82,15 @@ fn is_answered(alloc: Global, machine: &mut Machine, step: Step) -> bool {
         Step::Follow(relay, stage, answer) => machine.follow(relay, stage) == answer,
         Step::Join(stage, wanted, sources, answer) => {
             joins(alloc, machine, stage, wanted, sources, answer)
+        }
+        Step::AttachIn(word, lane, scope, answer) => {
+            lane < machine.lanes() && machine.attach_in(word, lane, scope) == answer
+        }
+        Step::PutIn(stage, scope, answer) => machine.put_in(stage, scope) == answer,
+        Step::EndsWith(scope, stage, answer) => machine.ends_with(scope, stage) == answer,
+        Step::EndScope(who, scope, answer) => machine.end_scope(who, scope) == answer,
+        Step::Stopped(stage, answer) => {
+            stage < machine.ledger().stages() && machine.stopped(stage) == answer
         }
         Step::FollowOften(relay, stage, times) => follows_often(machine, relay, stage, times),
         Step::Deadline(deadline, answer) => machine.deadline(deadline) == answer,
@@ -120,6 +140,7 @@ fn joins(
         wanted,
         source: *source,
         others,
+        cancels: false,
     };
     machine.join(join) == answer
 }
