@@ -276,7 +276,7 @@ static uint32_t call_request(cf_handle *request, const request_step *step, cf_ta
     return cf_request_gather(request, &gathering, (uint16_t[]){step->first, step->second, step->first}, 3, told, 2, todo);
   case FOLLOW: return cf_request_follow(request, step->first, step->second, told, 2, todo);
   case JOIN: /* the first of two, one of which is the stage itself */
-    return cf_request_join(request, &(cf_request_joining){step->first, 1}, (uint16_t[]){step->first, step->second}, 2, told, 2, todo);
+    return cf_request_join(request, &(cf_request_joining){step->first, 1, 0}, (uint16_t[]){step->first, step->second}, 2, told, 2, todo);
   case DEADLINE: return cf_request_deadline(request, step->first, step->second, CF_TIMEOUT, 7, (cf_value){CF_NIL, 0}, todo);
   case PASS: return cf_request_pass(request, step->first, told, 2, todo);
   case REFUSE: return cf_request_refuse(request, (uint8_t)step->first, 7, told, 2, todo);

@@ -496,8 +496,8 @@ static void by_numbers(uint16_t stage) {
   ROW(cf_request_next(asked, 0, 0, &task, out.told, 2, &out.todo), CF_NO_STAGE);
   ROW(cf_request_follow(asked, stage, SOURCE, out.told, 2, &out.todo), CF_NO_STAGE);
   ROW(cf_request_follow(asked, SOURCE, stage, out.told, 2, &out.todo), CF_NO_STAGE);
-  ROW(cf_request_join(asked, &(cf_request_joining){stage, 1}, &of, 1, out.told, 2, &out.todo), CF_NO_STAGE);
-  ROW(cf_request_join(asked, &(cf_request_joining){SOURCE, 1}, (uint16_t[]){SOURCE, stage}, 2, out.told, 2, &out.todo), CF_NO_STAGE);
+  ROW(cf_request_join(asked, &(cf_request_joining){stage, 1, 0}, &of, 1, out.told, 2, &out.todo), CF_NO_STAGE);
+  ROW(cf_request_join(asked, &(cf_request_joining){SOURCE, 1, 0}, (uint16_t[]){SOURCE, stage}, 2, out.told, 2, &out.todo), CF_NO_STAGE);
   ROW(cf_request_deadline(asked, stage, 1, CF_TIMEOUT, 7, value, &out.todo), CF_NO_STAGE);
   ROW(cf_ledger_stage(asked, stage, &out.stage), CF_NO_STAGE);
   ROW(cf_ledger_stage(&held[VIEW], stage, &out.stage), CF_NO_STAGE);
@@ -595,9 +595,9 @@ static void by_other_numbers(void) {
   ROW(cf_request_gather(asked, &gathering, many_of, 3, out.told, 2, &out.todo), CF_NO_STAGE);
   ROW(cf_request_gather(asked, &gathering, (uint16_t[]){SOURCE, TWICE, SOURCE}, 3, out.told, 2, &out.todo), CF_NO_ROOM);
   HOLDS(gathering.root == 0);
-  ROW(cf_request_join(asked, &(cf_request_joining){STAGES, 0}, &of, 1, out.told, 2, &out.todo), CF_NO_QUORUM);
-  ROW(cf_request_join(asked, &(cf_request_joining){STAGES, 2}, &of, 1, out.told, 2, &out.todo), CF_NO_QUORUM);
-  ROW(cf_request_join(asked, &(cf_request_joining){STAGES, 1}, NULL, 0, out.told, 2, &out.todo), CF_NO_QUORUM);
+  ROW(cf_request_join(asked, &(cf_request_joining){STAGES, 0, 0}, &of, 1, out.told, 2, &out.todo), CF_NO_QUORUM);
+  ROW(cf_request_join(asked, &(cf_request_joining){STAGES, 2, 0}, &of, 1, out.told, 2, &out.todo), CF_NO_QUORUM);
+  ROW(cf_request_join(asked, &(cf_request_joining){STAGES, 1, 0}, NULL, 0, out.told, 2, &out.todo), CF_NO_QUORUM);
   ROW(cf_request_compose(asked, &composing, out.told, 2, &out.todo), CF_NO_LANE);
   composing.lane = 1;
   ROW(cf_request_compose(asked, &composing, out.told, 2, &out.todo), CF_NO_SUCH_NUMBER);

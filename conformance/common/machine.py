@@ -26,11 +26,12 @@ class Refused(Exception):
 
 
 class Join(NamedTuple):
-    """A stage ends once so many of its sources have values, or too few can have them still."""
+    """A stage ends, or is cancelled, once so many of its sources have values, or too few can have them still."""
 
     stage: int
     wanted: int
     sources: List[int]
+    cancels: bool = False
 
 
 class Deadline(NamedTuple):
@@ -238,6 +239,8 @@ class Machine:
         """The first join, as they were set, that is open though it is decided, with what it ends with."""
         for join in self.follows:
             outcome = None if self.is_settled(join.stage) else self.decided(join)
+            if outcome is not None and join.cancels:
+                return join.stage, ("fault", ("cancelled",), False)
             if outcome is not None:
                 return join.stage, ("value", None) if outcome[0] == "value" and join.wanted > 1 else outcome
         return None
@@ -380,12 +383,12 @@ class Machine:
         """From now on one stage follows another."""
         self.join(relay, 1, [stage])
 
-    def join(self, stage: int, wanted: int, sources: Sequence[int]) -> None:
-        """From now on a stage ends once so many of these have values, or too few can have them still."""
+    def join(self, stage: int, wanted: int, sources: Sequence[int], cancels: bool = False) -> None:
+        """From now on a stage ends, or is cancelled, once so many of these have values, or too few can have them still."""
         if not 1 <= wanted <= len(sources):
             raise Refused("NO_QUORUM")
         self.check_stages(stage, *sources)
-        self.follows.append(Join(stage, wanted, list(sources)))
+        self.follows.append(Join(stage, wanted, list(sources), cancels))
         self.settle_relays(self.own)
 
     def deadline(self, deadline: Deadline) -> None:

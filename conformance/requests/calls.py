@@ -183,12 +183,13 @@ class Draws:
         form = self.rng.choice(FORMS if self.seldom() else machine.GATHERING)
         return who, form, [self.rng.randrange(self.plain.stages()) if self.rng.random() < 0.1 else self.stage() for _ in range(count)]
 
-    def joined(self) -> Tuple[int, int, List[int]]:
-        """Which stage joins which others, mostly few, one of which may stand twice, and how many of these it wants."""
+    def joined(self) -> Tuple[int, int, List[int], bool]:
+        """Which stage joins which others, mostly few, one of which may stand twice, how many of these it wants, and whether it cancels."""
         count = self.rng.choice([1, 2, 2, 3, 3, 4, 5, 9])
         wanted = self.rng.choice([0, count + 1, 65535]) if self.seldom() else self.rng.choice([1, count, self.rng.randrange(count) + 1])
         sources = [self.stage() for _ in range(0 if self.seldom() else count)]
-        return self.source(), wanted, [self.rng.choice(sources) if self.rng.random() < 0.1 else it for it in sources]
+        sources = [self.rng.choice(sources) if self.rng.random() < 0.1 else it for it in sources]
+        return self.source(), wanted, sources, self.rng.random() < 0.3
 
     def composed(self, who: int) -> Tuple[int, str, int, int, int]:
         """Who attaches a compose, its form, mostly an open source, its function and its lane."""

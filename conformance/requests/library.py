@@ -83,7 +83,7 @@ class CRequestLinking(c.Structure):
 
 
 class CRequestJoining(c.Structure):
-    _fields_ = [("stage", c.c_uint16), ("wanted", c.c_uint16)]
+    _fields_ = [("stage", c.c_uint16), ("wanted", c.c_uint16), ("cancels", c.c_uint32)]
 
 
 class CDeadline(c.Structure):
@@ -426,8 +426,8 @@ class Library:
         self.checked(C.cf_request_follow(self.request, relay, stage, *self.mark(room)))
         return None, self.told(room)
 
-    def join(self, room: int, stage: int, wanted: int, sources: Sequence[int]) -> Tuple[Any, machine.Told]:
-        of, step = (U16 * len(sources))(*sources) if sources else None, CRequestJoining(stage, wanted)
+    def join(self, room: int, stage: int, wanted: int, sources: Sequence[int], cancels: bool) -> Tuple[Any, machine.Told]:
+        of, step = (U16 * len(sources))(*sources) if sources else None, CRequestJoining(stage, wanted, cancels)
         self.checked(C.cf_request_join(self.request, step, of, len(sources), *self.mark(room)))
         return None, self.told(room)
 

@@ -155,9 +155,9 @@ class AQuorumTellsAValue(Machine):
 
 
 class ATwinCountsOnce(Machine):
-    def join(self, stage: int, wanted: int, sources: Sequence[int]) -> None:
+    def join(self, stage: int, wanted: int, sources: Sequence[int], cancels: bool = False) -> None:
         once = sorted(set(sources))
-        super().join(stage, wanted, once if wanted <= len(once) else sources)
+        super().join(stage, wanted, once if wanted <= len(once) else sources, cancels)
 
 
 class OneFailureEndsAJoin(Machine):
@@ -183,8 +183,19 @@ class TheLowestDecides(Machine):
 
 
 class OneMoreThanAllIsWanted(Machine):
-    def join(self, stage: int, wanted: int, sources: Sequence[int]) -> None:
-        super().join(stage, min(wanted, max(1, len(sources))), sources)
+    def join(self, stage: int, wanted: int, sources: Sequence[int], cancels: bool = False) -> None:
+        super().join(stage, min(wanted, max(1, len(sources))), sources, cancels)
+
+
+class AScopeIsFollowed(Machine):
+    def join(self, stage: int, wanted: int, sources: Sequence[int], cancels: bool = False) -> None:
+        super().join(stage, wanted, sources)
+
+
+class AScopeCancelsForGoodAlone(Machine):
+    def decided(self, join: Join) -> Optional[Outcome]:
+        outcome = super().decided(join)
+        return None if join.cancels and outcome and outcome[0] == "fault" else outcome
 
 
 class ACancellationIsAFailure(Machine):

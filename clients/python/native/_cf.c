@@ -1134,7 +1134,7 @@ static PyObject *Request_join(Request *self, PyObject *const *args, Py_ssize_t n
   int stage = stage_in(self, args[0]);
   long wanted = stage < 0 ? -1 : number_below(args[1], NONE, "quorum");
   if (wanted < 0 || leave_to_parent(self)) return NULL;
-  const cf_request_joining joining = {(uint16_t)stage, (uint16_t)wanted};
+  const cf_request_joining joining = {(uint16_t)stage, (uint16_t)wanted, 0};
   const uint16_t *of = (const uint16_t *)PyBytes_AsString(args[2]);
   size_t many = (size_t)PyBytes_Size(args[2]) / sizeof *of;
   News news = NO_NEWS;

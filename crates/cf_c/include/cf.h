@@ -1122,13 +1122,18 @@ uint32_t cf_request_follow(cf_handle *request, uint16_t relay, uint16_t stage, c
 
 /* What cf_request_join is asked.
  *   - stage: the stage that ends by others.
- *   - wanted: how many of these have to have values, 1 to n. */
-typedef struct { uint16_t stage; uint16_t wanted; } cf_request_joining;
+ *   - wanted: how many of these have to have values, 1 to n.
+ *   - cancels: 0 if the stage ends by the others as said below. Any other number cancels it as soon as they are decided. */
+typedef struct { uint16_t stage; uint16_t wanted; uint32_t cancels; } cf_request_joining;
 
 /* From now on a stage ends as soon as it is decided what n other stages of the request come to, unless it is settled
  * before. It gets a value once so many of them have values as are wanted: that one's value if one is wanted, else nil. It
  * gets a fault once the stages that haven't failed are too few: one of the same cause and code as that of the stage that
  * failed last. So with 1 it is the first success, with n all or the first failure, and between these a quorum.
+ *
+ * Scopes. A stage, as a rule a source, is a scope for the stages that it cancels: each is put into it by a join of one that
+ * cancels. The scope has ended once its stage is settled, by a call or by a join of its own, and from then on none of its
+ * stages is open: what is put into it later is cancelled at once. A scope within another is one that is put into it.
  *   - step: as said above.
  *   - sources, n: the n stages. One that stands twice counts twice.
  *   - told, room, todo: as said above.

@@ -1,5 +1,5 @@
 -- Joins of a request behind a handle.
-use Rattle.std.specs.Prelude.{◌≡◌, ◌⊎◌, ℕ, ◌<◌, ◌≤◌, Result, Ok, Err, List, length}
+use Rattle.std.specs.Prelude.{◌≡◌, ◌≢◌, ◌↔◌, ◌⊎◌, IsTrue, ℕ, ◌<◌, ◌≤◌, Result, Ok, Err, List, length}
 use Rattle.cf_request.specs.Joins.{sources_of}
 use Rattle.cf_request.specs.Machines.{IsNoJoin, Machine, SetsJoin}
 use Rattle.cf_request.specs.declared.faults.JoinFault.{JoinFault}
@@ -19,11 +19,12 @@ join_code faults.NoMemory = NoMemory
 join_code faults.NoStage = NoStage
 join_code faults.NoQuorum = NoQuorum
 
--- it is of the stage, by the number and the sources that C says
+-- it is of the stage, by the number and the sources that C says, and cancels if C says so
 pub record IsJoinOf (asked : CfRequestJoining) (sources : List ℕ) (join : Join) : Type 0 where
   pub same_stage : join.stage ≡ asked.stage
   pub same_number : join.wanted ≡ asked.wanted
   pub same_sources : sources_of join ≡ sources
+  pub cancels : IsTrue join.cancels ↔ (asked.cancels ≢ 0)
 
 -- such a join is set
 pub record SetsJoinOf (asked : CfRequestJoining) (sources : List ℕ) (old new : Machine) : Type 0 where

@@ -390,7 +390,7 @@ impl Request {
     /// # }
     /// ```
     pub fn join(&mut self, stage: u16, wanted: u16, sources: &[u16]) -> Result<(), Refused> {
-        let step = sys::cf_request_joining { stage, wanted };
+        let step = sys::cf_request_joining { stage, wanted, cancels: 0 };
         let (first, many) = (sources.as_ptr(), sources.len());
         // SAFETY: alone, pointers: `h` and what is told to are this call's, and `first` and `told` point to as many elements as said.
         self.call(|h, told, room, todo| unsafe { sys::cf_request_join(h, &step, first, many, told, room, todo) })

@@ -628,6 +628,8 @@ pub struct cf_request_joining {
     pub stage: u16,
     /// How many of these have to have values, 1 to n.
     pub wanted: u16,
+    /// 0 if the stage ends by the others. Any other number cancels it as soon as they are decided.
+    pub cancels: u32,
 }
 
 /// A deadline: the stage, the moment, CF_TIMEOUT or CF_GIVE_VALUE, the code, which is 0 for CF_GIVE_VALUE, and the value, which is CF_NIL for
@@ -996,7 +998,7 @@ pub fn mismatch() -> Option<&'static str> {
         known!(cf_request_gathering: who form root),
         known!(cf_request_composing: who lane form source function relay stage),
         known!(cf_request_linking: who relay stage),
-        known!(cf_request_joining: stage wanted),
+        known!(cf_request_joining: stage wanted cancels),
         known!(cf_deadline: stage moment kind code value),
         known!(cf_request_call: call who lane stage relay code word moment kind value reply task),
         known!(cf_entry: word token),

@@ -74,6 +74,7 @@ fn join_of(alloc: Global, step: &CfRequestJoining, sources: &[u16]) -> Result<Jo
         wanted: step.wanted,
         source: sources[0],
         others,
+        cancels: step.cancels != 0,
     })
 }
 

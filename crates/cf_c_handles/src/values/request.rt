@@ -70,12 +70,13 @@ pub struct CfRequestLinking {
     pub stage: u16,
 }
 
-/// A join of a request: the stage, and how many of its sources have to have values.
+/// A join of a request: the stage, how many of its sources have to have values, and whether it is cancelled then (not 0).
 #[repr(C)]
 #[derive(Clone, Copy)]
 pub struct CfRequestJoining {
     pub stage: u16,
     pub wanted: u16,
+    pub cancels: u32,
 }
 
 /// A moment by which a stage has to be settled, and whether it times out (kind 0), with which code, or gets a value then.
