@@ -155,6 +155,7 @@ fn race(seed: u64, spawn: &Arc<dyn Spawn>) -> Raced {
 /// From which stage each has its error, by the code of that error, done again in a ledger for which what times out or has a bad answer throws. A
 /// code is one more than the number of its stage.
 fn blamed(history: &cf::History) -> Vec<Option<u16>> {
+    const CLOCK: u8 = 1;
     let mut plan = PlanBuilder::new().and_then(|plan| plan.build()).expect("a plan");
     let mut ledger = Ledger::new(&mut plan, history.names().len().max(1) as u16).expect("a ledger");
     let code = |ledger: &mut Ledger, stage: u16| match ledger.stage(stage).expect("the stage is there").state {
@@ -165,9 +166,10 @@ fn blamed(history: &cf::History) -> Vec<Option<u16>> {
         let Event { who, call } = Event::from_word(word).expect("an event");
         let call = match call {
             Call::FailAs(stage, _) => {
-                // A relay of the same request has what the stage has for which it stands.
+                // A relay of the same request has what the stage has for which it stands. The clock names whose error it is, also for a join.
                 let of = history.names()[usize::from(stage)].strip_prefix("relay of ").and_then(|of| of.parse().ok());
-                let from = of.map_or(Some(stage), |of| code(&mut ledger, of)).expect("the stage failed");
+                let own = if who == CLOCK { word as u16 - 1 } else { stage };
+                let from = of.map_or(Some(own), |of| code(&mut ledger, of)).expect("the stage failed");
                 Call::Fail(stage, u32::from(from) + 1)
             }
             call => call,

@@ -388,7 +388,7 @@ public final class Request implements AutoCloseable {
     @SuppressWarnings({"unchecked", "varargs"})
     public final <U> Stage<U> first(CompletionStage<? extends U>... of) {
         Joined join = attachJoin(1, of.clone());
-        return ((Stage<U>) join.stage).exceptionally(join::fail).named("first");
+        return ((Stage<U>) join.stage).whenComplete((value, error) -> join.addFailuresTo(error)).named("first");
     }
 
     /**
@@ -411,15 +411,15 @@ public final class Request implements AutoCloseable {
      * Waits until so many of these have succeeded; the others go on. A stage that is given twice counts twice. Of stages of this request it takes
      * two, of others also a relay each.
      *
-     * @return a stage with the values that are there then, as many as are wanted at least, in this order. Once too many have failed, it fails as
-     *         {@link #first} does
+     * @return a stage with the values that are there then, as many as are wanted at least, in this order. Once too many have failed, it fails with the
+     *         exception of the last
      * @throws IllegalArgumentException none is wanted, or more than there are
      */
     @SafeVarargs
     @SuppressWarnings("varargs")
     public final <U> Stage<List<U>> quorum(int wanted, CompletionStage<? extends U>... of) {
         Joined join = attachJoin(wanted, of.clone());
-        return join.stage.handle((none, error) -> error == null ? join.<U>values() : join.<List<U>>fail(error)).named("quorum");
+        return join.stage.thenApply(none -> join.<U>values()).named("quorum");
     }
 
     /** A stage that ends by others. */
@@ -445,17 +445,15 @@ public final class Request implements AutoCloseable {
             return values;
         }
 
-        /** Throws the exception of the one that failed last, with those of the others. */
-        <U> U fail(Throwable last) {
-            for (Stage<?> each : of) {
+        /** Gives the exception of the one that failed last, if they have failed, those of the others. */
+        void addFailuresTo(Throwable last) {
+            for (Stage<?> each : last == null ? NO_STAGES : of) {
                 Object told = each.readOutcome();
                 Throwable error = told instanceof Fault ? ((Fault) told).rawError() : null;
                 if (error != null && error != last && !Arrays.asList(last.getSuppressed()).contains(error)) {
                     last.addSuppressed(error);
                 }
             }
-            Request.<RuntimeException>rethrow(last);
-            return null;
         }
     }
 
