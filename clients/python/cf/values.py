@@ -53,7 +53,7 @@ class Code(enum.IntEnum):
     LOST = 31
     NOT_OVER, LANES, NO_LANE, PAST_MOMENT = range(32, 36)
     BAD_TEXT, TOO_MANY = 36, 37
-    UNDER_WAY, NO_TOKENS = 38, 39
+    UNDER_WAY, NO_TOKENS, NO_QUORUM = 38, 39, 40
     NULL = 255
 
 
