@@ -216,12 +216,13 @@ class Machine:
         news = [i for i in range(self.stages()) if self.is_settled(i) and (i >= len(before.stages) or model.outcome(before, i) is None)]
         self.told += news
         self.settled += news
-        self.see_gathered(-1 if event[0] in ("attach", "tick") else event[2])
+        self.see_gathered(-1 if event[0] in ("attach", "tick") else event[2], news if event[0] == "tick" else [])
         return tuple(reply)
 
-    def see_gathered(self, named: int) -> None:
-        """Sees that each root has what one stage would have, as long as no event names one of the stages up to it."""
-        kept = [it for it in self.gathered if not it.first <= named <= it.root]
+    def see_gathered(self, named: int, timed: Sequence[int]) -> None:
+        """Sees that each root has what one stage would have, as long as no event names one of the stages up to it, and no tick settles several of
+        its sources: its limits say in which order."""
+        kept = [it for it in self.gathered if not it.first <= named <= it.root and sum(source in timed for source in it.sources) < 2]
         self.gathered = [it._replace(outcome=it.outcome or self.gathered_by(it.form, it.sources)) for it in kept]
         for it in self.gathered:
             if self.outcome(it.root) != it.outcome:
@@ -320,7 +321,7 @@ class Machine:
         for source in sources[2:]:
             root = self.attach(who, form, [root, source])
         self.gathered.append(Gathered(form, list(sources), first, root, self.gathered_by(form, list(sources))))
-        self.see_gathered(-1)
+        self.see_gathered(-1, [])
         return root
 
     def attach(self, who: int, form: str, sources: Sequence[int], function: Optional[int] = None, lane: int = 0) -> int:
