@@ -17,20 +17,8 @@ public class HangsUp {
     static CompletableFuture<Object> handle(StoreService service, long number) {
         StoredRequest request = service.start(FLOW, "order " + number, number);
         CompletableFuture<Object> answer = request.stage(SHIPPED).toFuture();
-        answer.whenCompleteAsync((value, error) -> cancelAll(service, request.name())); // also if the framework cancels it
+        answer.whenCompleteAsync((value, error) -> request.cancelAll()); // also if the framework cancels it
         return answer;
-    }
-
-    static void cancelAll(StoreService service, String name) {
-        StoredRequest request = service.open(name);
-        int stages = 0;
-        while (request.stage(stages) != null) {
-            stages++;
-        }
-        while (stages > 0) {
-            request.stage(--stages).abandon();
-        }
-        request.end();
     }
 
     public static void main(String[] args) throws Exception {

@@ -26,7 +26,7 @@ from typing import Any, List, Optional
 from urllib.parse import urlsplit
 
 from .service.history import escaped
-from .service.words import CANCEL, IS_CLAIMED, IS_PENDING, IS_READY
+from .service.words import IS_CLAIMED, IS_PENDING, IS_READY
 from .store import Broken, RowView, Json, Store, StoreError, Unknown, connect, new_session
 from .store.rows import Gone
 
@@ -187,12 +187,7 @@ def _end(store: Store, at: argparse.Namespace) -> List[str]:
         raise Gone(at.name)
     if at.cancel:
         view = _view(store, at.name)
-        for stage in reversed(range(len(view.kinds))):  # so that no function is ready for what a cancelled source does
-
-            def decide(view: RowView, stage: int = stage) -> Any:
-                return None if view.is_settled(stage) else [(CANCEL << 56 | view.caller_number << 48 | stage << 36, None)]
-
-            many += view.act(decide)[0] is not None
+        many = view.cancel_all()
         words = view.words_seen
     store.end(at.name, words, found.number)
     if at.name in store.ends():

@@ -3,7 +3,6 @@
     python3 hangs_up.py
 """
 import asyncio
-import contextlib
 import tempfile
 
 from cf.service import Flow
@@ -28,24 +27,13 @@ charged = order.then(charge)
 shipped = charged.combine(approval, ship)
 
 
-def cancel_all(request):
-    """Cancels what is open of a request, the last stage first, and closes it."""
-    stages = []
-    with contextlib.suppress(KeyError):
-        while True:
-            stages.append(request[len(stages)])
-    for stage in reversed(stages):
-        stage.abandon()
-    request.end()
-
-
 async def handle(number):
     begins = asyncio.ensure_future(asyncio.to_thread(service.start, flow, number, name=f"order {number}"))
     try:
         request = await asyncio.shield(begins)
         return await (await asyncio.to_thread(request.__getitem__, shipped))
     finally:  # also if the server cancels this handler
-        await asyncio.to_thread(cancel_all, await begins)
+        await asyncio.to_thread((await begins).cancel)
 
 
 async def main():

@@ -446,6 +446,24 @@ class DurableRequest:
         """The history of the words seen."""
         return self._view.history(self._service.codec, self._lock)._with_descriptions(self._describe)
 
+    def cancel(self) -> None:
+        """Cancels all stages that aren't settled, as `abandon` does: also those whose functions run, in whichever process. It
+        begins with the last one, so no function that takes exceptions (`handle`, `recover`) is called for it. What is
+        attached meanwhile isn't cancelled. Each 32 stages are one put; if one of these isn't answered, the stages before
+        it stay cancelled. A flow's request is closed once its functions have ended, and `end` closes another.
+
+            try:
+                return await answer
+            finally:  # also if the client hangs up
+                await asyncio.to_thread(request.cancel)"""
+        self._catch_up()  # what others have attached
+        stages = len(self._view.kinds)
+        try:
+            while self._act(lambda view: view.words_that_cancel(stages)):
+                pass
+        finally:
+            self._service._serve(self)
+
     def end(self) -> None:
         """Closes the request: workers look at it no more, and its timers are dropped. A flow's request is closed by
         itself once all its stages are settled. Attaching a stage opens a request again."""

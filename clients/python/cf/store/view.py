@@ -11,6 +11,7 @@ from ..service.history import History
 from ..service.words import (
     ANSWER,
     ATTACH,
+    CANCEL,
     CLAIM,
     COMPLETE,
     COMPOSE_FORMS,
@@ -38,6 +39,7 @@ from .rows import COUNT_BITS, Broken, Entry, Gone, Opened, Put, Store, Unknown, 
 SESSION_BITS = 39  # of a token
 ROOM = 8  # stages that may be attached at first
 LONG_GONE = 100  # leases
+MOST_AT_ONCE = 32  # stages that one put cancels
 T = TypeVar("T")
 WantedWords = Sequence[Tuple[int, Optional[bytes]]]  # words, each with its payload
 
@@ -210,6 +212,12 @@ class RowView:
         ready."""
         return self._replica.next_claims(ended)
 
+    def words_that_cancel(self, stages: int) -> "WantedWords":
+        """The words that cancel the open ones of the first so many stages, the last one first, so that no function becomes
+        ready for the end of a cancelled source. They are as many as one put takes."""
+        left = [stage for stage in reversed(range(stages)) if not self.is_settled(stage)][:MOST_AT_ONCE]
+        return [(CANCEL << 56 | self.caller_number << 48 | stage << 36, None) for stage in left]
+
     # Reading and putting.
 
     def catch_up(self, entries: Optional[Sequence[Entry]] = None) -> List[DoneWord]:
@@ -246,6 +254,15 @@ class RowView:
             if done is not None:
                 return done, others
             self.lost += 1
+
+    def cancel_all(self) -> int:
+        """Cancels all open stages, and returns how many that were."""
+        stages, many = len(self.kinds), 0
+        while True:
+            done, _ = self.act(lambda view: view.words_that_cancel(stages))
+            if done is None:
+                return many
+            many += len(done)
 
     def _append(self, put: Put) -> Optional[Sequence[Entry]]:
         """Appends a put. Returns None where it stands, else the entries from its first place on."""

@@ -9,11 +9,12 @@ import time
 import traceback
 import unittest
 import unittest.mock
+from concurrent.futures import CancelledError
 
 from case import Case, EMPTY
 import shared_functions as f
 from cf.service import Flow
-from cf.service.words import CLAIM
+from cf.service.words import CANCEL, CLAIM
 from cf.store import connect, DurableService, Functions, Memory, service as shared_service
 
 
@@ -146,6 +147,41 @@ class Working(Case):
         working._serve(worked_on)
         self.assertEqual(second.result(20), 3)
         self.until(lambda: not worked_on._view.claims())
+
+    def test_a_request_that_is_cancelled(self):
+        """All of it is cancelled, the last stage first: also what runs, and what another process has attached."""
+        functions, goes, store = Functions(), threading.Event(), Memory()
+        waits = functions.function("waits")(lambda: goes.wait(20))
+        working, other = (DurableService(store, 1, functions=functions) for _ in range(2))
+        self.services += [working, other]
+        request = working.request("r")
+        runs, settled = request.supply(waits), request.promise()
+        settled.complete(1)
+        for _ in range(40):
+            request.promise()
+        self.until(working.running)
+        late = other.open("r").promise()
+        request.cancel()
+        left = [0, *range(2, 43)]
+        self.assertEqual([number for number in range(43) if request[number].cancelled()], left)
+        self.assertTrue(runs.cancelled())
+        self.assertRaises(CancelledError, late.result, 20)
+        cancelled = [word >> 36 & 0xFFF for word, _ in store.read("r") if word >> 56 == CANCEL]
+        self.assertEqual(cancelled, left[::-1])
+        request.cancel()  # nothing is open
+        self.assertEqual(request.promise().number, 43)
+        goes.set()
+        self.until(lambda: not request._view.claims())
+        self.assertEqual(settled.result(), 1)
+
+    def test_a_flow_that_is_cancelled(self):
+        """It is closed with that."""
+        flow = Flow("order")
+        flow.promise("order").then(f.inc)
+        working = DurableService(Memory(), 1, functions=f.functions)
+        self.services.append(working)
+        working.start(flow, name="r").cancel()
+        self.until(lambda: "r" in working.store.ends())
 
     def test_functions_that_nobody_knows(self):
         """However many stages wait for such, others behind them are found."""

@@ -1,28 +1,19 @@
 //! A server of hyper's, whose client hangs up: hyper drops the handler's future, and what is open of its request in the store is cancelled.
-use cf_store::{Error, Flow, Functions, Request, SQLite, Service, Stage, Step, StoreError};
+use cf_store::{Error, Flow, Functions, Request, SQLite, Service, Step, StoreError};
 use hyper::service::{make_service_fn, service_fn};
 use hyper::{Body, Response, Server};
 use serde_json::{json, Value};
 use std::{convert::Infallible, env, fs, future::ready, io::Write, net::SocketAddr, net::TcpStream, process, sync::Arc, thread, time::Duration};
 use tokio::task::spawn_blocking;
 
-/// Cancels what is open of a request, and closes it, once it is dropped. A thread does so, as each call waits for the store.
+/// Cancels what is open of a request, once it is dropped. A thread does so, as each call waits for the store.
 struct CancelsOnDrop(Request);
 
 impl Drop for CancelsOnDrop {
     fn drop(&mut self) {
         let request = self.0.clone();
-        thread::spawn(move || cancel_all(&request).unwrap_or_else(|error| eprintln!("{} isn't cancelled: {error}", request.name())));
+        thread::spawn(move || request.cancel_all().unwrap_or_else(|error| eprintln!("{} isn't cancelled: {error}", request.name())));
     }
-}
-
-fn cancel_all(request: &Request) -> Result<(), StoreError> {
-    request.refresh()?; // what other processes have attached
-    let stages: Vec<Stage> = (0..).map_while(|number| request.stage(number)).collect();
-    for stage in stages.iter().rev() {
-        stage.abandon()?;
-    }
-    request.end()
 }
 
 async fn handle(service: Arc<Service>, order: u64) -> Result<Value, Error> {

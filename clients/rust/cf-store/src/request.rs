@@ -437,6 +437,27 @@ impl Request {
         Ok(())
     }
 
+    /// Cancels all stages that aren't settled, as [`Stage::abandon`] does: also those whose functions run, in whichever process. It begins with the
+    /// last one, so no function that takes errors (`handle`, `recover`) is called for it. What is attached meanwhile isn't cancelled. Each 32 stages are
+    /// one put; if one of these fails, the stages before it stay cancelled. A flow's request is closed once its functions have ended, and
+    /// [`end`](Request::end) closes another.
+    pub fn cancel_all(&self) -> Result<(), StoreError> {
+        self.inner.catch_up()?;
+        let stages = self.inner.view().stage_count() as u16;
+        let cancelled = loop {
+            let done = self.inner.put_words(|view| {
+                let open = (0..stages).rev().filter(|&stage| !view.is_settled(stage)).take(MOST_AT_ONCE);
+                Ok(open.map(|stage| WantedWord { call: Call::Cancel(stage), payload: None }).collect())
+            });
+            match done {
+                Ok(done) if !done.is_empty() => {}
+                ended => break ended.map(drop),
+            }
+        };
+        self.service.serve_if_needed(&self.inner);
+        cancelled
+    }
+
     fn function_spec(&self, function: &str) -> Result<StageSpec, StoreError> {
         let version = self.service.functions.latest(function).ok_or_else(|| StoreError::NotRegistered(function.into()))?;
         let context = context::capture();
@@ -502,7 +523,7 @@ impl Request {
 
     /// Completes a flow's promises, but those that are settled.
     pub(crate) fn complete_all(&self, given: &[(u16, Option<Vec<u8>>)]) -> Result<(), StoreError> {
-        for some in given.chunks(MOST_GIVEN) {
+        for some in given.chunks(MOST_AT_ONCE) {
             let complete =
                 |(stage, payload): &(u16, Option<Vec<u8>>)| WantedWord { call: Call::Complete(*stage, Value::Nil), payload: payload.clone() };
             self.inner.put_words(|view| Ok(some.iter().filter(|(stage, _)| !view.is_settled(*stage)).map(complete).collect()))?;
@@ -888,7 +909,7 @@ const BETWEEN_READS: Duration = Duration::from_millis(100);
 /// The least time that a payload is waited for.
 const LEAST_READING: Duration = Duration::from_millis(200);
 /// The most promises that one put completes.
-const MOST_GIVEN: usize = 32;
+const MOST_AT_ONCE: usize = 32;
 
 fn spec_bytes(said: &StageSpec) -> Result<Vec<u8>, StoreError> {
     serde_json::to_vec(said).map_err(|error| StoreError::Refused(error.to_string()))

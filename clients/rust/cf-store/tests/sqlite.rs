@@ -179,6 +179,43 @@ fn each_has_the_time_that_ran_out() {
 }
 
 #[test]
+fn a_request_that_is_cancelled() {
+    let place = Place::new("cancelled");
+    let (begun, goes) = (Arc::new(AtomicU32::new(0)), Arc::new(Barrier::new(2)));
+    let (begins, waits) = (begun.clone(), goes.clone());
+    let waiting = move || {
+        begins.fetch_add(1, Ordering::SeqCst);
+        waits.wait();
+        Ok::<_, String>(1)
+    };
+    let working = Service::with(place.store(), Functions::new().with("waits", 1, waiting), patient()).unwrap();
+    let other = Service::with(place.store(), Functions::new(), patient()).unwrap();
+    let request = working.request("cancelled").unwrap();
+    let (runs, is_settled) = (request.supply("waits", &[]).unwrap(), request.promise("settled").unwrap());
+    assert!(is_settled.complete(&1).unwrap());
+    for _ in 0..40 {
+        request.promise("open").unwrap();
+    }
+    until(|| begun.load(Ordering::SeqCst) == 1);
+    let late = other.open("cancelled").unwrap().promise("late").unwrap();
+    request.cancel_all().unwrap();
+    let left: Vec<u16> = std::iter::once(0).chain(2..43).collect();
+    let cancelled = |number: &u16| request.stage(*number).unwrap().peek::<i64>() == Err(Error::Cancelled);
+    assert_eq!((0..43).filter(cancelled).collect::<Vec<_>>(), left, "also what runs, and what another process has attached");
+    assert_eq!(settled::<i64>(&late), Err(Error::Cancelled));
+    let store = place.store();
+    let opened = store.find("cancelled").unwrap().unwrap();
+    let words = store.read("cancelled", opened.number, 0).unwrap();
+    let by_words: Vec<u16> = words.iter().filter(|it| it.word >> 56 == 3).map(|it| (it.word >> 36) as u16 & 0xfff).collect();
+    assert_eq!(by_words, left.iter().rev().copied().collect::<Vec<_>>(), "the last one first");
+    request.cancel_all().unwrap();
+    assert_eq!(request.promise("later").unwrap().number(), 43);
+    goes.wait();
+    assert_eq!(settled::<i64>(&is_settled), Ok(1));
+    assert_eq!(settled::<i64>(&runs), Err(Error::Cancelled));
+}
+
+#[test]
 fn settled_once() {
     let place = Place::new("settled");
     let service = Service::with(place.store(), Functions::new(), patient()).unwrap();

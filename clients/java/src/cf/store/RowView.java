@@ -26,6 +26,8 @@ import java.util.function.LongConsumer;
 /** What this session knows of one request's row, and how it puts words there. One thread at a time has it: its request's lock. */
 final class RowView {
     private static final int MOST_STAGES = 4096, ROOM = 8;
+    /** How many words one put has, where many are wanted. */
+    static final int MOST_AT_ONCE = 32;
     /** How long the store may be silent, in nanoseconds. */
     static final long PATIENCE = 60_000_000_000L;
 
@@ -194,6 +196,20 @@ final class RowView {
 
     boolean isSettled(int stage) {
         return stages.get(stage).settledPlace > 0;
+    }
+
+    /**
+     * The words that cancel the open ones of the first so many stages, the last one first, so that no function becomes ready for the end of a cancelled
+     * source. They are as many as one put takes.
+     */
+    List<WantedWord> wordsThatCancel(int count) {
+        List<WantedWord> wanted = new ArrayList<>();
+        for (int stage = count - 1; stage >= 0 && wanted.size() < MOST_AT_ONCE; stage--) {
+            if (!isSettled(stage)) {
+                wanted.add(new WantedWord(Words.cancel(0, stage), null));
+            }
+        }
+        return wanted;
     }
 
     Form form(int stage) {

@@ -197,6 +197,24 @@ public final class StoredRequest {
     }
 
     /**
+     * Cancels all stages that aren't settled, as {@link StoredStage#abandon} does: also those whose functions run, in whichever process. It begins with
+     * the last one, so no function that takes exceptions ({@code handle}, {@code exceptionally}) is called for it. What is attached meanwhile isn't
+     * cancelled. Each 32 stages are one put; if one of these isn't answered, the stages before it stay cancelled. A flow's request is closed once its
+     * functions have ended, and {@link #end} closes another.
+     */
+    public void cancelAll() {
+        catchUp();
+        int stages = withView(RowView::stageCount);
+        try {
+            while (!act(view -> view.wordsThatCancel(stages)).isEmpty()) {
+                // the next ones
+            }
+        } finally {
+            service.serveKnown(this);
+        }
+    }
+
+    /**
      * Closes the request: workers look at it no more, and its timers are dropped. A flow's request is closed by itself once all its stages are
      * settled. A stage that is attached opens a request again.
      */
@@ -378,8 +396,8 @@ public final class StoredRequest {
 
     /** Completes a flow's promises, but those that are settled; up to 32 in one put. */
     void completeAll(List<StoredFlow.Step> promises, List<byte[]> payloads) {
-        for (int from = 0; from < payloads.size(); from += 32) {
-            int first = from, end = Math.min(from + 32, payloads.size());
+        for (int from = 0; from < payloads.size(); from += RowView.MOST_AT_ONCE) {
+            int first = from, end = Math.min(from + RowView.MOST_AT_ONCE, payloads.size());
             act(view -> {
                 List<RowView.WantedWord> wanted = new ArrayList<>();
                 for (int k = first; k < end; k++) {

@@ -278,6 +278,7 @@ public final class AllTests {
             over(EtcdTest.Server::new, "an attach that etcd is silent about", StoresTest::silentAtAttach);
             over(EtcdTest.Server::new, "timers in etcd", StoresTest::timers);
             over(EtcdTest.Server::new, "stages in etcd, settled once", StoresTest::settled);
+            over(EtcdTest.Server::new, "a request in etcd that is cancelled", StoresTest::cancelledRequest);
             over(EtcdTest.Server::new, "functions that compose in etcd", StoredFunctionsTest::composing);
             over(EtcdTest.Server::new, "flows in etcd", StoredFunctionsTest::flows);
             over(EtcdTest.Server::new, "histories of requests in etcd", StoredFunctionsTest::histories);
@@ -309,6 +310,7 @@ public final class AllTests {
         over(place, "who waits for the last word in " + engine, StoresTest::toldAtTheEnd);
         over(place, "timers in " + engine, StoresTest::timers);
         over(place, "stages in " + engine + ", settled once", StoresTest::settled);
+        over(place, "a request that is cancelled", StoresTest::cancelledRequest);
         over(place, "a process that dies", StoresTest::dies);
         over(place, "what hangs on an abandoned stage", StoresTest::hangs);
         over(place, "further tries of what was settled by hand", StoresTest::again);

@@ -37,6 +37,7 @@ import java.util.Set;
 import java.util.TreeSet;
 import java.util.concurrent.CancellationException;
 import java.util.concurrent.ConcurrentHashMap;
+import java.util.concurrent.CountDownLatch;
 import java.util.concurrent.ExecutionException;
 import java.util.concurrent.TimeUnit;
 import java.util.concurrent.TimeoutException;
@@ -578,6 +579,48 @@ public final class StoresTest {
             try (StoreService other = service(place, new Functions())) {
                 is(end(other.open("settled").stage("left")), large);
             }
+        }
+    }
+
+    /** All of it is cancelled, the last stage first: also what runs, and what another process has attached. */
+    public static void cancelledRequest(Place place) throws Exception {
+        CountDownLatch runs = new CountDownLatch(1), goes = new CountDownLatch(1);
+        Functions functions = new Functions().with("waits", 1, () -> {
+            runs.countDown();
+            return goes.await(20, TimeUnit.SECONDS);
+        });
+        try (StoreService working = service(place, functions); StoreService other = service(place, new Functions())) {
+            StoredRequest request = working.request("cancelled");
+            StoredStage running = request.supply("waits"), settled = request.promise("settled");
+            is(settled.complete(1), true);
+            for (int k = 0; k < 40; k++) {
+                request.promise("open");
+            }
+            is(runs.await(20, TimeUnit.SECONDS), true);
+            StoredStage late = other.open("cancelled").promise("late");
+            request.cancelAll();
+            List<Long> wanted = new ArrayList<>();
+            for (long stage = 42; stage >= 0; stage--) {
+                StoredStage each = request.stage((int) stage);
+                if (stage != settled.number()) {
+                    wanted.add(stage);
+                    is(each.isDone(), true);
+                    thrown(CancellationException.class, () -> end(each));
+                }
+            }
+            thrown(CancellationException.class, () -> end(late));
+            List<Long> cancelled = new ArrayList<>();
+            for (long word : request.history().words()) {
+                if (Words.kind(word) == Words.CANCEL) {
+                    cancelled.add(word >>> 36 & 0xfff);
+                }
+            }
+            is(cancelled, wanted);
+            request.cancelAll(); // nothing is open
+            is(request.promise("later").number(), 43);
+            goes.countDown();
+            is(end(settled), 1L);
+            thrown(CancellationException.class, () -> end(running));
         }
     }
 

@@ -16,7 +16,6 @@ LOGGER = logging.getLogger("cf.requests")
 PATIENCE = 5  # seconds for which the store may be silent
 LONGEST_NAME = 64  # characters of who acts
 LONGEST_TEXT = 2_000  # characters of a failure
-MOST_AT_ONCE = 32  # stages that one put cancels
 ACTIONS = ("cancel", "complete", "fail", "end", "drop")
 
 
@@ -86,7 +85,7 @@ class Actions:
         try:
             if cancels:
                 view = self._view(name, number, who)
-                many = self._cancel_all(view)
+                many = view.cancel_all()
                 words = view.words_seen
         except Gone:
             raise
@@ -100,20 +99,6 @@ class Actions:
         if name in self._store.ends():
             return False, TEXTS["not_closed"]
         return True, TEXTS["closed"].format(many)
-
-    @staticmethod
-    def _cancel_all(view: RowView) -> int:
-        many = 0
-
-        def decide(view: RowView) -> Any:
-            left = [stage for stage in reversed(range(len(view.kinds))) if not view.is_settled(stage)][:MOST_AT_ONCE]
-            return [_cancel(view, stage) for stage in left]
-
-        while True:
-            done, _ = view.act(decide)
-            if done is None:
-                return many
-            many += len(done)
 
     def _drop(self, name: str, number: int) -> Tuple[bool, str]:
         found = self._store.find(name)
