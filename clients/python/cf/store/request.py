@@ -359,6 +359,7 @@ class DurableRequest:
 
     def __init__(self, service: "DurableService", view: RowView) -> None:
         self._service, self._view = service, view
+        view.on_taken_for_gone = service._note_taken_for_gone
         self.name: str = view.name
         self.number: int = view.opened.number
         self._lock = service._host.lock()

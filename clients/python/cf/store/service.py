@@ -195,6 +195,7 @@ class DurableService(concurrent.futures.Executor):
         self._next_told = 0.0  # when functions that run for long are told of
         self._watcher, self._next_beat, self._next_look = Watcher(self.store, lease, host), 0.0, 0.0
         self._mark: Any = None
+        self._is_taken_for_gone = False  # whether others have failed a stage that runs here, and this session hasn't beaten since
         self._is_named = False
         self._firing: Set[Tuple[str, int, float]] = set()
         self._pump = host.pump(self._run_pump, "cf-store")
@@ -464,7 +465,11 @@ class DurableService(concurrent.futures.Executor):
         if now < self._next_beat:
             return False
         self._next_beat = now + self._lease / 5
-        self.store.beat(self.session)
+        try:
+            self._send_beat()
+        except (Unknown, StoreError):
+            self._watcher.note_silence()
+            raise
         self._tell_long()
         if not self._is_named:
             self.store.name_session(self.session, f"{socket.gethostname()} {os.getpid()}")
@@ -472,6 +477,14 @@ class DurableService(concurrent.futures.Executor):
         self._watcher.look()
         self._watcher.forget_long_gone()
         return True
+
+    def _send_beat(self) -> None:
+        self.store.beat(self.session)
+        self._is_taken_for_gone = False
+
+    def _note_taken_for_gone(self) -> None:
+        """Notes that others take this session for gone: they have failed a stage that runs here."""
+        self._is_taken_for_gone = True
 
     def _keep_glances(self) -> None:
         """Stores glances at requests that have rested since the last beat, for a part of the time until the next one.
@@ -618,6 +631,8 @@ class DurableService(concurrent.futures.Executor):
         the store takes that."""
         chosen: List[int] = []
         told = finish
+        if finish is None and self._is_taken_for_gone:  # (before that others would fail what it claims, too)
+            self._send_beat()
         if finish is not None and finish.raised is not None:
             self._host.report_failure(
                 f"request {request.name!r}, stage {finish.stage}: {request._view.called_definition(finish.stage).get('fn')} has raised", finish.raised
@@ -682,7 +697,7 @@ class DurableService(concurrent.futures.Executor):
 
     def _choose_stages(self, request: DurableRequest, view: RowView, finish: Optional[FunctionResult]) -> List[int]:
         """Up to two stages that this session could claim: ready ones, or ones that the finish makes ready."""
-        if self._stops.is_set() or not self._workers:
+        if self._stops.is_set() or not self._workers or self._is_taken_for_gone:
             return []
         claims = view.next_claims(None if finish is None else finish.answer(view))
         return list(itertools.islice((stage for stage in claims if self._function_of(request, stage) is not None), 2))

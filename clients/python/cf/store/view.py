@@ -158,6 +158,7 @@ class RowView:
         self._in_doubt: Dict[int, int] = {}
         self.found_claims: Dict[int, DoneWord] = {}  # claims of this session's that were granted, as it found when it read them
         self.granted_replies: Dict[int, Tuple[int, ...]] = {}  # what each claim that was granted was replied
+        self.on_taken_for_gone: Callable[[], None] = lambda: None  # called where others have failed a stage that this session runs
 
     @property
     def caller_number(self) -> int:
@@ -339,7 +340,8 @@ class RowView:
     # One word.
 
     def _take_in(self, word: int, token: int) -> DoneWord:
-        kind = word >> 56
+        kind, session = word >> 56, token >> COUNT_BITS
+        fails_own = kind == FAIL and session != self.session == self.holder(word >> 36 & 0xFFF)
         try:
             if kind == ATTACH:
                 self.make_room(1)
@@ -350,7 +352,9 @@ class RowView:
         self.words.append(word)
         if self._times is not None:
             self._times.append(int(self._host.monotonic() * 1e9))
-        self._sessions.append(token >> COUNT_BITS)
+        self._sessions.append(session)
+        if fails_own and reply[ANSWER]:
+            self.on_taken_for_gone()
         if kind == ATTACH and not reply[ANSWER]:
             self._add_stage(reply[NUMBER], word, place)
         if kind == CLAIM and not reply[ANSWER]:
@@ -588,12 +592,17 @@ class Watcher:
         try:
             beats = self._store.beats() if beats is None else beats
         except Unknown:
-            self._seen.clear()  # while the engine was away nobody could beat
+            self.note_silence()
             return
         self._answered = self._host.monotonic()
         for session, count in beats.items():
             if self._seen.get(session, (None, 0))[0] != count:
                 self._seen[session] = (count, self._time)
+
+    def note_silence(self) -> None:
+        """Forgets all signs of life: while the engine is away nobody can give one."""
+        self._answered = None
+        self._seen.clear()
 
     def _counted(self, now: float) -> float:
         """The time that has counted until a moment."""

@@ -1,0 +1,423 @@
+#!/usr/bin/env python3
+"""What a process decides of a request in a store: the rows of conformance/stores/decisions.rows, whose head says what their lines mean.
+
+    CF_LIBRARY=/path/to/libcf.so python3 clients/python/tests/decisions/test_decisions.py [-v] [Decisions.test_NAME ..]
+
+A test is named for its row. Nothing runs beside it: a function is called within the look that claims it, and the moves go on within the call.
+"""
+import contextlib
+import json
+import os
+import re
+import sys
+import threading
+import unittest
+from concurrent.futures import CancelledError, Future
+from pathlib import Path
+
+TOP = Path(__file__).resolve().parents[4]
+if not os.environ.get("CF_INSTALLED"):
+    sys.path.insert(0, str(TOP / "clients/python"))
+from cf.service.words import ATTACH, CANCEL, CLAIM, COMPLETE, FAIL, FAIL_AS, FINISH, FORMS, GIVES, LINKS, THROWS  # noqa: E402
+from cf.store import Abandoned, Broken, DurableService, Functions, RemoteError, StoreError, Unknown  # noqa: E402
+from cf.store.codec import Json  # noqa: E402
+from cf.store.host import Host  # noqa: E402
+from cf.store.replica import NO_VALUE, FinishAnswer  # noqa: E402
+from cf.store.rows import Gone, Memory  # noqa: E402
+from cf.store.view import RowView  # noqa: E402
+
+PEERS = {"B": 2, "C": 3, "D": 4}
+LEASE = 10
+LOOKS = 0.2  # seconds between two
+FORM = {"promise": "source", "either": "applyEither", "again": "exceptionally"}
+ERRORS = ("Abandoned", "StoreError", "CancelledError")  # kinds that the client makes
+WORDS = {CLAIM: "claim", COMPLETE: "complete", CANCEL: "cancel", FAIL: "fail", FINISH: "finish", FAIL_AS: "time out", ATTACH: "attach"}
+
+
+class Jobs:
+    """What the service's threads are to do."""
+
+    def __init__(self):
+        self.left = []
+
+    def submit(self, fn, *args):
+        self.left.append(lambda: fn(*args))
+        return Future()
+
+    def shutdown(self, wait=True):
+        """Nobody waits for them."""
+
+
+class Led(Host):
+    """A process whose clock and threads the row leads."""
+
+    def __init__(self, row, session):
+        self.row, self.session, self.jobs = row, session, Jobs()
+
+    def monotonic(self):
+        return self.row.clock
+
+    time = monotonic
+
+    def sleep(self, seconds):
+        self.row.passes(seconds)
+
+    def rest(self, stops, seconds):
+        self.row.passes(seconds)
+
+    def number(self, bits):
+        return self.session
+
+    def pool(self, workers, name):
+        return self.jobs
+
+    def pump(self, run, name):
+        return threading.Thread()
+
+    def warn(self, text, request):
+        """What can't be done now is tried again."""
+
+    report_failure = report_raised = lambda self, text, error: None
+
+    def report_broken(self, error):
+        """Who waits is told."""
+
+
+class Told(Memory):
+    """A store in memory that answers as the row says."""
+
+    def __init__(self, row):
+        super().__init__()
+        self.row = row
+
+    def now(self):
+        return self.row.clock
+
+
+class Scripted:
+    """That store, as the process has it."""
+
+    def __init__(self, row):
+        self.row = row
+
+    def __getattr__(self, name):
+        call = getattr(self.row.store, name)
+        return call if not callable(call) or name == "check_may_put" else lambda *given: self.row.asked(name, call, *given)
+
+
+class Row:
+    def __init__(self, lines):
+        self.given = [line for line in lines if not line.startswith("  ")]
+        self.clock, self.at, self.moves, self.is_over = 0.0, 0, [], False
+        self.store, self.names, self.plan, self.views = Told(self), [], [], {}
+        self.threads, self.knows, self.is_request = 1, ["f", "g", "h"], False
+        self.calls, self.plays, self.until, self.is_dropped, self.ended = [], [], {}, False, 0
+        self.functions = Functions()
+
+    # The row's lines.
+
+    def tell(self):
+        """What comes of the row, as its lines say it."""
+        self.head()
+        for name in self.knows:
+            self.functions.function(name)(self.function(name))
+        self.host = Led(self, 1)
+        self.service = DurableService(Scripted(self), self.threads, functions=self.functions, lease=LEASE, takes_all=True, host=self.host)
+        self.request = self.service.open("r")
+        self.play()
+        return self.moves
+
+    def head(self):
+        """What stands before the process begins."""
+        before = []
+        while not self.given[self.at].startswith(("> ", "store: ")):
+            line = self.given[self.at]
+            self.at += 1
+            word, _, rest = line.partition(" ")
+            if word == "threads":
+                self.threads = int(rest)
+            elif word == "knows":
+                self.knows = rest.split()
+            elif word == "request":
+                self.is_request = True
+            elif " = " in line and not line.startswith("B: "):
+                self.plan.append(line)
+            else:
+                before.append(line)
+        stages = []
+        for line in () if self.is_request else self.plan:
+            form, of, said = self.stage(line)
+            stages.append({"form": FORMS[form], "of": list(of), **said})
+            self.names.append(said["name"])
+        plan = json.dumps({"cf": 3, "flow": "" if self.is_request else "row", "stages": stages})
+        self.opened = self.store.open("r", plan)
+        for line in self.plan if self.is_request else ():
+            self.peer(f"D: attach {line}")
+        for line in before:
+            self.peer(line)
+
+    def stage(self, line):
+        """The form, the sources and the definition of a stage."""
+        name, _, form, *rest = line.split()
+        to = self.names.index(rest.pop()) if rest[-2:-1] == ["into"] else None
+        rest = [it for it in rest if it != "into"]
+        of = tuple(self.names.index(it) for it in rest if it in self.names)
+        said = {"name": name}
+        if form == "again":
+            said["again"] = of[0]
+        elif form != "promise":
+            said.update(fn=rest[-1], version=1)
+        if to is not None:
+            said["to"] = to
+        return FORMS.index(FORM.get(form, form)), of, said
+
+    def play(self):
+        """Goes through the lines, until the function ends that was called last."""
+        while self.at < len(self.given):
+            line = self.given[self.at]
+            self.at += 1
+            if line.startswith("store: "):
+                self.prepare(line[7:])
+            elif not line.startswith("> "):
+                self.peer(line)
+            else:
+                self.moves.append((line, {"puts": [], "calls": [], "shows": [], "told": [], "closes": []}))
+                words = line[2:].split()
+                if words[1:2] in (["gives"], ["throws"]):
+                    if words[0] != self.calls[-1]:
+                        raise ValueError(f"{line}: {self.calls[-1]} was called last")
+                    self.ended += 1
+                    return words[1:]
+                self.move(*words)
+                self.look()
+        self.is_over = True
+        return ["gives", "null"]
+
+    def add(self, kind, said=""):
+        if not self.is_over:
+            self.moves[-1][1][kind].append(said)
+
+    # The process.
+
+    def look(self):
+        ended = None
+        while ended != self.ended:
+            ended = self.ended
+            if not self.service._stops.is_set():
+                with contextlib.suppress(Unknown, StoreError):
+                    self.service._round()
+            while self.host.jobs.left and len(self.calls) < max(self.threads, 1):
+                self.host.jobs.left.pop(0)()
+
+    def passes(self, seconds):
+        self.clock += seconds
+        self.store.beat(PEERS["B"])
+
+    def function(self, name):
+        def call(*args):
+            if self.is_over:
+                return None
+            self.add("calls", f"{name}({', '.join(map(text_of, args))})")
+            self.calls.append(name)
+            self.look()
+            word, said = self.play()
+            self.calls.pop()
+            if word == "throws":
+                raise RuntimeError(said)
+            return json.loads(said)
+
+        return call
+
+    def move(self, word, *rest):
+        if word == "stops":
+            self.service.shutdown(False)
+        elif word == "waits":
+            number = self.names.index(rest[1])
+            self.request._stage(number).add_done_callback(lambda it: self.add("shows", f"{rest[1]} {shown(it)}"))
+        elif rest[1:] == ("pass",):
+            until, many = self.clock + float(word) - LOOKS / 2, len(self.moves)
+            while self.clock < until and len(self.moves) == many:
+                self.passes(LOOKS)
+                self.look()
+        elif word == "stands":
+            self.passes(float(rest[1]))
+        elif word != "looks":
+            try:
+                told = self.act(word, *rest)
+                self.add("told", "done" if told is None else json.dumps(told))
+            except Unknown:
+                self.add("told", "unknown")
+            except Gone:
+                self.add("told", "gone")
+            except StoreError:
+                self.add("told", "refused")
+
+    def act(self, word, name, *rest):
+        if word == "attach":
+            stage = self.request._stage(self.names.index(rest[2]))
+            stage.then(self.functions.find(rest[3], 1).call)
+            self.names.append(name)
+            return None
+        stage = self.request._stage(self.names.index(name))
+        if word == "limit":
+            seconds = float(rest[0])
+            stage.complete_on_timeout(json.loads(rest[3]), seconds) if rest[2:] else stage.or_timeout(seconds)
+            return None
+        given = {"complete": lambda: [json.loads(rest[0])], "fail": lambda: [RuntimeError(rest[0])]}
+        return getattr(stage, word)(*given.get(word, lambda: [])())
+
+    # The store.
+
+    def prepare(self, said):
+        words = said.split()
+        if words[0] == "unanswered":
+            self.plays.append(said)
+        elif words[-1] == "s":
+            key = " ".join(words[:-2])
+            self.until[key] = float(words[-2]) if key == "beats take" else self.clock + float(words[-2])
+        elif said == "dropped":
+            self.is_dropped = True
+        else:
+            many = re.search(r" (\d+) times$", said)
+            self.plays += [said[: many.start()] if many else said] * int(many[1] if many else 1)
+
+    def is_now(self, what):
+        return not self.is_over and self.clock < self.until.get(what, 0)
+
+    def asked(self, name, call, *given):
+        """What the store answers to a call of the process."""
+        if self.is_now("silent") or name == "payloads" and self.is_now("payloads silent"):
+            raise Unknown("the row says so")
+        if self.is_dropped and name in ("append", "read", "payloads", "end"):
+            raise Gone("r")
+        if self.is_dropped and name == "news":
+            return {}, given[0]
+        if name in ("append", "beat") and self.is_now("takes nothing"):
+            raise StoreError("the row says so")
+        if name == "beats" and not self.is_over:
+            self.passes(self.until.get("beats take", 0))
+        if name == "append":
+            return self.append(call, *given)
+        told = call(*given)
+        if name == "end" and told:
+            self.add("closes")
+        return told
+
+    def append(self, call, put):
+        play = self.plays.pop(0) if self.plays else ""
+        if play == "lost":
+            raise Unknown("the row says so")
+        if play == "refuses":
+            raise StoreError("the row says so")
+        if play.startswith("first "):
+            self.peer(play[6:])
+        told = call(put)
+        if told is None:
+            self.add("puts", ", ".join(self.word(word, put.payloads.get(put.at + k)) for k, (word, _) in enumerate(put.entries, 1)))
+        if play.startswith("unanswered"):
+            if play != "unanswered":
+                self.prepare(play.partition(" and ")[2])
+            raise Unknown("the row says so")
+        return told
+
+    def word(self, word, payload):
+        """A word of the process, as the row says it."""
+        kind, stage, tag = word >> 56, word >> 36 & 0xFFF, word >> 32 & 0xF
+        said = WORDS[kind] if kind == ATTACH else f"{WORDS[kind]} {self.names[stage]}"
+        if kind == FAIL or kind == FINISH and tag == THROWS:
+            error = json.loads(payload)
+            said += " throws " * (kind == FINISH) or " "
+            return said + (error["error"] if error["error"] in ERRORS else error["text"])
+        if kind in (COMPLETE, FINISH):
+            said += " " + ("null" if payload is None else payload.decode())
+        return said
+
+    # Other processes.
+
+    def peer(self, line):
+        """Puts a word of another process."""
+        who, what, *rest = re.split(":? ", line)
+        if what == "close":
+            self.store.end("r", len(self.store.read("r")))
+            return
+        if who not in self.views:
+            self.views[who] = RowView(self.store, self.opened, PEERS[who], host=Led(self, PEERS[who]))
+            self.store.beat(PEERS[who])
+        view = self.views[who]
+        view.catch_up()
+        word, payload = self.peer_word(view, what, *rest)
+        if not isinstance(word, int):
+            raise ValueError(f"{line}: there is no such word")
+        view.act(lambda _: [(word, payload)])
+
+    def peer_word(self, view, what, name, *rest):
+        if what == "attach":
+            form, of, said = self.stage(" ".join([name, *rest]))
+            number = 0 if rest[1] == "promise" else len(view.forms)
+            self.names.append(name)
+            low = len(of) << 32 | form << 24 | (of[1] if of[1:] else 0) << 12 | number
+            return ATTACH << 56 | view.caller_number << 48 | (of[0] if of else 0) << 36 | low, json.dumps(said).encode()
+        stage = self.names.index(name)
+        head = view.caller_number << 48 | stage << 36
+        if what == "finish" and rest[0] == "into":
+            ended = FinishAnswer(stage, LINKS, self.names.index(rest[1]))
+            return view.finish_word(ended), json.dumps({"stage": self.names.index(rest[3])}).encode()
+        if what == "finish":
+            payload = None if rest[0] == "without" else rest[0].encode()
+            return view.finish_word(FinishAnswer(stage, NO_VALUE if rest[0] == "null" else GIVES, view.next_place)), payload
+        if what == "complete" and rest[0] != "null":
+            return COMPLETE << 56 | head | GIVES << 32 | view.next_place, rest[0].encode()
+        if what == "fail":
+            return FAIL << 56 | head | view.next_place, Json().write_error(Abandoned("the row says so"))
+        return {"claim": CLAIM, "complete": COMPLETE, "cancel": CANCEL}[what] << 56 | head, None
+
+
+def kind_of(error):
+    kind = error.kind if isinstance(error, RemoteError) else type(error).__name__
+    return kind if kind in ERRORS else str(error)
+
+
+def text_of(given):
+    """An argument of a function."""
+    return kind_of(given) if isinstance(given, BaseException) else json.dumps(given)
+
+
+def shown(stage):
+    """What a stage that is shown came to."""
+    if stage.cancelled():
+        return "cancelled"
+    error = stage.exception(0)
+    kinds = {CancelledError: "cancelled", TimeoutError: "timed out", Gone: "gone", Broken: "broken"}
+    return json.dumps(stage.result(0)) if error is None else kinds.get(type(error)) or kind_of(error)
+
+
+def lines_of(move, did):
+    return [move, *(f"  {kind}: {said}" if said else f"  {kind}" for kind, its in did.items() for said in its)]
+
+
+class Decisions(unittest.TestCase):
+    maxDiff = None
+
+
+def add_tests():
+    _, *rows = re.split("^== ", (TOP / "conformance/stores/decisions.rows").read_text(encoding="utf-8"), flags=re.M)
+    for row in rows:
+        name, *lines = [line for line in row.splitlines() if line and not line.startswith("#")]
+
+        def test(self, lines=lines):
+            first = next(k for k, line in enumerate(lines) if line.startswith("> "))
+            wanted = [line for line in lines[first:] if line.startswith(("> ", "  "))]
+            self.assertEqual([line for move in Row(lines).tell() for line in lines_of(*move)], wanted)
+
+        test.__doc__ = name
+        called = "test_" + re.sub(r"\W+", "_", name.replace("n't", " not"))
+        if hasattr(Decisions, called):
+            raise ValueError(f"two rows are {name!r}")
+        setattr(Decisions, called, test)
+
+
+add_tests()
+
+
+if __name__ == "__main__":
+    unittest.main()
