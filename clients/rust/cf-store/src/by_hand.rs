@@ -213,54 +213,6 @@ fn what_is_there_before_it_is_known_is_begun_at_once() {
 }
 
 #[test]
-fn a_new_word_is_a_sign_of_life() {
-    let (memory, clock) = (Arc::new(Memory::default()), TestClock::new());
-    let watches = TestProcess::new(&memory, &clock, 1, 0, Functions::new(), silent());
-    let works = TestProcess::new(&memory, &clock, 2, 1, Functions::new(), silent());
-    let request = works.service.request("r").unwrap();
-    let stage = request.supply("cf.gather", &[1.into()]).unwrap();
-    request.inner.put_words(|_| Ok(vec![WantedWord { call: Call::Claim(stage.number()), payload: None }])).unwrap();
-    watches.turn();
-    for _ in 0..10 {
-        clock.pass(LEASE / 4);
-        watches.turn();
-        request.promise("a word").unwrap();
-        watches.turn();
-    }
-    let seen = watches.service.open("r").unwrap().stage(stage.number()).unwrap();
-    assert_eq!(seen.peek::<i64>(), Ok(None), "its session puts words");
-    for _ in 0..6 {
-        clock.pass(LEASE / 4);
-        watches.turn();
-    }
-    assert!(matches!(seen.peek::<i64>(), Err(Error::Abandoned(_))), "and now it is silent");
-}
-
-#[test]
-fn who_was_taken_for_gone_claims_nothing_before_it_has_beaten() {
-    let (memory, clock) = (Arc::new(Memory::default()), TestClock::new());
-    let watches = Arc::new(TestProcess::new(&memory, &clock, 1, 0, Functions::new(), silent()));
-    let calls = Arc::new(AtomicU32::new(0));
-    let (counted, watcher, ticks) = (Arc::clone(&calls), Arc::clone(&watches), clock.clone());
-    // while it is called at first its process stands still, and the other one doesn't
-    let slow = move || {
-        for _ in 0..if counted.fetch_add(1, SeqCst) < 1 { 6 } else { 0 } {
-            ticks.pass(LEASE / 4);
-            watcher.turn();
-        }
-        Ok::<_, String>(7)
-    };
-    let works = TestProcess::new(&memory, &clock, 2, 1, Functions::new().with("slow", 1, slow), silent());
-    works.turn();
-    let last = works.service.request("r").unwrap().supply("slow", &[]).unwrap().again(8).unwrap();
-    watches.turn();
-    works.work();
-    assert_eq!(calls.load(SeqCst), 1, "its stage was taken from it, and so would be the next");
-    works.turn();
-    assert_eq!((calls.load(SeqCst), last.peek::<i64>()), (2, Ok(Some(7))));
-}
-
-#[test]
 fn who_stops_beats_until_its_functions_have_ended() {
     let ((beats, beaten), (begun, begins), (goes, go)) = (mpsc::channel(), mpsc::channel(), mpsc::channel());
     let (beats, begun, go) = (Mutex::new(beats), Mutex::new(begun), Mutex::new(go));
@@ -333,36 +285,6 @@ fn names(request: &Request, name: &str) -> usize {
 }
 
 #[test]
-fn a_value_that_is_refused_for_a_while_is_not_lost() {
-    // So many puts of its finish are refused, and whether beats are, too, as long; what stands then.
-    let rows = [(1, true, Ok(7)), (2, true, Err("StoreError")), (3, true, Ok(7)), (1, false, Ok(7)), (2, false, Ok(7)), (9, false, Ok(7))];
-    for (refusals, takes_beats, wanted) in rows {
-        let left = AtomicU32::new(refusals);
-        let called = move |call: &str, entries: &[Entry]| {
-            let finishes = |entry: &Entry| matches!(Event::from_word(entry.word).unwrap().call, Call::Finish(..));
-            let is_refused = match call {
-                "append" => entries.iter().any(finishes) && left.fetch_update(SeqCst, SeqCst, |left| left.checked_sub(1)).is_ok(),
-                "beat" => !takes_beats && left.load(SeqCst) > 0,
-                _ => false,
-            };
-            if is_refused {
-                return Err(StoreError::Refused("not now".into()));
-            }
-            Ok(())
-        };
-        let functions = Functions::new().with("seven", 1, || Ok::<_, String>(7));
-        let process = TestProcess::new(&Arc::default(), &TestClock::new(), 1, 1, functions, Arc::new(called));
-        let stage = process.service.request("r").unwrap().supply("seven", &[]).unwrap();
-        process.work();
-        let told = stage.peek::<i64>().map_err(|error| match error {
-            Error::Failed(failed) => failed.kind,
-            other => other.to_string(),
-        });
-        assert_eq!(told, wanted.map(Some).map_err(str::to_owned), "{refusals} refusals, and beats are taken: {takes_beats}");
-    }
-}
-
-#[test]
 fn who_stops_puts_a_value_for_a_minute() {
     const SECOND: Duration = Duration::from_secs(1);
     // What becomes of its finish from when on (from its function's end on) until when (from the stop on), and when it stops; whether the value stands.
@@ -413,40 +335,6 @@ fn who_stops_puts_a_value_for_a_minute() {
         let is_told = process.host.told.lock().unwrap().iter().any(|it| it.starts_with(lost));
         assert_eq!(is_told, !is_kept, "{answer} at {stops} until {ends}");
     }
-}
-
-#[test]
-fn a_word_that_may_stand_is_not_told_as_refused() {
-    // Whether the first put lands whose answer is lost, and how often it is refused then; what is told.
-    for (lands, refusals, wanted) in [(true, 1, Some(true)), (true, 2000, Some(true)), (false, 1, Some(true)), (false, 2000, None)] {
-        let (tries, is_on) = (AtomicU32::new(0), Arc::new(AtomicBool::new(false)));
-        let on = Arc::clone(&is_on);
-        let called = move |call: &str, _: &[Entry]| {
-            let number = if on.load(SeqCst) && call == "append" { tries.fetch_add(1, SeqCst) } else { tries.load(SeqCst) };
-            match call {
-                "append" | "appended" if !on.load(SeqCst) => Ok(()),
-                "append" if number == 0 && !lands => Err(StoreError::Unknown("no answer".into())),
-                "append" if (1..=refusals).contains(&number) => Err(StoreError::Refused("it can only be read".into())),
-                "appended" if number == 1 => Err(StoreError::Unknown("no answer".into())),
-                _ => Ok(()),
-            }
-        };
-        let process = TestProcess::new(&Arc::default(), &TestClock::new(), 1, 0, Functions::new(), Arc::new(called));
-        let stage = process.service.request("r").unwrap().promise("p").unwrap();
-        is_on.store(true, SeqCst);
-        let told = stage.complete(&7);
-        match wanted {
-            Some(won) => assert_eq!((told, stage.peek()), (Ok(won), Ok(Some(7))), "it lands: {lands}, {refusals} refusals"),
-            None => assert_eq!(told, Err(StoreError::Unknown("it can only be read".into()))),
-        }
-    }
-    let refuses = |call: &str, entries: &[Entry]| match Event::from_word(entries.first().map_or(0, |it| it.word)).map(|it| it.call) {
-        Ok(Call::Complete(..)) if call == "append" => Err(StoreError::Refused("it is too large".into())),
-        _ => Ok(()),
-    };
-    let process = TestProcess::new(&Arc::default(), &TestClock::new(), 1, 0, Functions::new(), Arc::new(refuses));
-    let stage = process.service.request("r").unwrap().promise("p").unwrap();
-    assert_eq!(stage.complete(&7), Err(StoreError::Refused("it is too large".into())), "what is refused at once doesn't stand");
 }
 
 /// A flow's request whose one stage is open, and the service that has begun it.
@@ -639,17 +527,6 @@ fn a_put_whose_answer_was_lost_is_told_what_it_did_and_no_more() {
     let own = request.promise("own").unwrap();
     assert_eq!((own.number(), own.name().unwrap()), (0, "own".into()));
     assert_eq!(request.stage(1).unwrap().name().unwrap(), "another's");
-}
-
-#[test]
-fn a_stage_whose_function_runs_is_abandoned_and_not_cancelled() {
-    let process = TestProcess::new(&Arc::default(), &TestClock::new(), 1, 0, Functions::new(), silent());
-    let request = process.service.request("r").unwrap();
-    let stage = request.supply("cf.gather", &[1.into()]).unwrap();
-    request.inner.put_words(|_| Ok(vec![WantedWord { call: Call::Claim(stage.number()), payload: None }])).unwrap();
-    assert_eq!(stage.cancel(), Ok(false));
-    assert_eq!(stage.abandon(), Ok(true));
-    assert_eq!(stage.peek::<i64>(), Err(Error::Cancelled));
 }
 
 #[test]

@@ -54,6 +54,8 @@
 #[cfg(all(test, feature = "testing"))]
 mod by_hand;
 mod context;
+#[cfg(all(test, feature = "testing"))]
+mod decisions;
 mod ends;
 mod error;
 #[cfg(feature = "etcd")]

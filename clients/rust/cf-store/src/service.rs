@@ -221,7 +221,7 @@ impl Service {
             store,
             functions,
             session,
-            sessions: Arc::new(Sessions::new(session, options.lease, host.now())),
+            sessions: Arc::new(Sessions::new(session, options.lease)),
             host,
             requests: Mutex::default(),
             keeps: AtomicU64::new(0),
@@ -590,13 +590,21 @@ impl ServiceCore {
     }
 
     pub(crate) fn beat(&self, is_named: &mut bool) -> Result<(), StoreError> {
-        self.store.beat(self.session)?;
+        self.store.beat(self.session).map_err(|error| {
+            self.sessions.note_silence();
+            error
+        })?;
         self.sessions.note_own_beat();
         if !*is_named {
             self.store.name_session(self.session, &format!("rust {}", std::process::id()))?;
             *is_named = true;
         }
-        let gone = self.sessions.take_in_beats(self.host.now(), self.store.beats());
+        self.sessions.begin_question(self.host.now());
+        let Ok(beats) = self.store.beats() else {
+            self.sessions.note_silence();
+            return Ok(());
+        };
+        let gone = self.sessions.take_in_beats(self.host.now(), beats);
         gone.into_iter().try_for_each(|session| self.store.drop_beat(session))
     }
 
@@ -628,12 +636,16 @@ impl ServiceCore {
 
     /// Whether it is a flow's request without any work left.
     fn is_finished(&self, view: &mut RowView) -> Result<bool, StoreError> {
-        Ok(view.is_planned() && view.is_done(|session| self.sessions.is_gone(session))?)
+        Ok(view.is_planned() && view.is_done(|session| self.is_gone(session))?)
     }
 
     /// The gone sessions that have stages.
     fn gone_sessions(&self, view: &mut RowView) -> Result<BTreeSet<u64>, StoreError> {
-        Ok(view.open_claims()?.into_iter().map(|(_, session)| session).filter(|session| self.sessions.is_gone(*session)).collect())
+        Ok(view.open_claims()?.into_iter().map(|(_, session)| session).filter(|session| self.is_gone(*session)).collect())
+    }
+
+    fn is_gone(&self, session: u64) -> bool {
+        self.sessions.is_gone(session, self.host.now())
     }
 
     fn submit_due_timers(self: &Arc<ServiceCore>) -> Result<(), StoreError> {
@@ -743,7 +755,8 @@ impl ServiceCore {
     /// Gives a stage that this session has, or claims one.
     fn next_task(&self, inner: &Arc<LocalRequest>) -> Result<Option<ClaimedTask>, StoreError> {
         loop {
-            let Some((stage, args)) = inner.view().take_found_claim() else { return self.finish_and_claim(inner, None) };
+            let found = if self.is_stopping() { None } else { inner.view().take_found_claim() };
+            let Some((stage, args)) = found else { return self.finish_and_claim(inner, None) };
             let has = inner.view().has_claim(stage)?;
             let task = if has {
                 self.claimed_task(inner, stage, args).map(Some)

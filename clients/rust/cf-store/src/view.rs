@@ -407,7 +407,7 @@ impl RowView {
         if session == self.session || !self.is_read {
             return Ok(());
         }
-        self.sessions.note_word_of(session);
+        self.sessions.note_word_of(session, self.host.now());
         if matches!(call, Call::Fail(stage, _) if self.has_claim(stage)?) {
             self.sessions.note_given_up();
         }

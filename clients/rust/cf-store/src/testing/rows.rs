@@ -11,7 +11,7 @@ use cf_graph::{Answer, Call, Entry, Event};
 use serde_json::Value as Json;
 use std::collections::BTreeMap;
 use std::sync::{Arc, Mutex, MutexGuard, PoisonError};
-use std::time::{Duration, Instant};
+use std::time::Duration;
 
 pub(super) fn lock<T>(mutex: &Mutex<T>) -> MutexGuard<'_, T> {
     mutex.lock().unwrap_or_else(PoisonError::into_inner)
@@ -111,7 +111,7 @@ impl Rows {
         let is_new = self.memory.find(name)?.is_none();
         let opened = self.memory.open(name, plan)?;
         if is_new {
-            let sessions = Arc::new(Sessions::new(0, Duration::ZERO, Instant::now()));
+            let sessions = Arc::new(Sessions::new(0, Duration::ZERO));
             let view = RowView::new(Arc::clone(&self.memory) as Arc<dyn Store>, Arc::new(Reader), opened.clone(), sessions)?;
             lock(&self.names).push(name.into());
             lock(&self.views).insert(name.into(), Read { view, settled: Vec::new() });
