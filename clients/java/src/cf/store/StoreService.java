@@ -510,7 +510,12 @@ public final class StoreService implements AutoCloseable {
             return false;
         }
         nextBeat = now + lease / 5;
-        store.beat(session);
+        try {
+            store.beat(session);
+        } catch (StoreException silent) {
+            sessions.forgetAll();
+            throw silent;
+        }
         if (!isNamed) {
             store.nameSession(session, "java " + processNumber());
             isNamed = true;
@@ -798,7 +803,7 @@ public final class StoreService implements AutoCloseable {
     /** The next stage to run: one that this session has claimed already, or else a new claim; or null. */
     private ClaimedTask nextTask(StoredRequest request) {
         while (true) {
-            Map.Entry<Integer, NativeRow.Reply> found = request.withView(view -> view.foundClaims.pollFirstEntry());
+            Map.Entry<Integer, NativeRow.Reply> found = isStopping ? null : request.withView(view -> view.foundClaims.pollFirstEntry());
             if (found == null) {
                 return finishAndClaim(request, null);
             }
@@ -1211,8 +1216,9 @@ public final class StoreService implements AutoCloseable {
             isAnswered = false;
         }
 
-        /** While the store was away nobody could beat. */
-        private synchronized void forgetAll() {
+        /** While the store is away nobody can beat. */
+        synchronized void forgetAll() {
+            isAnswered = false;
             signs.clear();
         }
 

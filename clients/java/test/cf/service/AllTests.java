@@ -1,6 +1,7 @@
 package cf.service;
 
 import cf.internal.Native;
+import cf.store.DecisionsTest;
 import cf.store.EtcdTest;
 import cf.store.StoreFaultsTest;
 import cf.store.StoredFunctionsTest;
@@ -231,6 +232,7 @@ public final class AllTests {
         test("what is promised of a store in every order", StoredOrdersTest::promises);
         test("orders over a store that are left out", StoredOrdersTest::leftOut);
         test("orders over a store by chance", StoredOrdersTest::byChance);
+        test("what a process decides over a store", DecisionsTest::rows);
         test("JSON", StoresTest::json);
         test("who is gone", StoresTest::gone);
         test("which errors of PostgreSQL say that it is away", StoreFaultsTest::away);
@@ -248,7 +250,6 @@ public final class AllTests {
             over(StoresTest.InFile::new, "who reads many requests at first", StoreFaultsTest::beats);
             over(StoresTest.InFile::new, "what is there as a request is first met", StoreFaultsTest::beginsAtOnce);
             over(StoresTest.InFile::new, "what a relay makes ready", StoreFaultsTest::relaysAtOnce);
-            over(StoresTest.InFile::new, "a process that comes back", StoreFaultsTest::comesBack);
             over(StoresTest.InFile::new, "a session's name", StoreFaultsTest::namesItself);
             over(StoresTest.InFile::new, "open requests that stay known", StoreFaultsTest::keepsOpen);
             over(StoresTest.InFile::new, "connections of a closed store", StoredFunctionsTest::closes);
@@ -256,8 +257,6 @@ public final class AllTests {
             over(StoresTest.InFile::new, "a stage that isn't there", StoreFaultsTest::givesNoStage);
             over(StoresTest.InFile::new, "functions that run at the end", StoreFaultsTest::closes);
             over(StoresTest.InFile::new, "who waits at the end", StoreFaultsTest::over);
-            over(StoresTest.InFile::new, "a store that takes nothing for a while", StoreFaultsTest::refused);
-            over(StoresTest.InFile::new, "puts that are refused behind a missing answer", StoreFaultsTest::refusedLater);
             over(StoresTest.InFile::new, "payloads that can't be read for a while", StoreFaultsTest::unread);
             if (StoresTest.onPath("flock")) {
                 over(StoresTest.InFile::new, "the line of who writes to a file", StoredFunctionsTest::line);

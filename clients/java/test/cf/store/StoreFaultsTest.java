@@ -145,44 +145,6 @@ public final class StoreFaultsTest {
     }
 
     /**
-     * A process that was silent is taken for gone, and learns that by the row. It says that it is there before it claims a further try, and that claim
-     * says so, too: the further tries aren't lost one after another.
-     */
-    public static void comesBack(InFile file) throws Exception {
-        ByHand first = new ByHand(), second = new ByHand();
-        List<String> calls = new ArrayList<>();
-        AtomicInteger called = new AtomicInteger();
-        StoreService[] judges = new StoreService[1];
-        Functions functions = new Functions().with("charge", 1, () -> {
-            for (int looks = 0; looks < 4; looks++) {
-                second.looks(judges[0], called.get() == 0 ? LEASE : 1);
-            }
-            calls.add("called");
-            return (long) called.incrementAndGet();
-        });
-        Store seen = StoresTest.seen(file.open(), (call, args) -> {
-            if (call.equals("beat") || call.equals("append")) {
-                calls.add(call);
-            }
-            return null;
-        });
-        try (StoreService works = service(seen, functions, first);
-                StoreService judge = StoreService.builder(file.open(), functions).threads(0)
-                        .lease(LEASE, TimeUnit.NANOSECONDS).takesAll(true).host(second).build()) {
-            judges[0] = judge;
-            StoredRequest request = works.request("comes back");
-            StoredStage last = request.supply("charge").again(3);
-            judge.open("comes back");
-            calls.clear();
-            first.looks(works, 0);
-            is(StoresTest.end(last), 2L);
-            is(called.get(), 2);
-            // (the first finish comes late; then it says that it is there, claims, and puts the second finish)
-            is(String.join(" ", calls.subList(calls.indexOf("called"), calls.size())).startsWith("called append append beat append called append"), true);
-        }
-    }
-
-    /**
      * A process is cut off within a function that composes, and a further try goes on in another process: it finds what the first one has attached. That
      * one attaches nothing any more.
      */
@@ -267,62 +229,6 @@ public final class StoreFaultsTest {
         is(StoresTest.end(waits).getClass(), IllegalStateException.class);
         is(StoresTest.end(request.stage(0)).getClass(), IllegalStateException.class);
         is(StoresTest.end(request.stage(1)), 7L);
-    }
-
-    /** What a function gave stands in the end, also where the store takes nothing for a while. A value that it doesn't take fails its stage. */
-    public static void refused(InFile file) throws Exception {
-        AtomicInteger left = new AtomicInteger();
-        AtomicBoolean takesBeats = new AtomicBoolean();
-        Store refusing = StoresTest.seen(file.open(), (call, args) -> {
-            boolean isFinish = call.equals("append") && Words.kind(((Store.Put) args[0]).entries().get(0).word()) == Words.FINISH;
-            if (isFinish && left.getAndDecrement() > 0 || call.equals("beat") && left.get() > 0 && !takesBeats.get()) {
-                throw new StoreException("it takes nothing now");
-            }
-            return null;
-        });
-        ByHand host = new ByHand();
-        Functions functions = new Functions().with("seven", 1, times -> {
-            left.set(((Long) times).intValue());
-            return 7L;
-        });
-        try (StoreService service = service(refusing, functions, host)) {
-            StoredRequest request = service.request("refused");
-            StoredStage kept = request.supply("seven", 3);
-            host.looks(service, 0);
-            is(StoresTest.end(kept) + " " + left, "7 -1");
-            takesBeats.set(true);
-            StoredStage once = request.supply("seven", 1);
-            host.looks(service, 0);
-            is(StoresTest.end(once) + " " + left, "7 -1");
-            StoredStage twice = request.supply("seven", 2);
-            host.looks(service, 0);
-            is(StoresTest.remote(twice).getMessage() + " " + left, "StoreError: it takes nothing now -1");
-        }
-    }
-
-    /** An answer is missing, and what is asked again then is refused: whether it stands is read. */
-    public static void refusedLater(InFile file) throws Exception {
-        Store store = file.open();
-        AtomicInteger left = new AtomicInteger();
-        Store refusing = StoresTest.seen(store, (call, args) -> {
-            if (!call.equals("append") || left.get() == 0) {
-                return null;
-            }
-            if (left.getAndDecrement() % 2 == 0) {
-                store.append((Store.Put) args[0]);
-                throw new StoreException.Unknown("no answer", null);
-            }
-            throw new StoreException("it takes nothing now");
-        });
-        try (StoreService service = service(refusing, new Functions(), new ByHand())) {
-            StoredRequest request = service.request("refused later");
-            StoredStage promise = request.promise("promise");
-            left.set(2);
-            is(promise.complete(7), true);
-            left.set(1);
-            thrown(StoreException.class, () -> request.promise("refused"));
-            is(request.promise("next").number(), 1);
-        }
     }
 
     /** Which of PostgreSQL's errors say that the same may be asked again. */
