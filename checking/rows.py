@@ -112,6 +112,7 @@ def rows_of_python(tools: Tools, made: Path) -> List[Row]:
             [MODULE, "python3"],
             [["env", "CF_REQUESTS=2000", python, "-m", "unittest", "discover", "-s", "clients/python/tests/service"]],
         ),
+        Row("what Python's service decides over a store", [MODULE, "python3"], [[python, "clients/python/tests/decisions/test_decisions.py"]]),
         Row("what waits in Python's service, in every order", [MODULE, "python3"], [[python, "clients/python/tests/waits/test_waits.py"]]),
         Row(
             "Python's service as its wheel installs it",
@@ -217,6 +218,7 @@ def rows_of_rust(tools: Tools, made: Path) -> List[Row]:
                 + [word for name in over_stores for word in ("--test", name)]
             ],
         ),
+        Row("what Rust's service decides over a store", stored, [[*over_debian, "test", *with_all, "--lib", "decisions"]]),
         Row("the examples of Rust's pages", stored, [[*over_debian, "test", *with_all, "--doc"]]),
         Row("the reference of Rust's crates", stored, [["env", "RUSTDOCFLAGS=-D warnings", *over_debian, "doc", "-q", "--no-deps", *every]]),
         Row(
@@ -284,6 +286,7 @@ def rows_of_java(tools: Tools, made: Path) -> List[Row]:
     made_table = f"import sqlite3; sqlite3.connect('{shop}').execute('create table payment (cents integer)')"
     return [
         Row("Java's service", [*needs, *looks], [*built, [*java, *(f"-Dcf.look={tools[it]}" for it in looks), "cf.service.AllTests"]]),
+        Row("what Java's service decides over a store", needs, [[*java, "cf.service.AllTests", "what a process decides over a store"]]),
         Row("Java's first program", needs, [[*java, "First"]], ("clients/java", "First")),
         Row(
             "Java's handler",
