@@ -155,21 +155,6 @@ class DurableStages(Case):
                 self.assertTrue(stage.fail(PermissionError("by hand")))
                 self.assertIsInstance(last.exception(20), PermissionError)
 
-    def test_what_a_further_try_of_an_either_is_called_with(self):
-        """It was settled by hand, so that it was told of no source: the first one in order that has a value, be that
-        None, is what its function is called with."""
-        for values, told in (((None, 5), "sorry, None"), ((5, None), "sorry, 5")):
-            store = Memory()
-            asks = DurableService(store, 0, functions=f.functions)
-            durable = asks.request("r")
-            one, two = durable.promise(), durable.promise()
-            stage = one.either(two, f.text)
-            last = stage.again()
-            self.assertTrue(stage.fail(Abandoned("gone")))
-            two.complete(values[1]), one.complete(values[0])
-            self.services += [asks, DurableService(store, 1, functions=f.functions, takes_all=True)]
-            self.assertEqual(last.result(20), told)
-
     def test_no_further_try_behind_what_was_abandoned(self):
         """What hangs on an abandoned stage fails, too: its own function wasn't called, and so isn't called again."""
         for service, name in self.each():

@@ -14,7 +14,7 @@ from concurrent.futures import CancelledError
 from case import Case, EMPTY
 import shared_functions as f
 from cf.service import Flow
-from cf.service.words import CANCEL, CLAIM
+from cf.service.words import CANCEL
 from cf.store import connect, DurableService, Functions, Memory, service as shared_service
 
 
@@ -132,21 +132,6 @@ class Working(Case):
             working.store.end("r", worked_on.words_seen)
             self.until(lambda: "r" not in working._requests)
         self.assertEqual(sorted(refused), ["_fire", "_let_go", "_work"])
-
-    def test_a_claim_that_is_found_late(self):
-        """It is finished late, and what is claimed with that is run."""
-        working = DurableService(Memory(), 0, functions=f.functions, lease=1000)
-        self.services.append(working)
-        worked_on = working.request("r")
-        first, second = worked_on.supply(f.inc, 1), worked_on.supply(f.inc, 2)
-        done = worked_on._act(lambda view: [(CLAIM << 56 | view.caller_number << 48, None)])  # as by a put whose reply was lost
-        self.assertTrue(first.abandon())
-        working._pool.submit(int).result(20)  # (so that the one thread has nothing to do)
-        worked_on._view.found_claims[0] = done[0]
-        working._workers = 1
-        working._serve(worked_on)
-        self.assertEqual(second.result(20), 3)
-        self.until(lambda: not worked_on._view.claims())
 
     def test_a_request_that_is_cancelled(self):
         """All of it is cancelled, the last stage first: also what runs, and what another process has attached."""
