@@ -18,3 +18,4 @@ pub mod Attached
 pub mod Gathered
 pub mod Composes
 pub mod Ends
+pub mod Endings

@@ -28,7 +28,7 @@ use Rattle.cf_request.specs.Relays.{IsRelayDue, IsRelayOr}
 use Rattle.cf_request.specs.Rows.{AddsBehind, AddsLanes, AreCalls, BeginsAnew, ComesToAnEnd, IsCall, IsLater, IsOpened, Job, Out, RunsOnce, TellsOnce, Took, WasGranted, WordsTellAll, all_jobs, all_told, job_of, nothing, room_in, stage_of, unclaimed}
 use Rattle.cf_request.specs.Rows.IsCall.{applies, goes_on, sets_join, sets_deadline, forgets, passes, refuses, cancels_all, took, grows, reserves, is_refused}
 use Rattle.cf_request.specs.Settling.{AreSettledInTurn, SettlesDue, settle_event}
-use Rattle.cf_request.specs.Telling.{AreFresh, AreSettled, AreSettledBy, IsApart, Teller, Tells, TellsEvent, with_memory}
+use Rattle.cf_request.specs.Telling.{AreFresh, AreSettled, AreSettledBy, IsApart, Teller, Tells, TellsEvent, order_in, with_memory}
 use Rattle.cf_request.specs.declared.machine.Next.{Next}
 use Rattle.cf_request.specs.declared.settling.Due.{Due}
 use Rattle.cf_request.proofs.Later.{by_words, claimed_closed, closed_later, granted_fewer, granted_later, granted_now, later_free, later_grown, later_then, later_word, open_before, ready_open, unclaimed_later}
@@ -332,7 +332,7 @@ effects old new (out ∷ outs) (between, call, rest) =
 
 -- ---- the laws
 
-first_settled : (m : Machine) → IsOpened m → AreSettled m.teller.ledger (m.teller.taken ++ m.teller.told)
+pub first_settled : (m : Machine) → IsOpened m → AreSettled m.teller.ledger (m.teller.taken ++ m.teller.told)
 first_settled m h = record {
   opening = m.teller.told;
   later = [];
@@ -363,6 +363,10 @@ adds_behind old new outs calls = let e = effects old new outs calls in record { 
 
 pub words_tell_all : WordsTellAll
 words_tell_all old new outs opened calls = by_words old.teller.ledger new.teller.ledger opened.events (effects old new outs calls).later
+
+-- what was settled in order is so after a call
+pub settled_call : (old new : Machine) (out : Out) → IsCall old out new → AreSettled old.teller.ledger (order_in old.teller) → AreSettled new.teller.ledger (order_in new.teller)
+settled_call old new out h = (effect old new out h).settled
 
 -- ---- starting again
 

@@ -13,3 +13,4 @@ pub mod Composing
 pub mod Growing
 pub mod Rows
 pub mod Scopes
+pub mod Endings

@@ -1,5 +1,6 @@
 //! Laws of machines: the contract of each function is the statement, and its body is empty. Each says what holds after
 //! any row of calls, by any callers, in any order.
+ghost use Rattle.cf_request.specs.Endings.{EndsNothingElse, JoinsAreExact, StopsOnce};
 ghost use Rattle.cf_request.specs.Gathering.{GathersAsOne, GathersAtOnce};
 ghost use Rattle.cf_request.specs.Rows.{AddsBehind, BeginsAnew, ComesToAnEnd, RunsOnce, TellsOnce, WordsTellAll};
 ghost use Rattle.cf_request.specs.Scopes.{RunsNoneWithin};
@@ -54,4 +55,23 @@ pub fn roots_have_it_at_once()
 /// Behind the end of a scope, `next` tells no stage within it, over any row of calls.
 pub fn ended_scopes_run_nothing()
     ensures { RunsNoneWithin }
+{}
+
+/// After any row of calls, each join is open and undecided, or its stage was settled by a word in between: one that came
+/// while it was undecided, or one by which the machine settled the first of the joins that were due. If that is a join of
+/// the stage, the stage has what such a join ends with.
+pub fn joins_are_exact()
+    ensures { JoinsAreExact }
+{}
+
+/// What the end of a scope adds to the words is the caller's cancel of the scope's stage, and then what the machine
+/// settles in its own name: joins, each where it is the first that is due.
+pub fn scopes_end_nothing_else()
+    ensures { EndsNothingElse }
+{}
+
+/// A host that looks, for each stage that it takes as told, whether its claim is open, hears of no claim twice, and of
+/// each that it could hear of: what is open still was open as its stage was told.
+pub fn each_stop_is_told_once()
+    ensures { StopsOnce }
 {}
