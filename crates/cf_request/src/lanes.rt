@@ -123,7 +123,8 @@ fn claim(teller: &mut Teller, who: u8, stage: u16) -> Taken
     ensures stage { result.stage ≡ stage }
     ensures word { result.word ≡ word_of (Event.Claim who stage) }
     ensures function { result.function ≡ function_at (state_of teller.old.ledger).plan.stages stage }
-    ensures done { TellsEvent (Event.Claim who stage) teller.old (Reply.Claim (Claimed.Granted result.args)) teller.new }
+    ensures done { TellsEvent (Event.Claim who stage) teller.old
+        (Reply.Claim (Claimed.Granted result.args)) teller.new }
 {
     let function = teller.ledger().function(stage);
     let word = encode(&Event::Claim { who, stage });

@@ -14,7 +14,7 @@ ghost use Rattle.cf_request.specs.Ready.{IsLaneCount};
 ghost use Rattle.cf_request.specs.Machines.{AppliesWord, CancelsAll, FindsFor, FindsToPass, GoesOn, IsNoCancel, IsNoDeadline, IsNoFollow, IsNoJoin, IsNoNext, IsNoPass, IsNoWord, IsShortFor, NoRelayFits, OnlyDeadlines, OnlyFinds, OnlyTeller, Passes, Refuses, Restarts, SetsDeadline, SetsFollow, SetsJoin, SetsOne, free_in, open_in, stages_in, state_in, waiting_in};
 ghost use Rattle.cf_request.specs.Relays.{NoneBehind};
 ghost use Rattle.cf_request.specs.Rows.{AreCalls, nothing, unclaimed};
-ghost use Rattle.cf_request.specs.Scopes.{AttachesFound, FindsPlace, MayAttach, NoneOutlives, PutsIn, stopped_in};
+ghost use Rattle.cf_request.specs.Scopes.{AttachesFound, FindsPlace, MayAttach, NoneOutlives, PutsIn};
 ghost use Rattle.cf_request.specs.Telling.{AreFresh, AreSettled, IsOnce, is_settled_in, with_memory};
 
 use crate::composing::{Composed, Composing, check_composing, check_linking, compose};
@@ -152,7 +152,8 @@ impl Machine {
         ensures done { IfOk result (λ reply. AppliesWord word lane self.old reply self.new) }
         ensures refused { OnErr result (OnlyFinds self.old self.new) }
         ensures why { IfErr result (λ fault. IsNoWord word self.old fault) }
-        ensures found { IfErr result (λ fault. fault ≢ LedgerFault.NoMemory → waiting_in self.old ≤ free_in self.new) }
+        ensures found { IfErr result (λ fault.
+            fault ≢ LedgerFault.NoMemory → waiting_in self.old ≤ free_in self.new) }
     {
         self.teller.reserve(words_beside(self.relays.waiting))?;
         let seen = self.teller.told().len();
@@ -171,7 +172,8 @@ impl Machine {
             (lane : ℕ) → AppliesWord word lane self.old (Reply.Claim told) self.new) }
         ensures refused { OnErr result (OnlyFinds self.old self.new) }
         ensures why { IfErr result (λ fault. IsNoWord word self.old fault) }
-        ensures found { IfErr result (λ fault. fault ≢ LedgerFault.NoMemory → waiting_in self.old ≤ free_in self.new) }
+        ensures found { IfErr result (λ fault.
+            fault ≢ LedgerFault.NoMemory → waiting_in self.old ≤ free_in self.new) }
     {
         self.teller.reserve(words_beside(self.relays.waiting))?;
         let told = self.teller.claim_word(who, stage, word)?;
@@ -193,7 +195,8 @@ impl Machine {
             (lane : ℕ) → AppliesWord word lane self.old (Reply.Finish told) self.new) }
         ensures refused { OnErr result (OnlyFinds self.old self.new) }
         ensures why { IfErr result (λ fault. IsNoWord word self.old fault) }
-        ensures found { IfErr result (λ fault. fault ≢ LedgerFault.NoMemory → waiting_in self.old ≤ free_in self.new) }
+        ensures found { IfErr result (λ fault.
+            fault ≢ LedgerFault.NoMemory → waiting_in self.old ≤ free_in self.new) }
     {
         self.teller.reserve(words_beside(self.relays.waiting))?;
         let seen = self.teller.told().len();
@@ -587,7 +590,8 @@ impl Machine {
         ensures cancels { OnOk result (CancelsAll who self.old self.new) }
         ensures refused { OnErr result (OnlyFinds self.old self.new) }
         ensures why { IfErr result (λ fault. IsNoCancel who self.old fault) }
-        ensures found { IfErr result (λ fault. fault ≡ StepFault.NoCaller → open_in self.old ≤ free_in self.new) }
+        ensures found { IfErr result (λ fault.
+            fault ≡ StepFault.NoCaller → open_in self.old ≤ free_in self.new) }
     {
         self.teller.reserve(open_stages(&self.teller) as usize)?;
         if who > LAST_CALLER {
@@ -655,18 +659,6 @@ impl Machine {
         ensures scopes { NoneOutlives self.now.follows (state_in self.now) }
     {
         &self.teller
-    }
-
-    /// The caller whose claim of a stage is open though the stage is settled, if there is one: what its function gives
-    /// comes too late. A host that asks this of each stage that is told hears of each such claim once.
-    pub fn stopped(&self, stage: u16) -> Option<u8>
-        requires { stage < stages_in self.now }
-        ensures { result ≡ stopped_in (state_in self.now) stage }
-    {
-        if self.teller.outcome(stage).is_none() {
-            return None;
-        }
-        self.teller.ledger().claimant(stage)
     }
 
     /// The ledger, with its words. No relay is open whose stage is settled, and no stage within a scope that has ended.

@@ -32,7 +32,8 @@ pub(crate) fn end_all(teller: &mut Teller, relays: &Relays, ending: Ending, who:
         ≤ teller.old.ledger.free }
     ensures behind { NoneBehind relays.now.follows.items (state_of teller.new.ledger).stages }
     ensures none { NoneToEnd teller.new.lanes.of ending (state_of teller.new.ledger) }
-    ensures settles { SettlesDue (IsRelayOr relays.now.follows.items (IsEnded teller.old.lanes.of ending)) who teller.old teller.new }
+    ensures settles { SettlesDue (IsRelayOr relays.now.follows.items (IsEnded teller.old.lanes.of ending)) who
+        teller.old teller.new }
 {
     let mut seen = teller.told().len();
     while let Some(due) = next_ended(teller, relays, &mut seen, ending) {

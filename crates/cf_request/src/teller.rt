@@ -162,7 +162,8 @@ impl Teller {
     pub fn claim_word(&mut self, who: u8, stage: u16, word: u64) -> Result<Claimed, LedgerFault>
         requires read { event_of word ≡ Some (Event.Claim who stage) }
         requires named { word_of (Event.Claim who stage) ≡ word }
-        ensures done { IfOk result (λ told. (lane : ℕ) → TellsWord lane word self.old (Reply.Claim told) self.new) }
+        ensures done { IfOk result (λ told.
+            (lane : ℕ) → TellsWord lane word self.old (Reply.Claim told) self.new) }
         ensures settles_none { OnOk result (self.new.told ≡ self.old.told) }
         ensures all { OnOk result (HasLanes (state_of self.old.ledger) self.old.lanes.of) }
         ensures refused { OnErr result (self.new ≡ self.old) }
@@ -204,7 +205,8 @@ impl Teller {
     ) -> Result<Finished, LedgerFault>
         requires read { event_of word ≡ Some (Event.Finish who stage answer) }
         requires named { word_of (Event.Finish who stage answer) ≡ word }
-        ensures done { IfOk result (λ told. (lane : ℕ) → TellsWord lane word self.old (Reply.Finish told) self.new) }
+        ensures done { IfOk result (λ told.
+            (lane : ℕ) → TellsWord lane word self.old (Reply.Finish told) self.new) }
         ensures all { OnOk result (HasLanes (state_of self.old.ledger) self.old.lanes.of) }
         ensures refused { OnErr result (self.new ≡ self.old) }
         ensures why { IfErr result (λ fault. LedgerRefuses (state_of self.old.ledger) word fault) }

@@ -145,8 +145,8 @@ const NONE: Result<Next, StepFault> = Ok(Next {
     taken: None,
 });
 
-/// Stage 4 is claimed when its scope ends. Its claim is told until it is finished, which comes too late.
-const STOPS: [Step; 8] = [
+/// Stage 4 is claimed when its scope ends. Its finish comes too late.
+const LATE: [Step; 5] = [
     Step::PutIn(4, 3, Ok(())),
     Step::Apply(COMPLETE_0, 0, SETTLED),
     Step::Next(
@@ -163,9 +163,7 @@ const STOPS: [Step; 8] = [
             }),
         }),
     ),
-    Step::Stopped(4, None),
     Step::EndScope(0, 3, Ok(())),
-    Step::Stopped(4, Some(7)),
     Step::Next(
         7,
         3,
@@ -181,7 +179,6 @@ const STOPS: [Step; 8] = [
             taken: None,
         }),
     ),
-    Step::Stopped(4, None),
 ];
 
 /// Source 2, which is outside, is the first success of two that are cancelled.
@@ -245,7 +242,7 @@ static CASES: [Case; 14] = [
     case!("settled before", &SETTLED_BEFORE),
     case!("refused", &REFUSED),
     case!("nothing is run", &RUNS_NONE),
-    case!("a claim is stopped", &STOPS),
+    case!("a finish comes late", &LATE),
     case!("a join outside", &JOIN_OUTSIDE),
     case!("a join within", &JOIN_WITHIN),
     case!("a scope starts again", &AGAIN),

@@ -39,8 +39,6 @@ pub(crate) enum Step {
     EndsWith(u16, u16, Result<(), MachineFault>),
     /// A caller, and the scope that it ends.
     EndScope(u8, u16, Result<(), StepFault>),
-    /// A stage, and whose claim of it is open though it is settled.
-    Stopped(u16, Option<u8>),
     /// A relay, and the stage that it follows, so many times.
     FollowOften(u16, u16, usize),
     Deadline(Deadline, Result<(), MachineFault>),
@@ -89,9 +87,6 @@ fn is_answered(alloc: Global, machine: &mut Machine, step: Step) -> bool {
         Step::PutIn(stage, scope, answer) => machine.put_in(stage, scope) == answer,
         Step::EndsWith(scope, stage, answer) => machine.ends_with(scope, stage) == answer,
         Step::EndScope(who, scope, answer) => machine.end_scope(who, scope) == answer,
-        Step::Stopped(stage, answer) => {
-            stage < machine.ledger().stages() && machine.stopped(stage) == answer
-        }
         Step::FollowOften(relay, stage, times) => follows_often(machine, relay, stage, times),
         Step::Deadline(deadline, answer) => machine.deadline(deadline) == answer,
         Step::DeadlineOften(deadline, times) => is_set_often(machine, deadline, times),
