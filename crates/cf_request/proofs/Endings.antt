@@ -2,27 +2,35 @@
 use Rattle.std.proofs.Common.{◌≡◌, ◌≢◌, ℕ, zero, suc, ◌+◌, ◌<◌, ◌≤◌, ◌==◌, Bool, true, false, cond, drop, get_or, map, set, take, Option, Some, None, List, [], ◌∷◌, ◌++◌, All, Contains, length, refl, ap, sym, ◌∙◌, arith, subst, append_assoc, append-nil, take-append-drop, inl, inr, ◌⊎◌}
 use Rattle.std.specs.List.{filter}
 use Rattle.std.specs.Option.{option_map_or}
-use Rattle.std.specs.Prelude.{is_some, slice_get}
+use Rattle.std.specs.Prelude.{is_some, option_and_then, slice_get}
 use Rattle.std.proofs.lemmas.Bool.{ltb-false, ltb-true}
 use Rattle.std.proofs.lemmas.List.Elements.{All-append, All-contains, All-filter, All-nil, All-push, All-weaker, Contains-append_cases, Contains-append_left, Contains-append_right}
 use Rattle.std.proofs.Math.Dec.{ltb}
-use Rattle.cf_outcome.specs.declared.outcome.Cause.TheVariants.{Cancelled, Thrown}
+use Rattle.cf_outcome.specs.declared.outcome.Cause.{Cause}
+use Rattle.cf_outcome.specs.declared.outcome.Cause.TheVariants.{Thrown, Cancelled, TimedOut, BadAnswer}
 use Rattle.cf_outcome.specs.declared.outcome.Outcome.{Outcome}
 use Rattle.cf_outcome.specs.declared.outcome.Outcome.TheVariants.{Value as Gives, Fault}
+use Rattle.cf_outcome.specs.Outcomes.{wrap}
 use Rattle.cf_forms.specs.declared.forms.Answer.{Answer}
+use Rattle.cf_forms.specs.declared.forms.Answer.TheVariants.{Link}
 use Rattle.cf_forms.specs.declared.forms.Args.{Args}
-use Rattle.cf_forms.specs.Plans.{PlannedStage, attached_stage}
+use Rattle.cf_forms.specs.Forms.{composes}
+use Rattle.cf_forms.specs.Plans.{PlannedStage, attached_stage, form_at}
 use Rattle.cf_model.specs.declared.events.Event.{Event}
 use Rattle.cf_model.specs.declared.events.Event.TheVariants.{Complete as Completes, Fail as Fails, FailAs as FailsAs, Cancel as Cancels, Claim as Claims, Finish as Finishes, Tick as Ticks, Attach as Attaches}
 use Rattle.cf_model.specs.declared.events.Reply.{Reply}
 use Rattle.cf_model.specs.declared.events.Reply.TheVariants.{Claim as ToldClaim, Finish as ToldFinish}
 use Rattle.cf_model.specs.declared.replies.Claimed.TheVariants.{Granted}
-use Rattle.cf_model.specs.declared.replies.Finished.TheVariants.{NotYours}
+use Rattle.cf_model.specs.declared.replies.Finished.TheVariants.{NotYours, Won}
 use Rattle.cf_model.specs.declared.stage.Stage.{Stage}
 use Rattle.cf_model.specs.declared.stage.Stage.TheVariants.{Pending, Ready, Claimed, Linked, Settled}
-use Rattle.cf_model.specs.Events.{answered, attached_by, cause_of, claimed_by, finished_by, state_after}
+use Rattle.cf_model.specs.Events.{answered, attached_by, cancelled_by, cause_of, claimed_by, finished_by, settled_by, state_after}
+use Rattle.cf_model.specs.Ranges.{EventFits}
 use Rattle.cf_model.specs.States.{State, claim_at, outcome_at, outcome_in, outcome_of, stage_at}
+use Rattle.cf_model.proofs.Closed.{reached_closed, reached_length}
+use Rattle.cf_model.proofs.Moves.{keeps_outcomes}
 use Rattle.cf_model.proofs.OpenClaims.{cancelled_claims, claim_before_close, claim_before_push, claim_before_set, finished_claims, same_claim, settled_claims, ticked_claims}
+use Rattle.cf_event.specs.Decoding.{event_of}
 use Rattle.cf_event.specs.Words.{word_of}
 use Rattle.cf_ledger.specs.Ledgers.{Ledger, roomier, stages_of, state_of}
 use Rattle.cf_ledger.specs.Steps.{finished_as}
@@ -30,26 +38,30 @@ use Rattle.cf_ledger.specs.declared.step.Finish.{Finish}
 use Rattle.cf_ledger.specs.declared.step.Held.{Held}
 use Rattle.cf_ledger.specs.declared.step.Taken.{Taken}
 use Rattle.cf_request.specs.Deadlines.{IsOverdue}
-use Rattle.cf_request.specs.Endings.{AreStops, EndsByJoins, EndsNothingElse, IsExact, IsOnward, JoinsAreExact, SettlesFirst, StopsOnce, WasEnded, WasSettled, stops_of}
+use Rattle.cf_request.specs.Endings.{AreStops, EndsByJoins, EndsNothingElse, IsExact, IsOnward, JoinsAreExact, SettlesFirst, StopsOnce, WasEnded, stops_of}
 use Rattle.cf_request.specs.Growing.{Grows}
-use Rattle.cf_request.specs.Joins.{IsJoin, IsUndecided, ending_of, failures_by, sources_of, values_by}
+use Rattle.cf_request.specs.Joins.{IsFollow, IsJoin, IsUndecided, ending_of, failures_by, sources_of, values_by}
 use Rattle.cf_request.specs.Lanes.{FinishesHeld, TakesIn}
+use Rattle.cf_request.specs.Linked.{CameFirst, EndsAs, HasTaken, LinksEndAlike}
 use Rattle.cf_request.specs.Machines.{AppliesWord, FindsForStep, Machine, SetsJoin, open_in, state_in}
 use Rattle.cf_request.specs.Refusals.{AllSettled, IsCancelled, IsRefused}
 use Rattle.cf_request.specs.Relays.{AreThere, IsNotBehind, IsRelayDue, IsRelayOr, NoneBehind}
 use Rattle.cf_request.specs.Rows.{AreCalls, HasWord, IsCall, IsLater, Out, Took, all_told, job_of, nothing}
 use Rattle.cf_request.specs.Rows.IsCall.{applies, goes_on, sets_join, sets_deadline, forgets, passes, refuses, cancels_all, took, grows, reserves, is_refused}
 use Rattle.cf_request.specs.Scopes.{EndsNow, stopped_in}
-use Rattle.cf_request.specs.Settling.{AreSettledInTurn, Settles, raw, settle_event}
+use Rattle.cf_request.specs.Settling.{AreSettledInTurn, Settles, fault_event, raw, settle_event}
 use Rattle.cf_request.specs.Telling.{AreSettled, IsApart, Teller, Tells, is_settled_in, order_in, with_memory}
+use Rattle.cf_request.specs.declared.composing.Composed.{Composed}
 use Rattle.cf_request.specs.declared.joins.Join.{Join}
 use Rattle.cf_request.specs.declared.settling.Due.{Due}
+use Rattle.cf_request.proofs.Decided.{decided_one}
 use Rattle.cf_request.proofs.Later.{later_free, later_grown, later_then, later_word, state_later}
+use Rattle.cf_request.proofs.Linked.{Becomes, IsLinkedNow, IsLinkedTo, becomes, both_open, get_there, linked_now}
 use Rattle.cf_request.proofs.Lists.{apart_append, contains_cases, contains_filter, contains_head, contains_tail}
 use Rattle.cf_request.proofs.Machines.{none_takes}
 use Rattle.cf_request.proofs.Rows.{adds_behind, first_settled, settled_call, tells_once}
-use Rattle.cf_request.proofs.Telling.{once, outcome_stage, stays}
-use Rattle.cf_request.proofs.Turns.{follows_word}
+use Rattle.cf_request.proofs.Telling.{next_is, once, outcome_stage, stays}
+use Rattle.cf_request.proofs.Turns.{after_event, follows_word}
 use Rattle.cf_request.proofs.Words.{none_lost}
 
 -- ---- lists
@@ -82,9 +94,10 @@ record Still (a b : Teller) : Type 0 where
   order : order_in b ≡ order_in a
   stages : (state_of b.ledger).stages ≡ (state_of a.ledger).stages
   count : stages_of b.ledger ≡ stages_of a.ledger
+  claims : (state_of b.ledger).claims ≡ (state_of a.ledger).claims
 
 still_free : (t : Teller) (n : ℕ) → Still t (record t { ledger = record t.ledger { free = n } })
-still_free t n = record { later = later_free t.ledger (record t.ledger { free = n }) refl refl; order = refl; stages = refl; count = refl }
+still_free t n = record { later = later_free t.ledger (record t.ledger { free = n }) refl refl; order = refl; stages = refl; count = refl; claims = refl }
 
 still_is : (a b : Teller) → b ≡ a → Still a b
 still_is a b same = subst (Still a) (sym same) (still_free a a.ledger.free)
@@ -165,17 +178,91 @@ ended_front follows j a b c on h =
       how = h.how;
     }
 
--- what becomes of its stage, and no stage goes
+-- ---- one linked stage
+
+-- it is linked still, has taken the outcome, or was settled first
+abbrev Comes : ℕ → ℕ → Teller → Teller → Type 0
+Comes stage other a b = IsLinkedTo stage other (state_of b.ledger) ⊎ (HasTaken stage other (state_of b.ledger) ⊎ CameFirst stage other a b)
+
+linked_still : (stage other : ℕ) (a b : Teller) → Still a b → IsLinkedTo stage other (state_of a.ledger) → IsLinkedTo stage other (state_of b.ledger)
+linked_still stage other a b h link = record {
+  lower = link.lower;
+  link = ap (λ (l : List Stage). slice_get l stage) h.stages ∙ link.link;
+  unclaimed = λ w now. link.unclaimed w (sym (same_claim stage (state_of a.ledger).claims (state_of b.ledger).claims h.claims) ∙ now);
+}
+
+outcome_since : (old new : Ledger) (i : ℕ) (o : Outcome) → IsLater old new → outcome_in (state_of old).stages i ≡ Some o → outcome_in (state_of new).stages i ≡ Some o
+outcome_since old new i o h is = ap (λ (s : State). outcome_in s.stages i) (state_later old new h) ∙ keeps_outcomes (roomier h.grown (state_of old)) h.more i o is
+
+some_of : (o : Option Outcome) → is_some o ≡ true → (x : Outcome) × (o ≡ Some x)
+some_of None h = cc
+some_of (Some x) h = (x, refl)
+
+settled_since : (old new : Ledger) (i : ℕ) → IsLater old new → is_settled_in (state_of old).stages i ≡ true → is_settled_in (state_of new).stages i ≡ true
+settled_since old new i h is = let was = some_of (outcome_in (state_of old).stages i) is in ap is_some (outcome_since old new i was.0 h was.1)
+
+taken_since : (stage other : ℕ) (a b : Teller) → IsOnward a b → HasTaken stage other (state_of a.ledger) → HasTaken stage other (state_of b.ledger)
+taken_since stage other a b on h = record {
+  outcome = h.outcome;
+  given = outcome_since a.ledger b.ledger other h.outcome on.later h.given;
+  taken = outcome_since a.ledger b.ledger stage (wrap h.outcome) on.later h.taken;
+}
+
+first_behind : (stage other : ℕ) (a b c : Teller) → CameFirst stage other a b → IsOnward b c → CameFirst stage other a c
+first_behind stage other a b c h on =
+    let w = h.was in
+    record {
+      was = record { before = w.before; after = w.after; word = w.word; reply = w.reply; since = w.since; tells = w.tells; rest = onward_then w.after b c w.rest on; open_then = w.open_then; settled = w.settled };
+      how = h.how;
+    }
+
+first_front : (stage other : ℕ) (a b c : Teller) → IsOnward a b → CameFirst stage other b c → CameFirst stage other a c
+first_front stage other a b c on h =
+    let w = h.was in
+    record {
+      was = record { before = w.before; after = w.after; word = w.word; reply = w.reply; since = onward_then a b w.before on w.since; tells = w.tells; rest = w.rest; open_then = w.open_then; settled = w.settled };
+      how = h.how;
+    }
+
+comes_front : (stage other : ℕ) (a b c : Teller) → IsOnward a b → Comes stage other b c → Comes stage other a c
+comes_front stage other a b c on (inl link) = inl link
+comes_front stage other a b c on (inr (inl taken)) = inr (inl taken)
+comes_front stage other a b c on (inr (inr first)) = inr (inr (first_front stage other a b c on first))
+
+link_there : (stage other : ℕ) (t : Teller) → IsLinkedTo stage other (state_of t.ledger) → stage < stages_of t.ledger
+link_there stage other t h =
+    let l = get_there (state_of t.ledger).stages stage (Linked other) h.link in
+    let all = reached_length t.ledger.plan t.ledger.events in
+    omega (arith, l, all)
+
+comes_by : (stage other : ℕ) (a b : Teller) (word : ℕ) (reply : Reply) → (t : Tells word a reply b) → IsLinkedTo stage other (state_of a.ledger) → Becomes stage other (state_of b.ledger) t.does.event → Comes stage other a b
+comes_by stage other a b word reply t h (inl link) = inl link
+comes_by stage other a b word reply t h (inr (inl taken)) = inr (inl taken)
+comes_by stage other a b word reply t h (inr (inr first)) = inr (inr (record {
+  was = record { before = a; after = b; word = word; reply = reply; since = onward_same a; tells = t; rest = onward_same b; open_then = ap is_some (ap (option_and_then outcome_of) h.link); settled = first.settled };
+  how = first.how;
+}))
+
+comes_word : (stage other : ℕ) (a b : Teller) (word : ℕ) (reply : Reply) → Tells word a reply b → IsLinkedTo stage other (state_of a.ledger) → Comes stage other a b
+comes_word stage other a b word reply t h =
+    let s = state_of a.ledger in
+    let e = t.does.event in
+    comes_by stage other a b word reply t h (subst (λ (r : State). Becomes stage other r e) (sym (next_is a.ledger b.ledger word reply t.does))
+    (becomes stage other s e (reached_closed a.ledger.plan a.ledger.events) (link_there stage other a h) h))
+
+-- what becomes of a join's stage, and of each linked one, and no stage goes
 record Walk (K : Type 0) (follows : List Join) (j : Join) (a b : Teller) : Type 0 where
   on : IsOnward a b
   count : stages_of a.ledger ≤ stages_of b.ledger
   fate : K → is_settled_in (state_of a.ledger).stages j.stage ≡ false → (is_settled_in (state_of b.ledger).stages j.stage ≡ false) ⊎ WasEnded follows j a b
+  linked : (stage other : ℕ) → IsLinkedTo stage other (state_of a.ledger) → Comes stage other a b
 
 walk_still : (K : Type 0) (follows : List Join) (j : Join) (a b : Teller) → Still a b → Walk K follows j a b
 walk_still K follows j a b h = record {
   on = still_onward a b h;
   count = (let same = h.count in omega (arith, same));
   fate = λ k o. inl (ap (λ (l : List Stage). is_settled_in l j.stage) h.stages ∙ o);
+  linked = λ stage other link. inl (linked_still stage other a b h link);
 }
 
 walk_then : (K : Type 0) (follows : List Join) (j : Join) (a b c : Teller) → Walk K follows j a b → Walk K follows j b c → Walk K follows j a c
@@ -186,6 +273,13 @@ walk_then K follows j a b c h k = record {
     | inl still ↦ elim (k.fate x still) [ inl last ↦ inl last | inr e ↦ inr (ended_front follows j a b c h.on e) ]
     | inr e ↦ inr (ended_behind follows j a b c e k.on)
   ];
+  linked = λ stage other link. elim (h.linked stage other link) [
+    | inl still ↦ comes_front stage other a b c h.on (k.linked stage other still)
+    | inr rest ↦ elim rest [
+      | inl taken ↦ inr (inl (taken_since stage other b c k.on taken))
+      | inr first ↦ inr (inr (first_behind stage other a b c first k.on))
+    ]
+  ];
 }
 
 walk_more : (K : Type 0) (follows more : List Join) (j : Join) (a b : Teller) → Walk K follows j a b → Walk K (follows ++ more) j a b
@@ -193,6 +287,7 @@ walk_more K follows more j a b h = record {
   on = h.on;
   count = h.count;
   fate = λ k o. elim (h.fate k o) [ inl still ↦ inl still | inr e ↦ inr (ended_more follows more j a b e) ];
+  linked = h.linked;
 }
 
 tests : (b : Bool) → (b ≡ true) ⊎ (b ≡ false)
@@ -216,6 +311,7 @@ walk_step K follows j a b word reply t how = record {
     | inl is ↦ inr (ended_now follows j a b word reply t o is (how k o))
     | inr still ↦ inl still
   ];
+  linked = λ stage other link. comes_word stage other a b word reply t link;
 }
 
 -- a word is done where none is behind
@@ -310,6 +406,7 @@ still_took count old new h =
           ∙ append_assoc a.taken (take count a.told) (drop count a.told) ∙ ap (λ (l : List ℕ). a.taken ++ l) (take-append-drop count a.told);
       stages = ap (λ (l : Ledger). (state_of l).stages) h.ledger;
       count = ap (λ (l : Ledger). stages_of l) h.ledger;
+      claims = ap (λ (l : Ledger). (state_of l).claims) h.ledger;
     }
 
 still_grown : (old new : Machine) → Grows old new → Still old.teller new.teller
@@ -321,6 +418,7 @@ still_grown old new h =
       order = ap order_in same;
       stages = ap (λ (s : State). s.stages) h.state;
       count = ap (λ (s : State). length s.plan.stages) h.state;
+      claims = ap (λ (s : State). s.claims) h.state;
     }
 
 -- one more is set
@@ -628,4 +726,113 @@ stops_once old new outs stops opened h =
       apart = apart_stops old new outs stops h ((apart_parts (all_told outs) new.teller.told told.once.apart).first);
       told = told_stops old new outs stops h;
       all = λ i k is. all_stops old new outs stops i (first_settled old opened) h k is;
+    }
+
+-- ---- a compose that is linked
+
+-- settling stages one after another leaves the plan
+settled_plan : (x : Option Outcome) (s : State) (i : ℕ) (o : Outcome) → (settled_by x s i o).1.plan ≡ s.plan
+settled_plan None s i o = refl
+settled_plan (Some p) s i o = refl
+
+cancelled_plan : (x : Option Outcome) (s : State) (i : ℕ) → (cancelled_by x s i).1.plan ≡ s.plan
+cancelled_plan None s i = refl
+cancelled_plan (Some p) s i = refl
+
+fault_plan : (s : State) (who i : ℕ) (cause : Cause) → (answered s (fault_event who i cause)).1.plan ≡ s.plan
+fault_plan s who i (Thrown code) = settled_plan (outcome_at s i) s i (Fault (Thrown code) false)
+fault_plan s who i Cancelled = cancelled_plan (outcome_at s i) s i
+fault_plan s who i (TimedOut code) = settled_plan (outcome_at s i) s i (Fault (TimedOut code) false)
+fault_plan s who i (BadAnswer code) = settled_plan (outcome_at s i) s i (Fault (BadAnswer code) false)
+
+settle_plan : (s : State) (who i : ℕ) (o : Outcome) → (answered s (settle_event who i o)).1.plan ≡ s.plan
+settle_plan s who i (Gives v) = settled_plan (outcome_at s i) s i (Gives v)
+settle_plan s who i (Fault cause wrapped) = fault_plan s who i cause
+
+plan_in_turn : (P : Teller → Due → Type 0) (who : ℕ) (dues : List Due) (a b : Teller) → AreSettledInTurn P who a dues b → (state_of b.ledger).plan ≡ (state_of a.ledger).plan
+plan_in_turn P who [] a b same = ap (λ (t : Teller). (state_of t.ledger).plan) same
+plan_in_turn P who (d ∷ dues) a b (between, waits, due, did, rest) =
+    plan_in_turn P who dues between b rest ∙ ap (λ (s : State). s.plan) (after_event (settle_event who d.stage d.outcome) a between did.reply did.done) ∙ settle_plan (state_of a.ledger) who d.stage d.outcome
+
+-- it is linked by its finish
+finish_links : (who : ℕ) (composed : Composed) (f : Finish) (a b : Teller) (reply : Reply) → HasWord (Finishes who composed.stage (Link composed.relay)) → composes (form_at (state_of a.ledger).plan.stages composed.stage) ≡ true → composed.relay < composed.stage → f.late ≡ false →
+    f.word ≡ word_of (Finishes who composed.stage (Link composed.relay)) → reply ≡ ToldFinish (finished_as f.late) → Tells f.word a reply b → IsLinkedNow composed.stage composed.relay (state_of b.ledger)
+finish_links who composed f a b reply named form lower late word is t =
+    let e = Finishes who composed.stage (Link composed.relay) in
+    let does = t.does in
+    let event : does.event ≡ e = (let was = does.read in let here = ap event_of word in cc) in
+    let won : reply ≡ ToldFinish Won = is ∙ ap (λ (b : Bool). let r : Reply = ToldFinish (finished_as b) in r) late in
+    let told : (ToldFinish Won, state_of b.ledger) ≡ answered (state_of a.ledger) e = ap (λ (r : Reply). (r, state_of b.ledger)) (sym won) ∙ does.told ∙ ap (answered (state_of a.ledger)) event in
+    let fits = subst (EventFits (stages_of a.ledger)) event does.taken.fits in
+    let all = reached_length a.ledger.plan a.ledger.events in
+    let there : composed.stage < length (state_of a.ledger).stages = omega (arith, fits, all) in
+    linked_now composed.stage composed.relay who (state_of a.ledger) (state_of b.ledger) form lower there told
+
+-- and ends as its relay from then on
+ends_by : (stage other : ℕ) (old b new : Teller) → IsOnward old b → IsOnward b new → (IsLinkedTo stage other (state_of b.ledger) → Comes stage other b new) → IsLinkedNow stage other (state_of b.ledger) → EndsAs stage other old new
+ends_by stage other old b new before behind comes (inr taken) = inr (inl (taken_since stage other b new behind taken))
+ends_by stage other old b new before behind comes (inl link) = elim (comes link) [
+  | inl still ↦ inl (both_open stage other (state_of new.ledger) (reached_closed new.ledger.plan new.ledger.events) (link_there stage other new still) still)
+  | inr rest ↦ elim rest [
+    | inl taken ↦ inr (inl taken)
+    | inr first ↦ inr (inr (first_front stage other old b new before first))
+  ]
+]
+
+-- a relay is settled once the stage is
+relay_ended : (s : State) (follows : List Join) (j : Join) (relay stage : ℕ) → AreThere s follows → NoneBehind follows s.stages → Contains follows j → IsFollow relay stage j → is_settled_in s.stages stage ≡ true → is_settled_in s.stages relay ≡ true
+relay_ended s follows j relay stage there none among h ended =
+    let n = length s.plan.stages in
+    let join : IsJoin n j = All-contains (IsJoin n) follows j there among in
+    let behind : IsNotBehind s.stages j = All-contains (IsNotBehind s.stages) follows j none among in
+    let is = some_of (outcome_in s.stages stage) ended in
+    subst (λ (i : ℕ). is_settled_in s.stages i ≡ true) h.same (behind (decided_one (outcome_in s.stages) n j is.0 join h.none (ap (outcome_in s.stages) h.source ∙ is.1)))
+
+-- and so is the compose
+compose_ended : (stage other : ℕ) (old new : Teller) → EndsAs stage other old new → is_settled_in (state_of new.ledger).stages other ≡ true → is_settled_in (state_of new.ledger).stages stage ≡ true
+compose_ended stage other old new (inl both) is = (let no : true ≡ false = sym is ∙ both.other_open in let never : ⊥ = cc in absurd never)
+compose_ended stage other old new (inr (inl taken)) is = ap is_some taken.taken
+compose_ended stage other old new (inr (inr first)) is = settled_since first.was.after.ledger new.ledger stage first.was.rest.later first.was.settled
+
+pub links_end_alike : LinksEndAlike
+links_end_alike first old linked new before after who composed stage finish opened none calls named form lower h late rest =
+    let c = composed.stage in
+    let r = composed.relay in
+    let sets = h.linked.follows in
+    let j = sets.join in
+    let m : Machine = record old { teller = h.found } in
+    let between = h.linked.between in
+    let applied = h.linked.finishes.applies in
+    let K = Unit {0} in
+    let sound = sound_row first old before (sound_first first none) calls j in
+    let found = still_found h.finds.words old.teller h.found h.finds.is in
+    let found_sound = called_still K j old m refl found sound in
+    let one = called_set K j j m between found_sound.sound sets.sets in
+    let among : Contains between.follows j = subst (λ (l : List Join). Contains l j) (sym sets.sets.set) (Contains-append_right old.follows (j ∷ []) j (0, omega arith, refl)) in
+    let done = applies finish.word 0 (ToldFinish (finished_as finish.late)) refl applied in
+    let two = call K j between linked nothing (λ k. among) one.sound done in
+    let linked_follows : linked.follows ≡ between.follows = ap (λ (m : Machine). m.follows) applied.same in
+    let among_linked : Contains linked.follows j = subst (λ (l : List Join). Contains l j) (sym linked_follows) among in
+    let on = row K j linked new after (λ k. among_linked) two.sound rest in
+    let more = λ (l : List Join) (a b : Teller) (same : l ≡ linked.follows) (w : Walk K l j a b). subst (λ (fs : List Join). Walk K fs j a b) (sym on.follows) (walk_more K linked.follows on.more j a b (subst (λ (fs : List Join). Walk K fs j a b) same w)) in
+    let to_found = walk_still K new.follows j old.teller h.found found in
+    let to_between = more between.follows h.found between.teller (sym linked_follows) one.walk in
+    let to_linked = more linked.follows between.teller linked.teller refl two.walk in
+    let all = walk_then K new.follows j old.teller h.found new.teller to_found
+    (walk_then K new.follows j h.found between.teller new.teller to_between (walk_then K new.follows j between.teller linked.teller new.teller to_linked on.walk)) in
+    let last_found = still_found applied.finds.words between.teller applied.found applied.finds.is in
+    let b = applied.between in
+    let tail = walk_turns K between.follows j between.own applied.catches_up.settles.dues b linked.teller applied.catches_up.settles.are in
+    let behind = walk_then K new.follows j b linked.teller new.teller (more between.follows b linked.teller (sym linked_follows) tail) on.walk in
+    let front = onward_then old.teller h.found b to_found.on
+    (onward_then h.found between.teller b one.walk.on (onward_then between.teller applied.found b (still_onward between.teller applied.found last_found) (onward_word applied.found b finish.word (ToldFinish (finished_as finish.late)) applied.tells.tells))) in
+    let plan : (state_of applied.found.ledger).plan ≡ (state_in old).plan = ap (λ (t : Teller). (state_of t.ledger).plan) applied.finds.is ∙ plan_in_turn (IsRelayDue between.follows) old.own sets.sets.catches_up.settles.dues sets.sets.found between.teller sets.sets.catches_up.settles.are
+    ∙ ap (λ (t : Teller). (state_of t.ledger).plan) sets.sets.finds.is ∙ ap (λ (t : Teller). (state_of t.ledger).plan) h.finds.is in
+    let now = finish_links who composed finish applied.found b (ToldFinish (finished_as finish.late)) named (ap (λ p. composes (form_at p.stages c)) plan ∙ form) lower late h.linked.finishes.word refl applied.tells.tells in
+    let ends = ends_by c r old.teller b new.teller front behind.on (behind.linked c r) now in
+    let in_new : Contains new.follows j = subst (λ (l : List Join). Contains l j) (sym on.follows) (Contains-append_left linked.follows on.more j among_linked) in
+    record {
+      settled = λ is. compose_ended c r old.teller new.teller ends (relay_ended (state_in new) new.follows j r stage on.sound.there on.sound.none in_new sets.is is);
+      compose = ends;
+      relay = record { join = j; is = sets.is; exact = λ o. exact_by new.follows j old.teller new.teller in_new on.sound.none (all.fate tt (subst (λ (i : ℕ). is_settled_in (state_in old).stages i ≡ false) (sym sets.is.same) o)) };
     }

@@ -1,5 +1,5 @@
 -- Scopes, and how they end.
-use Rattle.std.proofs.Common.{◌≡◌, ◌≢◌, ℕ, ◌+◌, ◌<◌, ◌≤◌, Bool, true, false, Option, Some, None, List, [], ◌∷◌, ◌++◌, All, length, map, refl, ap, sym, ◌∙◌, arith, subst, inl, inr, ◌⊎◌}
+use Rattle.std.proofs.Common.{◌≡◌, ℕ, ◌+◌, ◌<◌, ◌≤◌, Bool, true, false, Option, Some, None, List, [], ◌∷◌, ◌++◌, All, length, map, refl, ap, sym, ◌∙◌, arith, subst, inl, inr, ◌⊎◌}
 use Rattle.std.specs.Prelude.{is_some, slice_get}
 use Rattle.std.proofs.Math.Nat.{le-max_left}
 use Rattle.std.proofs.lemmas.List.Elements.{All-cons, All-contains, All-head, All-nil, All-push, All-tail, All-weaker}
@@ -26,7 +26,7 @@ use Rattle.cf_request.specs.Attaching.{TellsAttach}
 use Rattle.cf_request.specs.Joins.{IsJoin, IsOfOne, sources_of}
 use Rattle.cf_request.specs.Machines.{AppliesWord, AreBothThere, IsMachine, IsNoFollow, IsShortFor, Machine, NoRelayFits, OnlyFinds, SetsJoin, free_in, most_words, stages_in, state_in, waiting_in}
 use Rattle.cf_request.specs.Relays.{AreRelays, AreThere, IsNotBehind, IsRelayDue, MarksAll, NoneBehind, waiting_of}
-use Rattle.cf_request.specs.Rows.{AreCalls, IsCall, Job, Out, all_jobs, nothing, stage_of}
+use Rattle.cf_request.specs.Rows.{AreCalls, IsCall, Job, all_jobs, nothing, stage_of}
 use Rattle.cf_request.specs.Rows.IsCall.{applies, sets_join}
 use Rattle.cf_request.specs.Scopes.{AttachesFound, AttachesIn, FindsPlace, HasEnded, IsOf, IsWithin, MayAttach, NoneOpenWithin, NoneOutlives, PutsIn, RunsNoneWithin}
 use Rattle.cf_request.specs.Scopes.IsWithin.{outer, inner}

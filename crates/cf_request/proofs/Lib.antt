@@ -18,4 +18,5 @@ pub mod Attached
 pub mod Gathered
 pub mod Composes
 pub mod Ends
+pub mod Linked
 pub mod Endings

@@ -4,12 +4,11 @@ use Rattle.std.specs.List.{filter}
 use Rattle.cf_model.specs.declared.events.Event.{Event}
 use Rattle.cf_model.specs.declared.events.Event.TheVariants.{Cancel as Cancels}
 use Rattle.cf_model.specs.declared.events.Reply.{Reply}
-use Rattle.cf_model.specs.declared.stage.Stage.{Stage}
 use Rattle.cf_model.specs.States.{State, outcome_in}
 use Rattle.cf_ledger.specs.Ledgers.{state_of}
 use Rattle.cf_request.specs.Joins.{IsUndecided}
 use Rattle.cf_request.specs.Machines.{Machine, SetsJoin, state_in}
-use Rattle.cf_request.specs.Relays.{IsRelayDue, NoneBehind}
+use Rattle.cf_request.specs.Relays.{IsRelayDue}
 use Rattle.cf_request.specs.Rows.{AreCalls, HasWord, IsCall, IsLater, IsOpened, Out, all_told}
 use Rattle.cf_request.specs.Scopes.{EndsScope, stopped_in}
 use Rattle.cf_request.specs.Settling.{AreSettledInTurn, settle_event}

@@ -14,3 +14,4 @@ pub mod Growing
 pub mod Rows
 pub mod Scopes
 pub mod Endings
+pub mod Linked

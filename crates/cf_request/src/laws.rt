@@ -2,6 +2,7 @@
 //! any row of calls, by any callers, in any order.
 ghost use Rattle.cf_request.specs.Endings.{EndsNothingElse, JoinsAreExact, StopsOnce};
 ghost use Rattle.cf_request.specs.Gathering.{GathersAsOne, GathersAtOnce};
+ghost use Rattle.cf_request.specs.Linked.{LinksEndAlike};
 ghost use Rattle.cf_request.specs.Rows.{AddsBehind, BeginsAnew, ComesToAnEnd, RunsOnce, TellsOnce, WordsTellAll};
 ghost use Rattle.cf_request.specs.Scopes.{RunsNoneWithin};
 
@@ -74,4 +75,11 @@ pub fn scopes_end_nothing_else()
 /// each that it could hear of: what is open still was open as its stage was told.
 pub fn each_stop_is_told_once()
     ensures { StopsOnce }
+{}
+
+/// A compose that was linked in time ends as its relay, and that follows the stage, after any row of calls. Once the stage
+/// is settled, the compose is. It has the relay's outcome, wrapped, unless it was settled first: by a word that left the
+/// relay open, or by a tick. The relay is a join of one, of which `joins_are_exact` holds.
+pub fn linked_composes_end_alike()
+    ensures { LinksEndAlike }
 {}
