@@ -81,12 +81,15 @@ push_it p stages front i none off =
     let e : cond (p (outcome_in stages i)) (one_if (i == i)) 0 ≡ one_if (p (outcome_in stages i)) = ap (λ (b : Bool). cond (p (outcome_in stages i)) (one_if b) 0) it in
     omega (arith, a, b, e)
 
+-- another stage more is nothing to one
+pub among_other : (xs : List ℕ) (i s : ℕ) → s ≢ i → is_among (xs ++ i ∷ []) s ≡ is_among xs s
+among_other xs i s other = among_push xs i s ∙ ap (λ (b : Bool). is_among xs s || (b || false)) (ne_eqb i s (λ e. other (sym e))) ∙ or_off (is_among xs s)
+
 push_other : (p : Option Outcome → Bool) (stages : List Stage) (front : List ℕ) (i s : ℕ) → p None ≡ false → s ≢ i →
     one_if (p (outcome_among stages (front ++ i ∷ []) s)) ≡ one_if (p (outcome_among stages front s)) + cond (p (outcome_in stages i)) (one_if (s == i)) 0
 push_other p stages front i s none other =
-    let ne : (i == s) ≡ false = ne_eqb i s (λ e. other (sym e)) in
     let en : (s == i) ≡ false = ne_eqb s i other in
-    let same : is_among (front ++ i ∷ []) s ≡ is_among front s = among_push front i s ∙ ap (λ (b : Bool). is_among front s || (b || false)) ne ∙ or_off (is_among front s) in
+    let same = among_other front i s other in
     let now = ap (λ (b : Bool). one_if (p (cond b (outcome_in stages s) None))) same in
     let e : cond (p (outcome_in stages i)) (one_if (s == i)) 0 ≡ 0 = ap (λ (b : Bool). cond (p (outcome_in stages i)) (one_if b) 0) en ∙ nothing (p (outcome_in stages i)) in
     omega (arith, now, e)
@@ -261,6 +264,19 @@ decided_by_it s settled n j o once h none is =
       decides = decided_one (outcome_among s.stages (front ++ i ∷ [])) n j o h none (ap (λ (b : Bool). cond b (outcome_in s.stages i) None) on ∙ is);
       outcome = is;
     }
+
+-- a join of one is decided by its source
+decided_source : (stages : List Stage) (n : ℕ) (j : Join) (front : List ℕ) (by : ℕ) (x : Option Outcome) → IsJoin n j → j.others.items ≡ [] → outcome_among stages front j.source ≡ x → IsUndecided (outcome_among stages front) j →
+    ¬ IsUndecided (outcome_among stages (front ++ by ∷ [])) j → j.source ≢ by → ⊥
+decided_source stages n j front by (Some o) h none is before decides other = decided_one (outcome_among stages front) n j o h none is before
+decided_source stages n j front by None h none is before decides other =
+    decides (undecided_one (outcome_among stages (front ++ by ∷ [])) n j h none (ap (λ (b : Bool). cond b (outcome_in stages j.source) None) (among_other front by j.source other) ∙ is))
+
+pub source_decides : (stages : List Stage) (settled : List ℕ) (n : ℕ) (j : Join) (o : Outcome) → IsJoin n j → j.others.items ≡ [] → IsDecided stages settled j o → outcome_in stages j.source ≡ Some o
+source_decides stages settled n j o h none d = elim (cases_eq j.source d.by) [
+  | inl same ↦ ap (outcome_in stages) same ∙ d.outcome
+  | inr other ↦ absurd (decided_source stages n j d.front d.by (outcome_among stages d.front j.source) h none refl d.before d.decides other)
+]
 
 pub none_else : (i : ℕ) (xs : List ℕ) → length (i ∷ xs) ≡ 1 → xs ≡ []
 none_else i [] h = refl

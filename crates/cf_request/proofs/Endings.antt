@@ -10,6 +10,7 @@ use Rattle.cf_outcome.specs.declared.outcome.Cause.{Cause}
 use Rattle.cf_outcome.specs.declared.outcome.Cause.TheVariants.{Thrown, Cancelled, TimedOut, BadAnswer}
 use Rattle.cf_outcome.specs.declared.outcome.Outcome.{Outcome}
 use Rattle.cf_outcome.specs.declared.outcome.Outcome.TheVariants.{Value as Gives, Fault}
+use Rattle.cf_outcome.specs.declared.outcome.Value.TheVariants.{Nil}
 use Rattle.cf_outcome.specs.Outcomes.{wrap}
 use Rattle.cf_forms.specs.declared.forms.Answer.{Answer}
 use Rattle.cf_forms.specs.declared.forms.Answer.TheVariants.{Link}
@@ -38,28 +39,28 @@ use Rattle.cf_ledger.specs.declared.step.Finish.{Finish}
 use Rattle.cf_ledger.specs.declared.step.Held.{Held}
 use Rattle.cf_ledger.specs.declared.step.Taken.{Taken}
 use Rattle.cf_request.specs.Deadlines.{IsOverdue}
-use Rattle.cf_request.specs.Endings.{AreStops, EndsByJoins, EndsNothingElse, IsExact, IsOnward, JoinsAreExact, SettlesFirst, StopsOnce, WasEnded, stops_of}
+use Rattle.cf_request.specs.Endings.{AreStops, IsExact, IsOnward, SettlesFirst, WasEnded, WasSettled, stops_of}
 use Rattle.cf_request.specs.Growing.{Grows}
-use Rattle.cf_request.specs.Joins.{IsFollow, IsJoin, IsUndecided, ending_of, failures_by, sources_of, values_by}
+use Rattle.cf_request.specs.Joins.{IsDueBy, IsFollow, IsJoin, IsUndecided, ending_by, ending_of, failures_by, sources_of, values_by}
 use Rattle.cf_request.specs.Lanes.{FinishesHeld, TakesIn}
-use Rattle.cf_request.specs.Linked.{CameFirst, EndsAs, HasTaken, LinksEndAlike}
-use Rattle.cf_request.specs.Machines.{AppliesWord, FindsForStep, Machine, SetsJoin, open_in, state_in}
+use Rattle.cf_request.specs.Linked.{AreBothOpen, CameFirst, EndsAs, FollowsExactly, HasFollowed, HasTaken, WasOvertaken}
+use Rattle.cf_request.specs.Machines.{FindsForStep, Machine, SetsJoin, open_in, state_in}
 use Rattle.cf_request.specs.Refusals.{AllSettled, IsCancelled, IsRefused}
 use Rattle.cf_request.specs.Relays.{AreThere, IsNotBehind, IsRelayDue, IsRelayOr, NoneBehind}
 use Rattle.cf_request.specs.Rows.{AreCalls, HasWord, IsCall, IsLater, Out, Took, all_told, job_of, nothing}
 use Rattle.cf_request.specs.Rows.IsCall.{applies, goes_on, sets_join, sets_deadline, forgets, passes, refuses, cancels_all, took, grows, reserves, is_refused}
-use Rattle.cf_request.specs.Scopes.{EndsNow, stopped_in}
+use Rattle.cf_request.specs.Scopes.{stopped_in}
 use Rattle.cf_request.specs.Settling.{AreSettledInTurn, Settles, fault_event, raw, settle_event}
 use Rattle.cf_request.specs.Telling.{AreSettled, IsApart, Teller, Tells, is_settled_in, order_in, with_memory}
 use Rattle.cf_request.specs.declared.composing.Composed.{Composed}
 use Rattle.cf_request.specs.declared.joins.Join.{Join}
 use Rattle.cf_request.specs.declared.settling.Due.{Due}
-use Rattle.cf_request.proofs.Decided.{decided_one}
+use Rattle.cf_request.proofs.Decided.{decided_one, source_decides}
 use Rattle.cf_request.proofs.Later.{later_free, later_grown, later_then, later_word, state_later}
 use Rattle.cf_request.proofs.Linked.{Becomes, IsLinkedNow, IsLinkedTo, becomes, both_open, get_there, linked_now}
 use Rattle.cf_request.proofs.Lists.{apart_append, contains_cases, contains_filter, contains_head, contains_tail}
 use Rattle.cf_request.proofs.Machines.{none_takes}
-use Rattle.cf_request.proofs.Rows.{adds_behind, first_settled, settled_call, tells_once}
+use Rattle.cf_request.proofs.Rows.{adds_behind, settled_call}
 use Rattle.cf_request.proofs.Telling.{next_is, once, outcome_stage, stays}
 use Rattle.cf_request.proofs.Turns.{after_event, follows_word}
 use Rattle.cf_request.proofs.Words.{none_lost}
@@ -74,14 +75,14 @@ at_place (x ∷ xs) (suc k) d l = contains_tail x (get_or xs k d) xs (at_place x
 
 -- ---- tellers later on
 
-onward_then : (a b c : Teller) → IsOnward a b → IsOnward b c → IsOnward a c
+pub onward_then : (a b c : Teller) → IsOnward a b → IsOnward b c → IsOnward a c
 onward_then a b c h k = record {
   later = later_then a.ledger b.ledger c.ledger h.later k.later;
   more = h.more ++ k.more;
   order = k.order ∙ ap (λ (l : List ℕ). l ++ k.more) h.order ∙ append_assoc (order_in a) h.more k.more;
 }
 
-onward_word : (a b : Teller) (word : ℕ) (reply : Reply) → Tells word a reply b → IsOnward a b
+pub onward_word : (a b : Teller) (word : ℕ) (reply : Reply) → Tells word a reply b → IsOnward a b
 onward_word a b word reply t = record {
   later = later_word a.ledger b.ledger word reply t.does;
   more = t.fresh;
@@ -89,12 +90,12 @@ onward_word a b word reply t = record {
 }
 
 -- nothing is settled
-record Still (a b : Teller) : Type 0 where
-  later : IsLater a.ledger b.ledger
-  order : order_in b ≡ order_in a
-  stages : (state_of b.ledger).stages ≡ (state_of a.ledger).stages
-  count : stages_of b.ledger ≡ stages_of a.ledger
-  claims : (state_of b.ledger).claims ≡ (state_of a.ledger).claims
+pub record Still (a b : Teller) : Type 0 where
+  pub later : IsLater a.ledger b.ledger
+  pub order : order_in b ≡ order_in a
+  pub stages : (state_of b.ledger).stages ≡ (state_of a.ledger).stages
+  pub count : stages_of b.ledger ≡ stages_of a.ledger
+  pub claims : (state_of b.ledger).claims ≡ (state_of a.ledger).claims
 
 still_free : (t : Teller) (n : ℕ) → Still t (record t { ledger = record t.ledger { free = n } })
 still_free t n = record { later = later_free t.ledger (record t.ledger { free = n }) refl refl; order = refl; stages = refl; count = refl; claims = refl }
@@ -102,10 +103,10 @@ still_free t n = record { later = later_free t.ledger (record t.ledger { free = 
 still_is : (a b : Teller) → b ≡ a → Still a b
 still_is a b same = subst (Still a) (sym same) (still_free a a.ledger.free)
 
-still_found : (words : ℕ) (a b : Teller) → b ≡ with_memory words a → Still a b
+pub still_found : (words : ℕ) (a b : Teller) → b ≡ with_memory words a → Still a b
 still_found words a b same = subst (Still a) (sym same) (still_free a (with_memory words a).ledger.free)
 
-still_onward : (a b : Teller) → Still a b → IsOnward a b
+pub still_onward : (a b : Teller) → Still a b → IsOnward a b
 still_onward a b h = record { later = h.later; more = []; order = h.order ∙ sym (append-nil (order_in a)) }
 
 onward_same : (t : Teller) → IsOnward t t
@@ -251,13 +252,13 @@ comes_word stage other a b word reply t h =
     (becomes stage other s e (reached_closed a.ledger.plan a.ledger.events) (link_there stage other a h) h))
 
 -- what becomes of a join's stage, and of each linked one, and no stage goes
-record Walk (K : Type 0) (follows : List Join) (j : Join) (a b : Teller) : Type 0 where
-  on : IsOnward a b
-  count : stages_of a.ledger ≤ stages_of b.ledger
-  fate : K → is_settled_in (state_of a.ledger).stages j.stage ≡ false → (is_settled_in (state_of b.ledger).stages j.stage ≡ false) ⊎ WasEnded follows j a b
-  linked : (stage other : ℕ) → IsLinkedTo stage other (state_of a.ledger) → Comes stage other a b
+pub record Walk (K : Type 0) (follows : List Join) (j : Join) (a b : Teller) : Type 0 where
+  pub on : IsOnward a b
+  pub count : stages_of a.ledger ≤ stages_of b.ledger
+  pub fate : K → is_settled_in (state_of a.ledger).stages j.stage ≡ false → (is_settled_in (state_of b.ledger).stages j.stage ≡ false) ⊎ WasEnded follows j a b
+  pub linked : (stage other : ℕ) → IsLinkedTo stage other (state_of a.ledger) → Comes stage other a b
 
-walk_still : (K : Type 0) (follows : List Join) (j : Join) (a b : Teller) → Still a b → Walk K follows j a b
+pub walk_still : (K : Type 0) (follows : List Join) (j : Join) (a b : Teller) → Still a b → Walk K follows j a b
 walk_still K follows j a b h = record {
   on = still_onward a b h;
   count = (let same = h.count in omega (arith, same));
@@ -265,7 +266,7 @@ walk_still K follows j a b h = record {
   linked = λ stage other link. inl (linked_still stage other a b h link);
 }
 
-walk_then : (K : Type 0) (follows : List Join) (j : Join) (a b c : Teller) → Walk K follows j a b → Walk K follows j b c → Walk K follows j a c
+pub walk_then : (K : Type 0) (follows : List Join) (j : Join) (a b c : Teller) → Walk K follows j a b → Walk K follows j b c → Walk K follows j a c
 walk_then K follows j a b c h k = record {
   on = onward_then a b c h.on k.on;
   count = (let m = h.count in let n = k.count in omega (arith, m, n));
@@ -282,7 +283,7 @@ walk_then K follows j a b c h k = record {
   ];
 }
 
-walk_more : (K : Type 0) (follows more : List Join) (j : Join) (a b : Teller) → Walk K follows j a b → Walk K (follows ++ more) j a b
+pub walk_more : (K : Type 0) (follows more : List Join) (j : Join) (a b : Teller) → Walk K follows j a b → Walk K (follows ++ more) j a b
 walk_more K follows more j a b h = record {
   on = h.on;
   count = h.count;
@@ -334,7 +335,7 @@ walk_turn K follows j who d a b first did =
       ends = λ same. subst (λ (i : ℕ). outcome_in (state_of b.ledger).stages i ≡ Some d.outcome) same (did.ends ∙ ap (λ (x : Outcome). Some x) (raw_due follows a d first));
     }))
 
-walk_turns : (K : Type 0) (follows : List Join) (j : Join) (who : ℕ) (dues : List Due) (a b : Teller) → AreSettledInTurn (IsRelayDue follows) who a dues b → Walk K follows j a b
+pub walk_turns : (K : Type 0) (follows : List Join) (j : Join) (who : ℕ) (dues : List Due) (a b : Teller) → AreSettledInTurn (IsRelayDue follows) who a dues b → Walk K follows j a b
 walk_turns K follows j who [] a b same = walk_still K follows j a b (still_is a b same)
 walk_turns K follows j who (d ∷ dues) a b (between, waits, first, did, rest) =
     walk_then K follows j a between b (walk_turn K follows j who d a between first did) (walk_turns K follows j who dues between b rest)
@@ -363,15 +364,15 @@ walk_takes K follows j who lane a (Some t) b among none h = walk_word K follows 
 -- ---- a call
 
 -- of each machine of a row: its joins are of stages that are there, and none is behind
-record IsSound (follows : List Join) (t : Teller) : Type 0 where
-  there : AreThere (state_of t.ledger) follows
-  none : NoneBehind follows (state_of t.ledger).stages
+pub record IsSound (follows : List Join) (t : Teller) : Type 0 where
+  pub there : AreThere (state_of t.ledger) follows
+  pub none : NoneBehind follows (state_of t.ledger).stages
 
-record Called (K : Type 0) (j : Join) (old new : Machine) : Type 0 where
-  walk : Walk K new.follows j old.teller new.teller
-  sound : IsSound new.follows new.teller
-  more : List Join
-  follows : new.follows ≡ old.follows ++ more
+pub record Called (K : Type 0) (j : Join) (old new : Machine) : Type 0 where
+  pub walk : Walk K new.follows j old.teller new.teller
+  pub sound : IsSound new.follows new.teller
+  pub more : List Join
+  pub follows : new.follows ≡ old.follows ++ more
 
 none_still : (follows : List Join) (a b : Teller) → Still a b → NoneBehind follows (state_of a.ledger).stages → NoneBehind follows (state_of b.ledger).stages
 none_still follows a b h none = subst (λ (l : List Stage). NoneBehind follows l) (sym h.stages) none
@@ -385,7 +386,7 @@ called K j old new same walk sound none = record {
   follows = same ∙ sym (append-nil old.follows);
 }
 
-called_still : (K : Type 0) (j : Join) (old new : Machine) → new.follows ≡ old.follows → Still old.teller new.teller → IsSound old.follows old.teller → Called K j old new
+pub called_still : (K : Type 0) (j : Join) (old new : Machine) → new.follows ≡ old.follows → Still old.teller new.teller → IsSound old.follows old.teller → Called K j old new
 called_still K j old new same still sound = called K j old new same (walk_still K old.follows j old.teller new.teller still) sound (none_still old.follows old.teller new.teller still sound.none)
 
 -- all are settled
@@ -422,7 +423,7 @@ still_grown old new h =
     }
 
 -- one more is set
-called_set : (K : Type 0) (j join : Join) (old new : Machine) → IsSound old.follows old.teller → SetsJoin join old new → Called K j old new
+pub called_set : (K : Type 0) (j join : Join) (old new : Machine) → IsSound old.follows old.teller → SetsJoin join old new → Called K j old new
 called_set K j join old new sound h =
     let follows = new.follows in
     let found = still_found h.finds.words old.teller h.found h.finds.is in
@@ -435,7 +436,7 @@ called_set K j join old new sound h =
       follows = h.set;
     }
 
-call : (K : Type 0) (j : Join) (old new : Machine) (out : Out) → (K → Contains old.follows j) → IsSound old.follows old.teller → IsCall old out new → Called K j old new
+pub call : (K : Type 0) (j : Join) (old new : Machine) (out : Out) → (K → Contains old.follows j) → IsSound old.follows old.teller → IsCall old out new → Called K j old new
 call K j old new out among sound (applies word lane reply none h) =
     let f = old.follows in
     let found = still_found h.finds.words old.teller h.found h.finds.is in
@@ -488,7 +489,7 @@ call K j old new out among sound (is_refused none h) =
 
 -- ---- a row
 
-row : (K : Type 0) (j : Join) (old new : Machine) (outs : List Out) → (K → Contains old.follows j) → IsSound old.follows old.teller → AreCalls old outs new → Called K j old new
+pub row : (K : Type 0) (j : Join) (old new : Machine) (outs : List Out) → (K → Contains old.follows j) → IsSound old.follows old.teller → AreCalls old outs new → Called K j old new
 row K j old new [] among sound same =
     called_still K j old new (ap (λ (m : Machine). m.follows) same) (still_is old.teller new.teller (ap (λ (m : Machine). m.teller) same)) sound
 row K j old new (out ∷ outs) among sound (between, done, rest) =
@@ -503,32 +504,22 @@ row K j old new (out ∷ outs) among sound (between, done, rest) =
     }
 
 -- nothing follows where a request is opened
-sound_first : (m : Machine) → m.follows ≡ [] → IsSound m.follows m.teller
+pub sound_first : (m : Machine) → m.follows ≡ [] → IsSound m.follows m.teller
 sound_first m none = subst (λ (l : List Join). IsSound l m.teller) (sym none) (record { there = All-nil (IsJoin (stages_of m.teller.ledger)); none = All-nil (IsNotBehind (state_in m).stages) })
 
-sound_row : (old new : Machine) (outs : List Out) → IsSound old.follows old.teller → AreCalls old outs new → (Join → IsSound new.follows new.teller)
+pub sound_row : (old new : Machine) (outs : List Out) → IsSound old.follows old.teller → AreCalls old outs new → (Join → IsSound new.follows new.teller)
 sound_row old new outs sound calls j = (row ⊥ j old new outs (λ k. absurd k) sound calls).sound
 
-exact_by : (follows : List Join) (j : Join) (a b : Teller) → Contains follows j → NoneBehind follows (state_of b.ledger).stages → (is_settled_in (state_of b.ledger).stages j.stage ≡ false) ⊎ WasEnded follows j a b → IsExact follows j a b
+pub exact_by : (follows : List Join) (j : Join) (a b : Teller) → Contains follows j → NoneBehind follows (state_of b.ledger).stages → (is_settled_in (state_of b.ledger).stages j.stage ≡ false) ⊎ WasEnded follows j a b → IsExact follows j a b
 exact_by follows j a b among none (inl still) =
     let stages = (state_of b.ledger).stages in
     inl (still, undecided_open stages j (All-contains (IsNotBehind stages) follows j none among) still)
 exact_by follows j a b among none (inr e) = inr e
 
-pub joins_are_exact : JoinsAreExact
-joins_are_exact first old set new before after j opened none calls o sets rest =
-    let sound = sound_row first old before (sound_first first none) calls j in
-    let one = called_set (Unit {0}) j j old set sound sets in
-    let among : Contains set.follows j = subst (λ (l : List Join). Contains l j) (sym sets.set) (Contains-append_right old.follows (j ∷ []) j (0, omega arith, refl)) in
-    let on = row (Unit {0}) j set new after (λ k. among) one.sound rest in
-    let front = subst (λ (l : List Join). Walk (Unit {0}) l j old.teller set.teller) (sym on.follows) (walk_more (Unit {0}) set.follows on.more j old.teller set.teller one.walk) in
-    let all = walk_then (Unit {0}) new.follows j old.teller set.teller new.teller front on.walk in
-    exact_by new.follows j old.teller new.teller (subst (λ (l : List Join). Contains l j) (sym on.follows) (Contains-append_left set.follows on.more j among)) on.sound.none (all.fate tt o)
-
 -- ---- the end of a scope
 
 -- the events of stages that are settled one after another
-events_in_turn : (P : Teller → Due → Type 0) (who : ℕ) (dues : List Due) (a b : Teller) → AreSettledInTurn P who a dues b → b.ledger.events ≡ a.ledger.events ++ map (λ (d : Due). settle_event who d.stage d.outcome) dues
+pub events_in_turn : (P : Teller → Due → Type 0) (who : ℕ) (dues : List Due) (a b : Teller) → AreSettledInTurn P who a dues b → b.ledger.events ≡ a.ledger.events ++ map (λ (d : Due). settle_event who d.stage d.outcome) dues
 events_in_turn P who [] a b same = ap (λ (t : Teller). t.ledger.events) same ∙ sym (append-nil a.ledger.events)
 events_in_turn P who (d ∷ dues) a b (between, waits, due, did, rest) =
     let e = settle_event who d.stage d.outcome in
@@ -538,27 +529,6 @@ events_in_turn P who (d ∷ dues) a b (between, waits, due, did, rest) =
     events_in_turn P who dues between b rest
     ∙ ap (λ (l : List Event). l ++ later) (ap (λ (l : Ledger). l.events) does.written ∙ ap (λ (x : Event). a.ledger.events ++ x ∷ []) is)
     ∙ append_assoc a.ledger.events (e ∷ []) later
-
-ends_by_joins : (who scope : ℕ) (old new : Machine) (reply : Reply) → HasWord (Cancels who scope) → AppliesWord (word_of (Cancels who scope)) 0 old reply new → EndsByJoins who scope old new
-ends_by_joins who scope old new reply named h =
-    let e = Cancels who scope in
-    let does = h.tells.tells.does in
-    let is : does.event ≡ e = (let was = does.read in cc) in
-    let settles = h.catches_up.settles in
-    record {
-      cancelled = h.between;
-      cancels = ap (λ (l : Ledger). l.events) does.written ∙ ap (λ (x : Event). h.found.ledger.events ++ x ∷ []) is ∙ ap (λ (t : Teller). t.ledger.events ++ e ∷ []) h.finds.is;
-      dues = settles.dues;
-      are = settles.are;
-      events = events_in_turn (IsRelayDue old.follows) old.own settles.dues h.between new.teller settles.are;
-    }
-
-ends_now : (who scope : ℕ) (old new : Machine) → HasWord (Cancels who scope) → EndsNow who scope old new → (new ≡ old) ⊎ EndsByJoins who scope old new
-ends_now who scope old new named (inl h) = inl h.1
-ends_now who scope old new named (inr h) = inr (ends_by_joins who scope old new h.0 named h.2)
-
-pub ends_nothing_else : EndsNothingElse
-ends_nothing_else who scope old new named h = ends_now who scope old new named h.does
 
 -- ---- stops
 
@@ -620,7 +590,7 @@ stopped_since old new i h settled is =
     let then = claim_since old new i now.0 h settled now.1 in
     ap (λ (b : Bool). is_some (cond b (claim_at (state_of old) i) None)) settled ∙ ap is_some then
 
-calls_of : (old new : Machine) (outs : List Out) (stops : List ℕ) → AreStops old outs stops new → AreCalls old outs new
+pub calls_of : (old new : Machine) (outs : List Out) (stops : List ℕ) → AreStops old outs stops new → AreCalls old outs new
 calls_of old new [] stops h = h.1
 calls_of old new (out ∷ outs) stops (between, rest, is, one, more) = (between, one, calls_of between new outs rest more)
 
@@ -657,7 +627,7 @@ settled_told old new out i order one h =
     All-contains (λ (k : ℕ). is_settled_in (state_in old).stages k ≡ true) (order_in old.teller) i all (Contains-append_right old.teller.taken old.teller.told i in_told)
 
 -- each stop that is open still was told
-all_stops : (old new : Machine) (outs : List Out) (stops : List ℕ) (i : ℕ) → AreSettled old.teller.ledger (order_in old.teller) → AreStops old outs stops new → Contains (all_told outs) i → is_some (stopped_in (state_in new) i) ≡ true → Contains stops i
+pub all_stops : (old new : Machine) (outs : List Out) (stops : List ℕ) (i : ℕ) → AreSettled old.teller.ledger (order_in old.teller) → AreStops old outs stops new → Contains (all_told outs) i → is_some (stopped_in (state_in new) i) ≡ true → Contains stops i
 all_stops old new [] stops i order h told is = (let l = told.1 in absurd (omega (arith, l)))
 all_stops old new (out ∷ outs) stops i order (between, rest, same, one, more) told is =
     let s = state_in old in
@@ -670,12 +640,12 @@ all_stops old new (out ∷ outs) stops i order (between, rest, same, one, more) 
     ])
 
 -- none is told twice
-record AreApart (xs ys : List ℕ) : Type 0 where
-  first : IsApart xs
-  last : IsApart ys
-  none : (i : ℕ) → Contains xs i → Contains ys i → ⊥
+pub record AreApart (xs ys : List ℕ) : Type 0 where
+  pub first : IsApart xs
+  pub last : IsApart ys
+  pub none : (i : ℕ) → Contains xs i → Contains ys i → ⊥
 
-apart_parts : (xs ys : List ℕ) → IsApart (xs ++ ys) → AreApart xs ys
+pub apart_parts : (xs ys : List ℕ) → IsApart (xs ++ ys) → AreApart xs ys
 apart_parts [] ys h = record { first = tt; last = h; none = λ i k n. (let l = k.1 in absurd (omega (arith, l))) }
 apart_parts (x ∷ xs) ys h =
     let rest = apart_parts xs ys h.1 in
@@ -699,7 +669,7 @@ apart_filter : (p : ℕ → Bool) (xs : List ℕ) → IsApart xs → IsApart (fi
 apart_filter p [] h = tt
 apart_filter p (x ∷ xs) h = apart_cond (p x) x (filter p xs) (All-filter p (λ y. x ≢ y) xs h.0) (apart_filter p xs h.1)
 
-told_stops : (old new : Machine) (outs : List Out) (stops : List ℕ) → AreStops old outs stops new → All (Contains (all_told outs)) stops
+pub told_stops : (old new : Machine) (outs : List Out) (stops : List ℕ) → AreStops old outs stops new → All (Contains (all_told outs)) stops
 told_stops old new [] stops h = subst (All (Contains [])) (sym h.0) (All-nil (Contains []))
 told_stops old new (out ∷ outs) stops (between, rest, same, one, more) =
     let here = stops_of (state_in old) out.told in
@@ -709,7 +679,7 @@ told_stops old new (out ∷ outs) stops (between, rest, same, one, more) =
     (All-weaker (Contains out.told) (Contains (out.told ++ all)) (λ i h. Contains-append_left out.told all i h) here (filter_in (λ (k : ℕ). is_some (stopped_in (state_in old) k)) out.told))
     (All-weaker (Contains all) (Contains (out.told ++ all)) (λ i h. Contains-append_right out.told all i h) rest (told_stops between new outs rest more)))
 
-apart_stops : (old new : Machine) (outs : List Out) (stops : List ℕ) → AreStops old outs stops new → IsApart (all_told outs) → IsApart stops
+pub apart_stops : (old new : Machine) (outs : List Out) (stops : List ℕ) → AreStops old outs stops new → IsApart (all_told outs) → IsApart stops
 apart_stops old new [] stops h apart = subst IsApart (sym h.0) tt
 apart_stops old new (out ∷ outs) stops (between, rest, same, one, more) apart =
     let p = λ (k : ℕ). is_some (stopped_in (state_in old) k) in
@@ -718,15 +688,6 @@ apart_stops old new (out ∷ outs) stops (between, rest, same, one, more) apart 
     subst IsApart (sym same)
     (apart_append (filter p out.told) rest (apart_filter p out.told parts.first) (apart_stops between new outs rest more parts.last)
     (λ i a b. parts.none i (All-contains (Contains out.told) (filter p out.told) i (filter_in p out.told) a) (All-contains (Contains (all_told outs)) rest i inside b)))
-
-pub stops_once : StopsOnce
-stops_once old new outs stops opened h =
-    let told = tells_once old new outs opened (calls_of old new outs stops h) in
-    record {
-      apart = apart_stops old new outs stops h ((apart_parts (all_told outs) new.teller.told told.once.apart).first);
-      told = told_stops old new outs stops h;
-      all = λ i k is. all_stops old new outs stops i (first_settled old opened) h k is;
-    }
 
 -- ---- a compose that is linked
 
@@ -749,13 +710,13 @@ settle_plan : (s : State) (who i : ℕ) (o : Outcome) → (answered s (settle_ev
 settle_plan s who i (Gives v) = settled_plan (outcome_at s i) s i (Gives v)
 settle_plan s who i (Fault cause wrapped) = fault_plan s who i cause
 
-plan_in_turn : (P : Teller → Due → Type 0) (who : ℕ) (dues : List Due) (a b : Teller) → AreSettledInTurn P who a dues b → (state_of b.ledger).plan ≡ (state_of a.ledger).plan
+pub plan_in_turn : (P : Teller → Due → Type 0) (who : ℕ) (dues : List Due) (a b : Teller) → AreSettledInTurn P who a dues b → (state_of b.ledger).plan ≡ (state_of a.ledger).plan
 plan_in_turn P who [] a b same = ap (λ (t : Teller). (state_of t.ledger).plan) same
 plan_in_turn P who (d ∷ dues) a b (between, waits, due, did, rest) =
     plan_in_turn P who dues between b rest ∙ ap (λ (s : State). s.plan) (after_event (settle_event who d.stage d.outcome) a between did.reply did.done) ∙ settle_plan (state_of a.ledger) who d.stage d.outcome
 
 -- it is linked by its finish
-finish_links : (who : ℕ) (composed : Composed) (f : Finish) (a b : Teller) (reply : Reply) → HasWord (Finishes who composed.stage (Link composed.relay)) → composes (form_at (state_of a.ledger).plan.stages composed.stage) ≡ true → composed.relay < composed.stage → f.late ≡ false →
+pub finish_links : (who : ℕ) (composed : Composed) (f : Finish) (a b : Teller) (reply : Reply) → HasWord (Finishes who composed.stage (Link composed.relay)) → composes (form_at (state_of a.ledger).plan.stages composed.stage) ≡ true → composed.relay < composed.stage → f.late ≡ false →
     f.word ≡ word_of (Finishes who composed.stage (Link composed.relay)) → reply ≡ ToldFinish (finished_as f.late) → Tells f.word a reply b → IsLinkedNow composed.stage composed.relay (state_of b.ledger)
 finish_links who composed f a b reply named form lower late word is t =
     let e = Finishes who composed.stage (Link composed.relay) in
@@ -769,7 +730,7 @@ finish_links who composed f a b reply named form lower late word is t =
     linked_now composed.stage composed.relay who (state_of a.ledger) (state_of b.ledger) form lower there told
 
 -- and ends as its relay from then on
-ends_by : (stage other : ℕ) (old b new : Teller) → IsOnward old b → IsOnward b new → (IsLinkedTo stage other (state_of b.ledger) → Comes stage other b new) → IsLinkedNow stage other (state_of b.ledger) → EndsAs stage other old new
+pub ends_by : (stage other : ℕ) (old b new : Teller) → IsOnward old b → IsOnward b new → (IsLinkedTo stage other (state_of b.ledger) → Comes stage other b new) → IsLinkedNow stage other (state_of b.ledger) → EndsAs stage other old new
 ends_by stage other old b new before behind comes (inr taken) = inr (inl (taken_since stage other b new behind taken))
 ends_by stage other old b new before behind comes (inl link) = elim (comes link) [
   | inl still ↦ inl (both_open stage other (state_of new.ledger) (reached_closed new.ledger.plan new.ledger.events) (link_there stage other new still) still)
@@ -780,7 +741,7 @@ ends_by stage other old b new before behind comes (inl link) = elim (comes link)
 ]
 
 -- a relay is settled once the stage is
-relay_ended : (s : State) (follows : List Join) (j : Join) (relay stage : ℕ) → AreThere s follows → NoneBehind follows s.stages → Contains follows j → IsFollow relay stage j → is_settled_in s.stages stage ≡ true → is_settled_in s.stages relay ≡ true
+pub relay_ended : (s : State) (follows : List Join) (j : Join) (relay stage : ℕ) → AreThere s follows → NoneBehind follows s.stages → Contains follows j → IsFollow relay stage j → is_settled_in s.stages stage ≡ true → is_settled_in s.stages relay ≡ true
 relay_ended s follows j relay stage there none among h ended =
     let n = length s.plan.stages in
     let join : IsJoin n j = All-contains (IsJoin n) follows j there among in
@@ -788,51 +749,88 @@ relay_ended s follows j relay stage there none among h ended =
     let is = some_of (outcome_in s.stages stage) ended in
     subst (λ (i : ℕ). is_settled_in s.stages i ≡ true) h.same (behind (decided_one (outcome_in s.stages) n j is.0 join h.none (ap (outcome_in s.stages) h.source ∙ is.1)))
 
+-- ---- a relay
+
+-- a join of one that follows ends as its source, raw
+raw_of : (j : Join) (o : Outcome) → j.cancels ≡ false → j.wanted ≡ 1 → ending_by j o ≡ raw o
+raw_of j (Gives v) cancels one = ap (λ (b : Bool). cond b (Fault Cancelled false) (ending_of j (Gives v))) cancels ∙ ap (λ (n : ℕ). let x : Outcome = Gives (cond (n == 1) v Nil) in x) one
+raw_of j (Fault cause wrapped) cancels one = ap (λ (b : Bool). cond b (Fault Cancelled false) (Fault cause false)) cancels
+
+contains_first : (x y : Join) (xs : List Join) → Contains (x ∷ xs) y → (x ≡ y) ⊎ Contains xs y
+contains_first x y xs (zero, l, e) = inl e
+contains_first x y xs (suc k, l, e) = inr (k, omega (arith, l), e)
+
+-- where the machine settled the first join that was due, that was the relay's, or one that was set before
+followed_by : (follows : List Join) (j : Join) (relay stage n : ℕ) (o : Outcome) (old new : Teller) → IsFollow relay stage j → IsJoin n j → (was : WasSettled relay old new) → (f : SettlesFirst follows relay was.before was.after was.tells.does.event) →
+    outcome_in (state_of was.before.ledger).stages stage ≡ Some o → (f.first.join ≡ j) ⊎ Contains f.first.back j → HasFollowed relay stage (state_of new.ledger) ⊎ WasOvertaken follows relay stage old new
+followed_by follows j relay stage n o old new is join was f ended (inr behind) = inr (record {
+  join = j;
+  is = is;
+  was = was;
+  how = inr (record { turn = f; behind = behind });
+})
+followed_by follows j relay stage n o old new is join was f ended (inl same) =
+    let stages = (state_of was.before.ledger).stages in
+    let order = order_in was.before in
+    let due : IsDueBy stages order j f.due = subst (λ (x : Join). IsDueBy stages order x f.due) same f.first.due in
+    let by = source_decides stages order n j due.outcome join is.none due.decided in
+    let one : outcome_in stages stage ≡ Some due.outcome = ap (outcome_in stages) (sym is.source) ∙ by in
+    let ends : f.due.outcome ≡ raw due.outcome = due.ends ∙ raw_of j due.outcome is.cancels is.one in
+    let word = onward_word was.before was.after was.word was.reply was.tells in
+    inl (record {
+      outcome = due.outcome;
+      given = outcome_since was.after.ledger new.ledger stage due.outcome was.rest.later (outcome_since was.before.ledger was.after.ledger stage due.outcome word.later one);
+      followed = outcome_since was.after.ledger new.ledger relay (raw due.outcome) was.rest.later (f.ends (sym due.stage ∙ is.same) ∙ ap (λ (x : Outcome). Some x) ends);
+    })
+
+-- the relay's join isn't among those that weren't behind
+followed_at : (follows : List Join) (j : Join) (relay stage n : ℕ) (o : Outcome) (old new : Teller) → IsFollow relay stage j → IsJoin n j → Contains follows j → (was : WasSettled relay old new) →
+    (f : SettlesFirst follows relay was.before was.after was.tells.does.event) → outcome_in (state_of was.before.ledger).stages stage ≡ Some o → HasFollowed relay stage (state_of new.ledger) ⊎ WasOvertaken follows relay stage old new
+followed_at follows j relay stage n o old new is join among was f ended =
+    let stages = (state_of was.before.ledger).stages in
+    let first = f.first in
+    elim (Contains-append_cases first.front (first.join ∷ first.back) j (subst (λ (l : List Join). Contains l j) first.is among)) [
+      | inl front ↦ (let behind : IsNotBehind stages j = All-contains (IsNotBehind stages) first.front j first.first front in
+          let settled = behind (decided_one (outcome_in stages) n j o join is.none (ap (outcome_in stages) is.source ∙ ended)) in
+          let no : true ≡ false = sym settled ∙ ap (is_settled_in stages) is.same ∙ was.open_then in
+          (let never : ⊥ = cc in absurd never))
+      | inr rest ↦ followed_by follows j relay stage n o old new is join was f ended (contains_first first.join j first.back rest)
+    ]
+
+followed_if : (follows : List Join) (j : Join) (relay stage n : ℕ) (x : Option Outcome) (old new : Teller) → IsFollow relay stage j → IsJoin n j → Contains follows j → (was : WasSettled relay old new) → outcome_in (state_of was.before.ledger).stages stage ≡ x →
+    IsUndecided (outcome_in (state_of was.before.ledger).stages) j ⊎ SettlesFirst follows relay was.before was.after was.tells.does.event → HasFollowed relay stage (state_of new.ledger) ⊎ WasOvertaken follows relay stage old new
+followed_if follows j relay stage n None old new is join among was ended how = inr (record { join = j; is = is; was = was; how = inl (ap is_some ended) })
+followed_if follows j relay stage n (Some o) old new is join among was ended (inr f) = followed_at follows j relay stage n o old new is join among was f ended
+followed_if follows j relay stage n (Some o) old new is join among was ended (inl undecided) =
+    absurd (decided_one (outcome_in (state_of was.before.ledger).stages) n j o join is.none (ap (outcome_in (state_of was.before.ledger).stages) is.source ∙ ended) undecided)
+
+both_by : (s : State) (j : Join) (relay stage n : ℕ) (x : Option Outcome) → IsFollow relay stage j → IsJoin n j → is_settled_in s.stages relay ≡ false → IsUndecided (outcome_in s.stages) j → outcome_in s.stages stage ≡ x → AreBothOpen relay stage s
+both_by s j relay stage n None is join still undecided ended = record { stage_open = still; other_open = ap is_some ended }
+both_by s j relay stage n (Some o) is join still undecided ended = absurd (decided_one (outcome_in s.stages) n j o join is.none (ap (outcome_in s.stages) is.source ∙ ended) undecided)
+
+pub follows_exactly : (follows : List Join) (j : Join) (relay stage n : ℕ) (old new : Teller) → IsFollow relay stage j → IsJoin n j → Contains follows j → IsExact follows j old new → FollowsExactly follows relay stage old new
+follows_exactly follows j relay stage n old new is join among (inl h) =
+    let s = state_of new.ledger in
+    inl (both_by s j relay stage n (outcome_in s.stages stage) is join (ap (is_settled_in s.stages) (sym is.same) ∙ h.0) h.1 refl)
+follows_exactly follows j relay stage n old new is join among (inr h) =
+    let w = h.was in
+    let was : WasSettled relay old new = record {
+      before = w.before;
+      after = w.after;
+      word = w.word;
+      reply = w.reply;
+      since = w.since;
+      tells = w.tells;
+      rest = w.rest;
+      open_then = ap (is_settled_in (state_of w.before.ledger).stages) (sym is.same) ∙ w.open_then;
+      settled = ap (is_settled_in (state_of w.after.ledger).stages) (sym is.same) ∙ w.settled;
+    } in
+    let how : IsUndecided (outcome_in (state_of w.before.ledger).stages) j ⊎ SettlesFirst follows relay w.before w.after w.tells.does.event =
+    subst (λ (i : ℕ). IsUndecided (outcome_in (state_of w.before.ledger).stages) j ⊎ SettlesFirst follows i w.before w.after w.tells.does.event) is.same h.how in
+    inr (followed_if follows j relay stage n (outcome_in (state_of w.before.ledger).stages stage) old new is join among was refl how)
+
 -- and so is the compose
-compose_ended : (stage other : ℕ) (old new : Teller) → EndsAs stage other old new → is_settled_in (state_of new.ledger).stages other ≡ true → is_settled_in (state_of new.ledger).stages stage ≡ true
+pub compose_ended : (stage other : ℕ) (old new : Teller) → EndsAs stage other old new → is_settled_in (state_of new.ledger).stages other ≡ true → is_settled_in (state_of new.ledger).stages stage ≡ true
 compose_ended stage other old new (inl both) is = (let no : true ≡ false = sym is ∙ both.other_open in let never : ⊥ = cc in absurd never)
 compose_ended stage other old new (inr (inl taken)) is = ap is_some taken.taken
 compose_ended stage other old new (inr (inr first)) is = settled_since first.was.after.ledger new.ledger stage first.was.rest.later first.was.settled
-
-pub links_end_alike : LinksEndAlike
-links_end_alike first old linked new before after who composed stage finish opened none calls named form lower h late rest =
-    let c = composed.stage in
-    let r = composed.relay in
-    let sets = h.linked.follows in
-    let j = sets.join in
-    let m : Machine = record old { teller = h.found } in
-    let between = h.linked.between in
-    let applied = h.linked.finishes.applies in
-    let K = Unit {0} in
-    let sound = sound_row first old before (sound_first first none) calls j in
-    let found = still_found h.finds.words old.teller h.found h.finds.is in
-    let found_sound = called_still K j old m refl found sound in
-    let one = called_set K j j m between found_sound.sound sets.sets in
-    let among : Contains between.follows j = subst (λ (l : List Join). Contains l j) (sym sets.sets.set) (Contains-append_right old.follows (j ∷ []) j (0, omega arith, refl)) in
-    let done = applies finish.word 0 (ToldFinish (finished_as finish.late)) refl applied in
-    let two = call K j between linked nothing (λ k. among) one.sound done in
-    let linked_follows : linked.follows ≡ between.follows = ap (λ (m : Machine). m.follows) applied.same in
-    let among_linked : Contains linked.follows j = subst (λ (l : List Join). Contains l j) (sym linked_follows) among in
-    let on = row K j linked new after (λ k. among_linked) two.sound rest in
-    let more = λ (l : List Join) (a b : Teller) (same : l ≡ linked.follows) (w : Walk K l j a b). subst (λ (fs : List Join). Walk K fs j a b) (sym on.follows) (walk_more K linked.follows on.more j a b (subst (λ (fs : List Join). Walk K fs j a b) same w)) in
-    let to_found = walk_still K new.follows j old.teller h.found found in
-    let to_between = more between.follows h.found between.teller (sym linked_follows) one.walk in
-    let to_linked = more linked.follows between.teller linked.teller refl two.walk in
-    let all = walk_then K new.follows j old.teller h.found new.teller to_found
-    (walk_then K new.follows j h.found between.teller new.teller to_between (walk_then K new.follows j between.teller linked.teller new.teller to_linked on.walk)) in
-    let last_found = still_found applied.finds.words between.teller applied.found applied.finds.is in
-    let b = applied.between in
-    let tail = walk_turns K between.follows j between.own applied.catches_up.settles.dues b linked.teller applied.catches_up.settles.are in
-    let behind = walk_then K new.follows j b linked.teller new.teller (more between.follows b linked.teller (sym linked_follows) tail) on.walk in
-    let front = onward_then old.teller h.found b to_found.on
-    (onward_then h.found between.teller b one.walk.on (onward_then between.teller applied.found b (still_onward between.teller applied.found last_found) (onward_word applied.found b finish.word (ToldFinish (finished_as finish.late)) applied.tells.tells))) in
-    let plan : (state_of applied.found.ledger).plan ≡ (state_in old).plan = ap (λ (t : Teller). (state_of t.ledger).plan) applied.finds.is ∙ plan_in_turn (IsRelayDue between.follows) old.own sets.sets.catches_up.settles.dues sets.sets.found between.teller sets.sets.catches_up.settles.are
-    ∙ ap (λ (t : Teller). (state_of t.ledger).plan) sets.sets.finds.is ∙ ap (λ (t : Teller). (state_of t.ledger).plan) h.finds.is in
-    let now = finish_links who composed finish applied.found b (ToldFinish (finished_as finish.late)) named (ap (λ p. composes (form_at p.stages c)) plan ∙ form) lower late h.linked.finishes.word refl applied.tells.tells in
-    let ends = ends_by c r old.teller b new.teller front behind.on (behind.linked c r) now in
-    let in_new : Contains new.follows j = subst (λ (l : List Join). Contains l j) (sym on.follows) (Contains-append_left linked.follows on.more j among_linked) in
-    record {
-      settled = λ is. compose_ended c r old.teller new.teller ends (relay_ended (state_in new) new.follows j r stage on.sound.there on.sound.none in_new sets.is is);
-      compose = ends;
-      relay = record { join = j; is = sets.is; exact = λ o. exact_by new.follows j old.teller new.teller in_new on.sound.none (all.fate tt (subst (λ (i : ℕ). is_settled_in (state_in old).stages i ≡ false) (sym sets.is.same) o)) };
-    }

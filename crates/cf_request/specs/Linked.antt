@@ -1,5 +1,5 @@
 -- What a compose ends with that was finished with any stage, over rows of calls.
-use Rattle.std.specs.Prelude.{◌≡◌, ◌⊎◌, ℕ, ◌<◌, true, false, Some, List, []}
+use Rattle.std.specs.Prelude.{◌≡◌, ◌⊎◌, ℕ, ◌<◌, true, false, Some, List, [], Contains}
 use Rattle.cf_outcome.specs.declared.outcome.Outcome.{Outcome}
 use Rattle.cf_outcome.specs.Outcomes.{wrap}
 use Rattle.cf_ledger.specs.Ledgers.{state_of}
@@ -11,10 +11,11 @@ use Rattle.cf_model.specs.declared.events.Event.{Event}
 use Rattle.cf_model.specs.declared.events.Event.TheVariants.{Finish as Finishes, Tick as Ticks}
 use Rattle.cf_model.specs.States.{State, outcome_in}
 use Rattle.cf_request.specs.Composing.{Links}
-use Rattle.cf_request.specs.Endings.{IsExact, WasSettled}
+use Rattle.cf_request.specs.Endings.{SettlesFirst, WasSettled}
 use Rattle.cf_request.specs.Joins.{IsFollow}
 use Rattle.cf_request.specs.Machines.{Machine, state_in}
 use Rattle.cf_request.specs.Rows.{AreCalls, HasWord, IsOpened, Out}
+use Rattle.cf_request.specs.Settling.{raw}
 use Rattle.cf_request.specs.Telling.{Teller, is_settled_in}
 use Rattle.cf_request.specs.declared.composing.Composed.{Composed}
 use Rattle.cf_request.specs.declared.joins.Join.{Join}
@@ -43,17 +44,33 @@ pub record AreBothOpen (stage other : ℕ) (s : State) : Type 0 where
 abbrev pub EndsAs : ℕ → ℕ → Teller → Teller → Type 0
 EndsAs stage other old new = AreBothOpen stage other (state_of new.ledger) ⊎ (HasTaken stage other (state_of new.ledger) ⊎ CameFirst stage other old new)
 
--- a relay is a join of one that follows a stage, and is exact
-pub record FollowsExactly (follows : List Join) (relay stage : ℕ) (old new : Teller) : Type 0 where
+-- it has the outcome of the other, raw
+pub record HasFollowed (stage other : ℕ) (s : State) : Type 0 where
+  pub outcome : Outcome
+  pub given : outcome_in s.stages other ≡ Some outcome
+  pub followed : outcome_in s.stages stage ≡ Some (raw outcome)
+
+-- a word settles the first of the joins that are due, and that was set before this one
+pub record IsTurnBefore (follows : List Join) (join : Join) (stage : ℕ) (before after : Teller) (event : Event) : Type 0 where
+  pub turn : SettlesFirst follows stage before after event
+  pub behind : Contains turn.first.back join
+
+-- a relay was settled in between, and not by its stage: while that was open, or where it was the turn of a join that was set before
+pub record WasOvertaken (follows : List Join) (relay stage : ℕ) (old new : Teller) : Type 0 where
   pub join : Join
   pub is : IsFollow relay stage join
-  pub exact : is_settled_in (state_of old.ledger).stages relay ≡ false → IsExact follows join old new
+  pub was : WasSettled relay old new
+  pub how : (is_settled_in (state_of was.before.ledger).stages stage ≡ false) ⊎ IsTurnBefore follows join relay was.before was.after was.tells.does.event
+
+-- A relay follows a stage: both are open, or it has that one's outcome, or it was settled otherwise.
+abbrev pub FollowsExactly : List Join → ℕ → ℕ → Teller → Teller → Type 0
+FollowsExactly follows relay stage old new = AreBothOpen relay stage (state_of new.ledger) ⊎ (HasFollowed relay stage (state_of new.ledger) ⊎ WasOvertaken follows relay stage old new)
 
 -- once the stage is settled, its compose is; the compose ends as its relay, and the relay follows the stage
 pub record EndsAlike (composed : Composed) (stage : ℕ) (old new : Machine) : Type 0 where
   pub settled : is_settled_in (state_in new).stages stage ≡ true → is_settled_in (state_in new).stages composed.stage ≡ true
   pub compose : EndsAs composed.stage composed.relay old.teller new.teller
-  pub relay : FollowsExactly new.follows composed.relay stage old.teller new.teller
+  pub relay : is_settled_in (state_in old).stages composed.relay ≡ false → FollowsExactly new.follows composed.relay stage old.teller new.teller
 
 -- So it is of a compose that was linked in time, above its relay, after any row of calls: it was linked in a row that began as a request is opened.
 abbrev pub LinksEndAlike : Type 0
