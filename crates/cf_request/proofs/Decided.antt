@@ -1,5 +1,5 @@
 -- When a join is decided, and by which stage.
-use Rattle.std.proofs.Common.{◌≡◌, ◌≢◌, ℕ, zero, suc, ◌+◌, ◌<◌, ◌||◌, Bool, true, false, cond, Option, Some, None, List, [], ◌∷◌, ◌++◌, All, Contains, drop, get_or, length, take, refl, ap, sym, ◌∙◌, arith, subst, inl, inr, ◌⊎◌}
+use Rattle.std.proofs.Common.{◌≡◌, ◌≢◌, ℕ, zero, suc, ◌+◌, ◌-◌, ◌<◌, ◌≤◌, ◌||◌, Bool, true, false, cond, Option, Some, None, List, [], ◌∷◌, ◌++◌, All, Contains, drop, get_or, length, take, refl, ap, sym, ◌∙◌, arith, subst, inl, inr, ◌⊎◌}
 use Rattle.std.specs.Prelude.{◌==◌, IfSome, is_some}
 use Rattle.std.specs.List.{count_by}
 use Rattle.std.proofs.Math.Seq.{split_at}
@@ -119,17 +119,6 @@ count_more p stages front i (s ∷ sources) none off =
     let both = both_times (p (outcome_in stages i)) (one_if (s == i)) (times_in i sources) in
     omega (arith, one, rest, was, now, times, both)
 
-pub counted_push : (p : Option Outcome → Bool) (stages : List Stage) (front : List ℕ) (i : ℕ) (sources : List ℕ) (o : Option Outcome) (so_far times now : ℕ) → p None ≡ false → is_among front i ≡ false →
-    so_far ≡ count_by (λ s. p (outcome_among stages front s)) sources → o ≡ outcome_in stages i → times ≡ times_in i sources → now ≡ so_far + cond (p o) times 0 →
-    now ≡ count_by (λ s. p (outcome_among stages (front ++ i ∷ []) s)) sources
-counted_push p stages front i sources o so_far times now none off was outcome is more =
-    let n = count_by (λ s. p (outcome_among stages front s)) sources in
-    more
-    ∙ ap (λ (m : ℕ). m + cond (p o) times 0) was
-    ∙ ap (λ (x : Option Outcome). n + cond (p x) times 0) outcome
-    ∙ ap (λ (m : ℕ). n + cond (p (outcome_in stages i)) m 0) is
-    ∙ sym (count_more p stages front i sources none off)
-
 pub take_next : (k : ℕ) (xs : List ℕ) → k < length xs → take (k + 1) xs ≡ take k xs ++ get_or xs k 0 ∷ []
 take_next k [] l = absurd (omega (arith, l))
 take_next zero (x ∷ xs) l = refl
@@ -147,13 +136,26 @@ apart_front (x ∷ front) back i h =
 pub apart_at : (xs : List ℕ) (k d : ℕ) → k < length xs → IsApart xs → is_among (take k xs) (get_or xs k d) ≡ false
 apart_at xs k d l h = apart_front (take k xs) (drop (suc k) xs) (get_or xs k d) (subst IsApart (split_at xs k d l) h)
 
--- the same where the stage stands at a place of a row
-pub counted_at : (p : Option Outcome → Bool) (stages : List Stage) (order row : List ℕ) (k : ℕ) (sources : List ℕ) (o : Option Outcome) (so_far times now : ℕ) → p None ≡ false → row ≡ order → k < length order → IsApart order →
-    so_far ≡ count_by (λ s. p (outcome_among stages (take k order) s)) sources → o ≡ outcome_in stages (get_or row k 0) → times ≡ times_in (get_or row k 0) sources → now ≡ so_far + cond (p o) times 0 →
-    now ≡ count_by (λ s. p (outcome_among stages (take k order ++ get_or order k 0 ∷ []) s)) sources
-counted_at p stages order row k sources o so_far times now none same l apart was outcome is more =
+pub take_last : (place : ℕ) (xs : List ℕ) → 0 < place → place ≤ length xs → take place xs ≡ take (place - 1) xs ++ get_or xs (place - 1) 0 ∷ []
+take_last place xs some l =
+    let next : place ≡ place - 1 + 1 = omega (arith, some) in
+    ap (λ (n : ℕ). take n xs) next ∙ take_next (place - 1) xs (omega (arith, some, l))
+
+-- what is counted is no less than the stage before a place, and without it is what is counted before
+pub counted_back : (p : Option Outcome → Bool) (stages : List Stage) (order row : List ℕ) (place : ℕ) (sources : List ℕ) (o : Option Outcome) (all times before : ℕ) → p None ≡ false → row ≡ order → 0 < place → place ≤ length order → IsApart order →
+    all ≡ count_by (λ s. p (outcome_among stages (take place order) s)) sources → o ≡ outcome_in stages (get_or row (place - 1) 0) → times ≡ times_in (get_or row (place - 1) 0) sources →
+    (cond (p o) times 0 ≤ all) × (all ≡ before + cond (p o) times 0 → before ≡ count_by (λ s. p (outcome_among stages (take (place - 1) order) s)) sources)
+counted_back p stages order row place sources o all times before none same some l apart counted outcome is =
+    let k = place - 1 in
     let it : get_or row k 0 ≡ get_or order k 0 = ap (λ (l : List ℕ). get_or l k 0) same in
-    counted_push p stages (take k order) (get_or order k 0) sources o so_far times now none (apart_at order k 0 l apart) was (outcome ∙ ap (outcome_in stages) it) (is ∙ ap (λ (i : ℕ). times_in i sources) it) more
+    let i = get_or order k 0 in
+    let last = ap (λ (l : List ℕ). count_by (λ s. p (outcome_among stages l s)) sources) (take_last place order some l) in
+    let more = count_more p stages (take k order) i sources none (apart_at order k 0 (omega (arith, some, l)) apart) in
+    let here : cond (p o) times 0 ≡ cond (p (outcome_in stages i)) (times_in i sources) 0 =
+    ap (λ (x : Option Outcome). cond (p x) times 0) (outcome ∙ ap (outcome_in stages) it) ∙ ap (λ (n : ℕ). cond (p (outcome_in stages i)) n 0) (is ∙ ap (λ (x : ℕ). times_in x sources) it) in (
+      omega (arith, counted, last, more, here),
+      λ left. omega (arith, counted, last, more, here, left),
+    )
 
 -- where none is settled, nothing is counted
 pub count_none : (p : Option Outcome → Bool) (sources : List ℕ) → p None ≡ false → count_by (λ s. p (None)) sources ≡ 0
@@ -199,6 +201,10 @@ among_all s settled i once = elim (bools (is_settled_in s.stages i)) [
   | inr isnt ↦ (let none = none_is (outcome_in s.stages i) isnt in
       none ∙ sym (ap (λ (o : Option Outcome). cond (is_among settled i) o None) none ∙ always (is_among settled i)))
 ]
+
+-- so as much is counted
+pub count_all : (p : Option Outcome → Bool) (s : State) (settled : List ℕ) (sources : List ℕ) → IsOnce s settled → count_by (λ i. p (outcome_in s.stages i)) sources ≡ count_by (λ i. p (outcome_among s.stages settled i)) sources
+count_all p s settled sources once = count_same p (outcome_among s.stages settled) (outcome_in s.stages) sources (λ k d l. among_all s settled (get_or sources k d) once)
 
 -- what is undecided by all settled stages is undecided
 pub undecided_all : (s : State) (settled : List ℕ) (j : Join) → IsOnce s settled → IsUndecided (outcome_among s.stages settled) j → IsUndecided (outcome_in s.stages) j

@@ -56,7 +56,7 @@ pub(crate) fn due_by(teller: &Teller, join: &Join) -> Option<Due>
 }
 
 /// The outcome of the stage that decides a join, if it is decided. It looks at each source, and if it is decided at the
-/// settled stages up to the one that decides it.
+/// settled stages from the last one back to the one that decides it.
 fn decided(teller: &Teller, join: &Join) -> Option<Outcome>
     requires join { IsJoin (stages_of teller.now.ledger) join.now }
     ensures decided { IfSome result (λ o.
@@ -70,7 +70,7 @@ fn decided(teller: &Teller, join: &Join) -> Option<Outcome>
     if is_undecided(join, tally) {
         return None;
     }
-    decided_in_order(teller, join)
+    decided_in_order(teller, join, tally)
 }
 
 /// The same where it has one source.
@@ -85,22 +85,28 @@ fn decided_by_one(teller: &Teller, join: &Join) -> Option<Outcome>
     teller.outcome(join.source)
 }
 
-/// The same by a look at the settled stages, in the order in which they were settled.
-fn decided_in_order(teller: &Teller, join: &Join) -> Option<Outcome>
+/// The same where it is decided, and all its sources are counted: by a look at the settled stages, from the last one back
+/// to the one without which it is undecided.
+fn decided_in_order(teller: &Teller, join: &Join, all: Tally) -> Option<Outcome>
     requires join { IsJoin (stages_of teller.now.ledger) join.now }
+    requires values { all.values ≡ values_by (outcome_in (state_of teller.now.ledger).stages) (sources_of join.now) }
+    requires failures { all.failures
+        ≡ failures_by (outcome_in (state_of teller.now.ledger).stages) (sources_of join.now) }
+    requires decided { ¬ IsUndecided (outcome_in (state_of teller.now.ledger).stages) join.now }
     ensures decided { IfSome result (λ o.
         IsDecided (state_of teller.now.ledger).stages (order_in teller.now) join.now o) }
     ensures none { IfNone result (IsUndecided (outcome_in (state_of teller.now.ledger).stages) join.now) }
 {
-    let mut tally = Tally {
-        values: 0,
-        failures: 0,
-    };
-    for by in teller.settled() {
-        let outcome = teller.outcome(*by);
-        let times = times_in(join, *by);
-        tally = counted(tally, outcome, times);
-        if !is_undecided(join, tally) {
+    let order = teller.settled();
+    let mut tally = all;
+    let mut place = order.len();
+    while place > 0 {
+        place -= 1;
+        let by = order[place];
+        let outcome = teller.outcome(by);
+        let times = times_in(join, by);
+        tally = without(tally, outcome, times);
+        if is_undecided(join, tally) {
             return outcome;
         }
     }
@@ -119,30 +125,50 @@ fn tally_of(teller: &Teller, join: &Join) -> Tally
         values: 0,
         failures: 0,
     };
-    let mut tally = counted(none, teller.outcome(join.source), 1);
+    let mut tally = counted(none, teller.outcome(join.source));
     for source in &join.others {
         let outcome = teller.outcome(*source);
-        tally = counted(tally, outcome, 1);
+        tally = counted(tally, outcome);
     }
     tally
 }
 
-/// With a stage that stands so often among the sources.
-fn counted(tally: Tally, outcome: Option<Outcome>, times: usize) -> Tally
-    requires values { tally.values + times < 2 ^ 64 }
-    requires failures { tally.failures + times < 2 ^ 64 }
-    ensures values { result.values ≡ tally.values + cond (has_value outcome) times 0 }
-    ensures failures { result.failures ≡ tally.failures + cond (has_failed outcome) times 0 }
+/// With one source more.
+fn counted(tally: Tally, outcome: Option<Outcome>) -> Tally
+    requires values { tally.values + 1 < 2 ^ 64 }
+    requires failures { tally.failures + 1 < 2 ^ 64 }
+    ensures values { result.values ≡ tally.values + cond (has_value outcome) 1 0 }
+    ensures failures { result.failures ≡ tally.failures + cond (has_failed outcome) 1 0 }
 {
     match outcome {
         None => tally,
         Some(Outcome::Value(_)) => Tally {
-            values: tally.values + times,
+            values: tally.values + 1,
             failures: tally.failures,
         },
         Some(Outcome::Fault { .. }) => Tally {
             values: tally.values,
-            failures: tally.failures + times,
+            failures: tally.failures + 1,
+        },
+    }
+}
+
+/// Without a stage that is counted, and stands so often among the sources.
+fn without(tally: Tally, outcome: Option<Outcome>, times: usize) -> Tally
+    requires values { cond (has_value outcome) times 0 ≤ tally.values }
+    requires failures { cond (has_failed outcome) times 0 ≤ tally.failures }
+    ensures values { tally.values ≡ result.values + cond (has_value outcome) times 0 }
+    ensures failures { tally.failures ≡ result.failures + cond (has_failed outcome) times 0 }
+{
+    match outcome {
+        None => tally,
+        Some(Outcome::Value(_)) => Tally {
+            values: tally.values - times,
+            failures: tally.failures,
+        },
+        Some(Outcome::Fault { .. }) => Tally {
+            values: tally.values,
+            failures: tally.failures - times,
         },
     }
 }
