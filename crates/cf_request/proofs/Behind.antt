@@ -1,9 +1,10 @@
 -- Which relays may be behind.
-use Rattle.std.proofs.Common.{◌≡◌, ℕ, zero, suc, ◌<◌, ◌≤◌, Bool, true, false, List, [], ◌∷◌, ◌++◌, All, Contains, drop, get_or, length, length-append, refl, ap, sym, ◌∙◌, arith, subst, inl, inr, ◌⊎◌}
+use Rattle.std.proofs.Common.{◌≡◌, ℕ, zero, suc, ◌+◌, ◌<◌, ◌≤◌, Bool, true, false, List, [], ◌∷◌, ◌++◌, All, Contains, drop, get_or, length, length-append, take, refl, ap, sym, ◌∙◌, arith, subst, inl, inr, ◌⊎◌}
 use Rattle.std.specs.Prelude.{is_some, set}
+use Rattle.std.proofs.Math.Seq.{take-append-add}
 use Rattle.std.proofs.lemmas.Bool.{cases_eq}
 use Rattle.std.proofs.lemmas.List.{drop-append-le, get_or-set_other, get_or-set_same, length-set}
-use Rattle.std.proofs.lemmas.List.Elements.{All-cons, All-contains, All-nil, All-push, All-weaker, Contains-append_left, Contains-append_right}
+use Rattle.std.proofs.lemmas.List.Elements.{All-cons, All-contains, All-head, All-nil, All-push, All-tail, All-weaker, Contains-append_left, Contains-append_right}
 use Rattle.cf_model.specs.declared.events.Reply.{Reply}
 use Rattle.cf_model.specs.declared.stage.Stage.{Stage}
 use Rattle.cf_model.specs.States.{State, outcome_in}
@@ -17,7 +18,8 @@ use Rattle.cf_ledger.specs.declared.step.Held.{Held}
 use Rattle.std.specs.Prelude.{Option, Some, None}
 use Rattle.cf_request.specs.Joins.{sources_of}
 use Rattle.cf_request.specs.Lanes.{FinishesHeld}
-use Rattle.cf_request.specs.Relays.{AreBehindBy, AreIn, AreLookedAt, AreMarked, HaveCommon, IsNotBehind, MarksAll, NoneBehind, NoneFollowed, is_in_flags}
+use Rattle.cf_request.specs.declared.relays.Behind.{Behind}
+use Rattle.cf_request.specs.Relays.{AreBehindBy, AreIn, AreLookedAt, AreMarked, HaveCommon, IsBehindAt, IsNotBehind, MarksAll, NoneBehind, NoneFollowed, is_in_flags}
 use Rattle.cf_request.specs.Settling.{Settles, settle_event}
 use Rattle.cf_request.specs.Telling.{Teller, Tells, is_settled_in}
 use Rattle.cf_request.specs.declared.joins.Join.{Join}
@@ -154,3 +156,24 @@ looked_held seen follows who None old None new h looked = subst (λ (t : Teller)
 looked_held seen follows who (Some g) old (Some f) new h looked = looked_word seen follows old new (word_of (Finishes who g.stage g.answer)) (ToldFinish (finished_as f.late)) h.done.tells.tells looked
 looked_held seen follows who None old (Some f) new h looked = absurd h
 looked_held seen follows who (Some g) old None new h looked = absurd h
+
+-- ---- the next place
+
+all_front : {X : Type 0} (P : X → Type 0) (xs ys : List X) → All P (xs ++ ys) → All P xs
+all_front P [] ys h = All-nil P
+all_front P (x ∷ xs) ys h = All-cons P x xs (All-head P x (xs ++ ys) h) (all_front P xs ys (All-tail P x (xs ++ ys) h))
+
+-- where one is settled, and none is followed that this settles, no join up to that one is behind
+pub behind_next : (follows : List Join) (flags : List Bool) (who seen : ℕ) (news : List ℕ) (old new : Teller) (b : Behind) → IsBehindAt follows old b → AreMarked flags follows → Settles who b.due old new → seen ≡ length old.told → news ≡ drop seen new.told → NoneFollowed flags news →
+    NoneBehind (take (b.place + 1) follows) (state_of new.ledger).stages
+behind_next follows flags who seen news old new b h marked settles at are none =
+    let due = h.due in
+    let front = due.front in
+    let j = due.join in
+    let stages = (state_of new.ledger).stages in
+    let first = looked_settle seen front who b.due old new settles (looked_none seen old.told front (state_of old.ledger).stages at due.first) in
+    let marks = all_front (λ (x : Join). AreIn flags (sources_of x)) front (j ∷ due.back) (subst (AreMarked flags) due.is marked) in
+    let before = none_behind seen new.told news flags front stages are marks first none in
+    let settled : is_settled_in stages j.stage ≡ true = ap (is_settled_in stages) due.due.stage ∙ ap is_some settles.ends in
+    let split : take (b.place + 1) follows ≡ front ++ j ∷ [] = ap (λ (n : ℕ). take (n + 1) follows) h.place ∙ ap (take (length front + 1)) due.is ∙ take-append-add front (j ∷ due.back) 1 in
+    subst (λ (l : List Join). NoneBehind l stages) (sym split) (All-push (IsNotBehind stages) front j before (λ decided. settled))

@@ -252,7 +252,7 @@ may_join words a r old w deadlines own j is_due rows marks count machine none re
     record {
       machine = row.machine;
       relays = subst (λ (n : ℕ). AreRelays (state_of r.ledger).stages w.follows.items w.followed n) (sym count) row.relays;
-      may = record { settle = record { there = row.machine.relays; counted = omega (arith, most, count); memory = row.memory }; none = row.none };
+      may = record { settle = record { there = row.machine.relays; counted = omega (arith, most, count); memory = row.memory }; marked = row.relays.marked; none = row.none };
     }
 
 -- ---- a join of one

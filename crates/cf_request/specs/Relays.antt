@@ -7,6 +7,7 @@ use Rattle.cf_ledger.specs.Ledgers.{state_of}
 use Rattle.cf_request.specs.Joins.{IsDueBy, IsJoin, IsUndecided, sources_of}
 use Rattle.cf_request.specs.Telling.{Teller, is_settled_in, order_in}
 use Rattle.cf_request.specs.declared.joins.Join.{Join}
+use Rattle.cf_request.specs.declared.relays.Behind.{Behind}
 use Rattle.cf_request.specs.declared.relays.Relays.{Relays}
 use Rattle.cf_request.specs.declared.settling.Due.{Due}
 
@@ -34,6 +35,11 @@ pub record IsRelayDue (follows : List Join) (t : Teller) (d : Due) : Type 0 wher
   pub is : follows ≡ front ++ join ∷ back
   pub first : NoneBehind front (state_of t.ledger).stages
   pub due : IsDueBy (state_of t.ledger).stages (order_in t) join d
+
+-- and the place at which that one stands
+pub record IsBehindAt (follows : List Join) (t : Teller) (b : Behind) : Type 0 where
+  pub due : IsRelayDue follows t b.due
+  pub place : b.place ≡ length due.front
 
 -- one of them, or, where none is behind, what is due otherwise
 abbrev pub IsRelayOr : List Join → (State → Due → Type 0) → Teller → Due → Type 0
@@ -104,4 +110,5 @@ pub record MayCatchUp (t : Teller) (r : Relays) (seen : ℕ) : Type 0 where
 -- or only if another is known to be
 pub record MayCatchUpWith (t : Teller) (r : Relays) (is_due : Bool) : Type 0 where
   pub settle : MaySettle t r
+  pub marked : AreMarked r.followed r.follows.items
   pub none : is_due ≡ false → NoneBehind r.follows.items (state_of t.ledger).stages

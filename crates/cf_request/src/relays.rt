@@ -1,9 +1,9 @@
 //! Stages that follow another stage of the same request.
-ghost use Rattle.std.specs.Prelude.{◌≡◌, ◌+◌, ◌≤◌, ◌<◌, All, IfNone, IfSome, length, true};
+ghost use Rattle.std.specs.Prelude.{◌≡◌, ◌⊎◌, ◌+◌, ◌^◌, ◌≤◌, ◌<◌, All, IfNone, IfSome, length, take, true};
 ghost use Rattle.cf_ledger.specs.Ledgers.{state_of};
 ghost use Rattle.cf_request.specs.Joins.{sources_of};
 ghost use Rattle.cf_request.specs.Machines.{CatchesUp};
-ghost use Rattle.cf_request.specs.Relays.{AreLookedAt, AreMarked, AreThere, IsRelayDue, MayCatchUp, MayCatchUpWith, MarksAll, MaySettle, NoneBehind, NoneFollowed, is_in_flags, open_relays};
+ghost use Rattle.cf_request.specs.Relays.{AreLookedAt, AreMarked, AreThere, IsBehindAt, IsRelayDue, MayCatchUp, MayCatchUpWith, MarksAll, MaySettle, NoneBehind, NoneFollowed, is_in_flags, open_relays};
 ghost use Rattle.cf_request.specs.Settling.{IsOpen};
 
 use crate::joins::{Join, due_by};
@@ -20,6 +20,13 @@ pub(crate) struct Relays {
     pub follows: Vec<Join>,
     pub followed: BitSet,
     pub waiting: usize,
+}
+
+/// A relay that is open though its stage is settled: its place among all, and what it is settled with.
+#[derive(Drop)]
+pub(crate) struct Behind {
+    pub place: usize,
+    pub due: Due,
 }
 
 /// Settles all relays whose stages are settled, and those that follow these. It looks at relays only if a stage is
@@ -57,21 +64,39 @@ pub(crate) fn catch_up_with(teller: &mut Teller, relays: &Relays, is_due: bool, 
     settle_behind(teller, relays, who)
 }
 
-/// Settles all relays whose stages are settled, and those that follow these. It looks at all relays.
+/// Settles all relays whose stages are settled, and those that follow these. It looks at all relays, and goes on behind
+/// the one that it has settled, unless a stage is followed that this has settled.
 fn settle_behind(teller: &mut Teller, relays: &Relays, who: u8) -> usize
     requires caller { who ≤ 63 }
     requires may { MaySettle teller.old relays.now }
+    requires marked { AreMarked relays.now.followed relays.now.follows.items }
     ensures settled { CatchesUp who relays.now.follows.items teller.old teller.new }
     ensures counted { open_relays teller.new relays.now ≤ result }
     ensures fewer { result ≤ relays.now.waiting }
     ensures memory { teller.old.ledger.free ≤ teller.new.ledger.free + open_relays teller.old relays.now }
 {
     let mut waiting = relays.waiting;
-    while let Some(due) = first_of(teller, relays) {
-        settle(teller, who, &due);
+    let mut from: usize = 0;
+    while let Some(behind) = first_from(teller, relays, from) {
+        let seen = teller.told().len();
+        settle(teller, who, &behind.due);
+        from = next_place(relays, behind.place, &teller.told()[seen..]);
         waiting = waiting.saturating_sub(1);
     }
     waiting
+}
+
+/// The place from which a join may be behind, once the one at a place is settled and these are told.
+fn next_place(relays: &Relays, place: usize, news: &[u16]) -> usize
+    requires few { place < 2 ^ 63 }
+    ensures next { result ≡ place + 1 ⊎ result ≡ 0 }
+    ensures none { result ≡ place + 1 → NoneFollowed relays.now.followed news.now }
+{
+    if none_followed(&relays.followed, news) {
+        place + 1
+    } else {
+        0
+    }
 }
 
 /// The first relay that is open though its stage is settled. It looks at relays only if a stage is followed that is told
@@ -88,7 +113,8 @@ pub(crate) fn first_behind(teller: &Teller, relays: &Relays, seen: usize) -> Opt
     if none_followed(&relays.followed, &teller.told()[seen..]) {
         return None;
     }
-    first_of(teller, relays)
+    let behind = first_from(teller, relays, 0)?;
+    Some(behind.due)
 }
 
 /// Whether none of these stages is followed.
@@ -115,16 +141,17 @@ fn is_followed(followed: &BitSet, i: u16) -> bool
     followed.contains(i)
 }
 
-/// The first of these relays that is open though its stage is settled.
-fn first_of(teller: &Teller, relays: &Relays) -> Option<Due>
+/// The first of these relays that is open though its stage is settled, where none is that stands before a place.
+fn first_from(teller: &Teller, relays: &Relays, from: usize) -> Option<Behind>
     requires there { AreThere (state_of teller.now.ledger) relays.now.follows.items }
-    ensures is_open { IfSome result (λ d. IsOpen (state_of teller.now.ledger) d.stage) }
-    ensures due { IfSome result (λ d. IsRelayDue relays.now.follows.items teller.now d) }
+    requires before { NoneBehind (take from relays.now.follows.items) (state_of teller.now.ledger).stages }
+    ensures is_open { IfSome result (λ b. IsOpen (state_of teller.now.ledger) b.due.stage) }
+    ensures behind { IfSome result (IsBehindAt relays.now.follows.items teller.now) }
     ensures none { IfNone result (NoneBehind relays.now.follows.items (state_of teller.now.ledger).stages) }
 {
-    for join in &relays.follows {
-        if let Some(due) = due_by(teller, join) {
-            return Some(due);
+    for place in from..relays.follows.len() {
+        if let Some(due) = due_by(teller, &relays.follows[place]) {
+            return Some(Behind { place, due });
         }
     }
     None
