@@ -27,7 +27,7 @@ use Rattle.cf_model.specs.declared.stage.Stage.{Stage}
 use Rattle.cf_model.specs.declared.stage.Stage.TheVariants.{Pending, Ready, Claimed, Linked, Settled}
 use Rattle.cf_model.specs.Events.{answered, attached_by, cancelled_by, cause_of, claimed_by, finished_by, settled_by, state_after}
 use Rattle.cf_model.specs.Ranges.{EventFits}
-use Rattle.cf_model.specs.States.{State, claim_at, outcome_at, outcome_in, outcome_of, stage_at}
+use Rattle.cf_model.specs.States.{State, claim_at, new_states, outcome_at, outcome_in, outcome_of, stage_at}
 use Rattle.cf_model.proofs.Closed.{reached_closed, reached_length}
 use Rattle.cf_model.proofs.Moves.{keeps_outcomes}
 use Rattle.cf_model.proofs.OpenClaims.{cancelled_claims, claim_before_close, claim_before_push, claim_before_set, finished_claims, same_claim, settled_claims, ticked_claims}
@@ -39,9 +39,10 @@ use Rattle.cf_ledger.specs.declared.step.Finish.{Finish}
 use Rattle.cf_ledger.specs.declared.step.Held.{Held}
 use Rattle.cf_ledger.specs.declared.step.Taken.{Taken}
 use Rattle.cf_request.specs.Deadlines.{IsOverdue}
-use Rattle.cf_request.specs.Endings.{AreStops, IsExact, IsOnward, SettlesFirst, WasEnded, WasSettled, stops_of}
+use Rattle.cf_request.specs.Endings.{AreStops, IsExact, IsOnward, IsReached, SettlesFirst, WasEnded, WasSettled, stops_of}
+use Rattle.cf_request.specs.Endings.IsReached.{by_join}
 use Rattle.cf_request.specs.Growing.{Grows}
-use Rattle.cf_request.specs.Joins.{IsDueBy, IsFollow, IsJoin, IsUndecided, ending_by, ending_of, failures_by, sources_of, values_by}
+use Rattle.cf_request.specs.Joins.{IsDueBy, IsFollow, IsJoin, IsUndecided, ending_by, ending_of, failures_by, is_among, outcome_among, sources_of, values_by}
 use Rattle.cf_request.specs.Lanes.{FinishesHeld, TakesIn}
 use Rattle.cf_request.specs.Linked.{AreBothOpen, CameFirst, EndsAs, FollowsExactly, HasFollowed, HasTaken, WasOvertaken}
 use Rattle.cf_request.specs.Machines.{FindsForStep, Machine, SetsJoin, open_in, state_in}
@@ -50,16 +51,17 @@ use Rattle.cf_request.specs.Relays.{AreThere, IsNotBehind, IsRelayDue, IsRelayOr
 use Rattle.cf_request.specs.Rows.{AreCalls, HasWord, IsCall, IsLater, Out, Took, all_told, job_of, nothing}
 use Rattle.cf_request.specs.Rows.IsCall.{applies, goes_on, sets_join, sets_deadline, forgets, passes, refuses, cancels_all, took, grows, reserves, is_refused}
 use Rattle.cf_request.specs.Scopes.{stopped_in}
-use Rattle.cf_request.specs.Settling.{AreSettledInTurn, Settles, fault_event, raw, settle_event}
+use Rattle.cf_request.specs.Settling.{AreSettledInTurn, IsOpen, Settles, fault_event, raw, settle_event}
 use Rattle.cf_request.specs.Telling.{AreSettled, IsApart, Teller, Tells, is_settled_in, order_in, with_memory}
 use Rattle.cf_request.specs.declared.composing.Composed.{Composed}
 use Rattle.cf_request.specs.declared.joins.Join.{Join}
 use Rattle.cf_request.specs.declared.settling.Due.{Due}
-use Rattle.cf_request.proofs.Decided.{decided_one, source_decides}
+use Rattle.cf_request.proofs.Decided.{decided_one, none_is, source_decides}
 use Rattle.cf_request.proofs.Later.{later_free, later_grown, later_then, later_word, state_later}
-use Rattle.cf_request.proofs.Linked.{Becomes, IsLinkedNow, IsLinkedTo, becomes, both_open, get_there, linked_now}
+use Rattle.cf_request.proofs.Linked.{Becomes, IsLinkedNow, IsLinkedTo, after_stages, becomes, both_open, get_there, linked_now}
 use Rattle.cf_request.proofs.Lists.{apart_append, contains_cases, contains_filter, contains_head, contains_tail}
 use Rattle.cf_request.proofs.Machines.{none_takes}
+use Rattle.cf_request.proofs.Reached.{Reaches, fewer_or, reaches_more, undecided_fewer}
 use Rattle.cf_request.proofs.Rows.{adds_behind, settled_call}
 use Rattle.cf_request.proofs.Telling.{next_is, once, outcome_stage, stays}
 use Rattle.cf_request.proofs.Turns.{after_event, follows_word}
@@ -530,6 +532,80 @@ events_in_turn P who (d ∷ dues) a b (between, waits, due, did, rest) =
     ∙ ap (λ (l : List Event). l ++ later) (ap (λ (l : Ledger). l.events) does.written ∙ ap (λ (x : Event). a.ledger.events ++ x ∷ []) is)
     ∙ append_assoc a.ledger.events (e ∷ []) later
 
+-- settling a stage leaves the plan
+settled_plan : (x : Option Outcome) (s : State) (i : ℕ) (o : Outcome) → (settled_by x s i o).1.plan ≡ s.plan
+settled_plan None s i o = refl
+settled_plan (Some p) s i o = refl
+
+pub cancelled_plan : (x : Option Outcome) (s : State) (i : ℕ) → (cancelled_by x s i).1.plan ≡ s.plan
+cancelled_plan None s i = refl
+cancelled_plan (Some p) s i = refl
+
+fault_plan : (s : State) (who i : ℕ) (cause : Cause) → (answered s (fault_event who i cause)).1.plan ≡ s.plan
+fault_plan s who i (Thrown code) = settled_plan (outcome_at s i) s i (Fault (Thrown code) false)
+fault_plan s who i Cancelled = cancelled_plan (outcome_at s i) s i
+fault_plan s who i (TimedOut code) = settled_plan (outcome_at s i) s i (Fault (TimedOut code) false)
+fault_plan s who i (BadAnswer code) = settled_plan (outcome_at s i) s i (Fault (BadAnswer code) false)
+
+settle_plan : (s : State) (who i : ℕ) (o : Outcome) → (answered s (settle_event who i o)).1.plan ≡ s.plan
+settle_plan s who i (Gives v) = settled_plan (outcome_at s i) s i (Gives v)
+settle_plan s who i (Fault cause wrapped) = fault_plan s who i cause
+
+-- what settles an open stage changes the stages so, and leaves the plan
+settled_stages : (x : Option Outcome) (s : State) (i : ℕ) (o : Outcome) → x ≡ None → outcome_at s i ≡ None → (settled_by x s i o).1.stages ≡ new_states [] s.plan.stages (set s.stages i (Settled o))
+settled_stages None s i o is none = after_stages s i o none
+settled_stages (Some p) s i o is none = cc
+
+pub cancelled_stages : (x : Option Outcome) (s : State) (i : ℕ) → x ≡ None → outcome_at s i ≡ None → (cancelled_by x s i).1.stages ≡ new_states [] s.plan.stages (set s.stages i (Settled (Fault Cancelled false)))
+cancelled_stages None s i is none = after_stages s i (Fault Cancelled false) none
+cancelled_stages (Some p) s i is none = cc
+
+fault_stages : (s : State) (who i : ℕ) (cause : Cause) → outcome_at s i ≡ None → (answered s (fault_event who i cause)).1.stages ≡ new_states [] s.plan.stages (set s.stages i (Settled (Fault cause false)))
+fault_stages s who i (Thrown code) none = settled_stages (outcome_at s i) s i (Fault (Thrown code) false) none none
+fault_stages s who i Cancelled none = cancelled_stages (outcome_at s i) s i none none
+fault_stages s who i (TimedOut code) none = settled_stages (outcome_at s i) s i (Fault (TimedOut code) false) none none
+fault_stages s who i (BadAnswer code) none = settled_stages (outcome_at s i) s i (Fault (BadAnswer code) false) none none
+
+settle_stages : (s : State) (who i : ℕ) (o : Outcome) → outcome_at s i ≡ None → (answered s (settle_event who i o)).1.stages ≡ new_states [] s.plan.stages (set s.stages i (Settled (raw o)))
+settle_stages s who i (Gives v) none = settled_stages (outcome_at s i) s i (Gives v) none none
+settle_stages s who i (Fault cause wrapped) none = fault_stages s who i cause none
+
+-- a join is due only if a source of it was settled since
+among_or : (stages : List Stage) (settled : List ℕ) (b : Bool) (i : ℕ) → is_among settled i ≡ b → (outcome_among stages settled i ≡ outcome_in stages i) ⊎ (outcome_among stages settled i ≡ None)
+among_or stages settled true i is = inl (ap (λ (b : Bool). cond b (outcome_in stages i) None) is)
+among_or stages settled false i is = inr (ap (λ (b : Bool). cond b (outcome_in stages i) None) is)
+
+due_reached : (follows : List Join) (scope : ℕ) (o a : Teller) (d : Due) → NoneBehind follows (state_of o.ledger).stages → IsLater o.ledger a.ledger → Reaches follows scope (state_of o.ledger) (state_of a.ledger) → IsOpen (state_of a.ledger) d.stage → IsRelayDue follows a d →
+    IsReached follows (state_of o.ledger) scope d.stage
+due_reached follows scope o a d none later h waits first =
+    let j = first.join in
+    let old = (state_of o.ledger).stages in
+    let now = (state_of a.ledger).stages in
+    let due = first.due in
+    let decided = due.decided in
+    let seen = decided.front ++ decided.by ∷ [] in
+    let among : Contains follows j = subst (λ (l : List Join). Contains l j) (sym first.is) (Contains-append_right first.front (j ∷ first.back) j (0, omega arith, refl)) in
+    let still : is_settled_in old j.stage ≡ false = elim (tests (is_settled_in old j.stage)) [
+      | inl was ↦ (let on = settled_since o.ledger a.ledger j.stage later was in let off = ap (is_settled_in now) due.stage ∙ waits.1 in let no : true ≡ false = sym on ∙ off in (let never : ⊥ = cc in absurd never))
+      | inr off ↦ off
+    ] in
+    let undecided = undecided_open old j (All-contains (IsNotBehind old) follows j none among) still in
+    elim (fewer_or (outcome_in old) (outcome_in now) (outcome_among now seen) (sources_of j) (λ i x e. outcome_since o.ledger a.ledger i x later e) (λ i. among_or now seen (is_among seen i) i refl)) [
+      | inl fewer ↦ absurd (decided.decides (undecided_fewer (outcome_in old) (outcome_among now seen) j fewer undecided))
+      | inr new ↦ subst (IsReached follows (state_of o.ledger) scope) due.stage (by_join new.stage j (h.news new.stage (ap is_some new.was) new.is) among new.among)
+    ]
+
+pub reaches_turns : (follows : List Join) (scope who : ℕ) (dues : List Due) (o a b : Teller) → NoneBehind follows (state_of o.ledger).stages → IsLater o.ledger a.ledger → Reaches follows scope (state_of o.ledger) (state_of a.ledger) → AreSettledInTurn (IsRelayDue follows) who a dues b →
+    Reaches follows scope (state_of o.ledger) (state_of b.ledger)
+reaches_turns follows scope who [] o a b none later h same = subst (λ (t : Teller). Reaches follows scope (state_of o.ledger) (state_of t.ledger)) (sym same) h
+reaches_turns follows scope who (d ∷ dues) o a b none later h (between, waits, first, did, rest) =
+    let s = state_of a.ledger in
+    let open_now = none_is (outcome_in s.stages d.stage) waits.1 in
+    let next = after_event (settle_event who d.stage d.outcome) a between did.reply did.done in
+    let now = reaches_more follows scope (state_of o.ledger) s (state_of between.ledger) d.stage (raw d.outcome) h (reached_length a.ledger.plan a.ledger.events) (reached_closed a.ledger.plan a.ledger.events) open_now (due_reached follows scope o a d none later h waits first)
+    (ap (λ (r : State). r.plan) next ∙ settle_plan s who d.stage d.outcome) (ap (λ (r : State). r.stages) next ∙ settle_stages s who d.stage d.outcome open_now) in
+    reaches_turns follows scope who dues o between b none (later_then o.ledger a.ledger between.ledger later (onward_word a between (word_of (settle_event who d.stage d.outcome)) did.reply did.done.tells.tells).later) now rest
+
 -- ---- stops
 
 -- a stage that is settled isn't claimed any more
@@ -691,25 +767,7 @@ apart_stops old new (out ∷ outs) stops (between, rest, same, one, more) apart 
 
 -- ---- a compose that is linked
 
--- settling stages one after another leaves the plan
-settled_plan : (x : Option Outcome) (s : State) (i : ℕ) (o : Outcome) → (settled_by x s i o).1.plan ≡ s.plan
-settled_plan None s i o = refl
-settled_plan (Some p) s i o = refl
-
-cancelled_plan : (x : Option Outcome) (s : State) (i : ℕ) → (cancelled_by x s i).1.plan ≡ s.plan
-cancelled_plan None s i = refl
-cancelled_plan (Some p) s i = refl
-
-fault_plan : (s : State) (who i : ℕ) (cause : Cause) → (answered s (fault_event who i cause)).1.plan ≡ s.plan
-fault_plan s who i (Thrown code) = settled_plan (outcome_at s i) s i (Fault (Thrown code) false)
-fault_plan s who i Cancelled = cancelled_plan (outcome_at s i) s i
-fault_plan s who i (TimedOut code) = settled_plan (outcome_at s i) s i (Fault (TimedOut code) false)
-fault_plan s who i (BadAnswer code) = settled_plan (outcome_at s i) s i (Fault (BadAnswer code) false)
-
-settle_plan : (s : State) (who i : ℕ) (o : Outcome) → (answered s (settle_event who i o)).1.plan ≡ s.plan
-settle_plan s who i (Gives v) = settled_plan (outcome_at s i) s i (Gives v)
-settle_plan s who i (Fault cause wrapped) = fault_plan s who i cause
-
+-- and so does settling one after another
 pub plan_in_turn : (P : Teller → Due → Type 0) (who : ℕ) (dues : List Due) (a b : Teller) → AreSettledInTurn P who a dues b → (state_of b.ledger).plan ≡ (state_of a.ledger).plan
 plan_in_turn P who [] a b same = ap (λ (t : Teller). (state_of t.ledger).plan) same
 plan_in_turn P who (d ∷ dues) a b (between, waits, due, did, rest) =

@@ -19,4 +19,5 @@ pub mod Gathered
 pub mod Composes
 pub mod Ends
 pub mod Linked
+pub mod Reached
 pub mod Endings

@@ -59,7 +59,7 @@ get_there [] i x h = cc
 get_there (y ∷ xs) zero x h = omega arith
 get_there (y ∷ xs) (suc i) x h = let l = get_there xs i x h in omega (arith, l)
 
-get_some : {X : Type 0} (xs : List X) (i : ℕ) → i < length xs → (x : X) × (slice_get xs i ≡ Some x)
+pub get_some : {X : Type 0} (xs : List X) (i : ℕ) → i < length xs → (x : X) × (slice_get xs i ≡ Some x)
 get_some [] i l = absurd (omega (arith, l))
 get_some (y ∷ xs) zero l = (y, refl)
 get_some (y ∷ xs) (suc i) l = get_some xs i (omega (arith, l))
@@ -137,7 +137,7 @@ after_any stage other s t d o e closed there h is unclaimed = elim (cases_eq sta
   | inr differs ↦ after_other stage other s t d o e differs there h is unclaimed
 ]
 
-after_stages : (s : State) (d : ℕ) (o : Outcome) → outcome_at s d ≡ None → (after s d o).stages ≡ new_states [] s.plan.stages (set s.stages d (Settled o))
+pub after_stages : (s : State) (d : ℕ) (o : Outcome) → outcome_at s d ≡ None → (after s d o).stages ≡ new_states [] s.plan.stages (set s.stages d (Settled o))
 after_stages s d o none = ap (λ (t : State). t.stages) (after-unsettled s d o none)
 
 settled_becomes : (stage other : ℕ) (x : Option Outcome) (s : State) (d : ℕ) (o : Outcome) (e : Event) → IsClosed s → stage < length s.plan.stages → IsLinkedTo stage other s → outcome_at s d ≡ x → Becomes stage other ((settled_by x s d o).1) e

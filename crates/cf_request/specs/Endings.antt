@@ -1,14 +1,16 @@
 -- How stages came to be settled, over rows of calls.
-use Rattle.std.specs.Prelude.{◌≡◌, ◌⊎◌, ℕ, true, false, Some, List, [], ◌∷◌, ◌++◌, All, Contains, is_some, map}
+use Rattle.std.specs.Prelude.{◌≡◌, ◌⊎◌, ℕ, true, false, Some, List, [], ◌∷◌, ◌++◌, All, Contains, is_some, map, slice_get}
 use Rattle.std.specs.List.{filter}
 use Rattle.cf_model.specs.declared.events.Event.{Event}
 use Rattle.cf_model.specs.declared.events.Event.TheVariants.{Cancel as Cancels}
 use Rattle.cf_model.specs.declared.events.Reply.{Reply}
+use Rattle.cf_forms.specs.Plans.{sources_at}
+use Rattle.cf_model.specs.declared.stage.Stage.TheVariants.{Linked}
 use Rattle.cf_model.specs.States.{State, outcome_in}
 use Rattle.cf_ledger.specs.Ledgers.{state_of}
-use Rattle.cf_request.specs.Joins.{IsUndecided}
+use Rattle.cf_request.specs.Joins.{IsUndecided, sources_of}
 use Rattle.cf_request.specs.Machines.{Machine, SetsJoin, state_in}
-use Rattle.cf_request.specs.Relays.{IsRelayDue}
+use Rattle.cf_request.specs.Relays.{IsRelayDue, NoneBehind}
 use Rattle.cf_request.specs.Rows.{AreCalls, HasWord, IsCall, IsLater, IsOpened, Out, all_told}
 use Rattle.cf_request.specs.Scopes.{EndsScope, stopped_in}
 use Rattle.cf_request.specs.Settling.{AreSettledInTurn, settle_event}
@@ -63,17 +65,25 @@ JoinsAreExact = (first old set new : Machine) (before after : List Out) (join : 
 
 -- ---- scopes
 
--- the caller cancels the scope's stage, and then the machine settles joins, each where it is the first that is due, and does nothing else
+-- A stage is reached from a scope: it is the scope, or it has a source that is reached, is linked to such a stage, or joins it.
+pub data IsReached (follows : List Join) (s : State) (scope : ℕ) : ℕ → Type 0 where
+  itself : IsReached follows s scope scope
+  by_source : (from stage : ℕ) → IsReached follows s scope from → Contains (sources_at s.plan.stages stage) from → IsReached follows s scope stage
+  by_link : (from stage : ℕ) → IsReached follows s scope from → slice_get s.stages stage ≡ Some (Linked from) → IsReached follows s scope stage
+  by_join : (from : ℕ) (join : Join) → IsReached follows s scope from → Contains follows join → Contains (sources_of join) from → IsReached follows s scope join.stage
+
+-- The caller cancels the scope's stage, and then the machine settles joins, each where it is the first that is due, and does nothing else. So each stage that is settled by that is reached from the scope.
 pub record EndsByJoins (who scope : ℕ) (old new : Machine) : Type 0 where
   pub cancelled : Teller
   pub cancels : cancelled.ledger.events ≡ old.teller.ledger.events ++ Cancels who scope ∷ []
   pub dues : List Due
   pub are : AreSettledInTurn (IsRelayDue old.follows) old.own cancelled dues new.teller
   pub events : new.teller.ledger.events ≡ cancelled.ledger.events ++ map (λ (d : Due). settle_event old.own d.stage d.outcome) dues
+  pub reached : (stage : ℕ) → is_settled_in (state_in old).stages stage ≡ false → is_settled_in (state_in new).stages stage ≡ true → IsReached old.follows (state_in old) scope stage
 
--- what the end of a scope adds
+-- what the end of a scope adds, where no join is behind
 abbrev pub EndsNothingElse : Type 0
-EndsNothingElse = (who scope : ℕ) (old new : Machine) → HasWord (Cancels who scope) → EndsScope who scope old new → (new ≡ old) ⊎ EndsByJoins who scope old new
+EndsNothingElse = (who scope : ℕ) (old new : Machine) → HasWord (Cancels who scope) → NoneBehind old.follows (state_in old).stages → EndsScope who scope old new → (new ≡ old) ⊎ EndsByJoins who scope old new
 
 -- ---- stops
 

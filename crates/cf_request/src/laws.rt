@@ -66,7 +66,8 @@ pub fn joins_are_exact()
 {}
 
 /// What the end of a scope adds to the words is the caller's cancel of the scope's stage, and then what the machine
-/// settles in its own name: joins, each where it is the first that is due.
+/// settles in its own name: joins, each where it is the first that is due. So each stage that it settles is the scope's,
+/// or has a source, a link or a join whose stage is reached from that.
 pub fn scopes_end_nothing_else()
     ensures { EndsNothingElse }
 {}
@@ -79,7 +80,8 @@ pub fn each_stop_is_told_once()
 
 /// A compose that was linked in time ends as its relay, and that follows the stage, after any row of calls. Once the stage
 /// is settled, the compose is. It has the relay's outcome, wrapped, unless it was settled first: by a word that left the
-/// relay open, or by a tick. The relay is a join of one, of which `joins_are_exact` holds.
+/// relay open, or by a tick. The relay has the stage's outcome, raw, unless it was settled otherwise: while the stage was
+/// open, or where it was the turn of a join that was set before.
 pub fn linked_composes_end_alike()
     ensures { LinksEndAlike }
 {}
