@@ -37,6 +37,12 @@
  *
  * Over sources alone:
  *
+ *   request_complete, request_fail  a completion and a failure by cf_request_apply, where nothing joins
+ *   request_beside_16             a completion where 16 joins are open, none of which has this stage
+ *   join_all_2, _8, _64, _512     a join that wants all of so many stages, which are completed; a completion, with its part of the end
+ *   join_first_2, _8, _64, _512   a join that wants one of so many stages, which fail; a failure, with its part of the end
+ *   scope_end_8, _64, _511        a scope of so many open stages ends, by the word that cancels its own stage; a stage of the scope
+ *   cancel_all_8, _64, _511       cf_request_cancel_all of as many stages and one; a stage, without that one
  *   handle                        cf_stages, which looks behind its handle and does little else
  *   graph_complete                cf_complete; a completion
  *   graph_restart_with            cf_restart_with, which completes them all; a completion
@@ -304,6 +310,122 @@ static void count_request(cf_handle *plan) {
   count_chained();
 }
 
+/* ---- Joins and scopes ---- */
+
+enum { JOINED = 512, BESIDE = 64, OPEN_JOINS = 16 };
+
+static uint64_t joined[JOINED]; /* the words of a row */
+
+static void apply_first(cf_handle *request, int count) {
+  for (int i = 0; i < count; i++) MUST(cf_request_apply(request, joined[i], 0, &answered, told, 4, &todo));
+}
+
+/* Rows that make the same calls, over more or fewer stages. */
+#define APPLIED(row)                                                                                                                       \
+  COUNTED row(cf_handle *request, int count) { apply_first(request, count); }
+#define ENDED(row)                                                                                                                         \
+  COUNTED row(cf_handle *request, int count) { MUST(cf_request_apply(request, joined[count], 0, &answered, told, 4, &todo)); }
+#define CANCELLED(row)                                                                                                                     \
+  COUNTED row(cf_handle *request, int count) { MUST(cf_request_cancel_all(request, ME, told, 4, &todo)), (void)count; }
+
+APPLIED(request_complete)
+APPLIED(request_fail)
+APPLIED(request_beside_16)
+APPLIED(join_all_2)
+APPLIED(join_all_8)
+APPLIED(join_all_64)
+APPLIED(join_all_512)
+APPLIED(join_first_2)
+APPLIED(join_first_8)
+APPLIED(join_first_64)
+APPLIED(join_first_512)
+ENDED(scope_end_8)
+ENDED(scope_end_64)
+ENDED(scope_end_511)
+CANCELLED(cancel_all_8)
+CANCELLED(cancel_all_64)
+CANCELLED(cancel_all_511)
+
+static void joins(cf_handle *request, uint16_t stage, uint16_t wanted, bool cancels, const uint16_t *sources, size_t n) {
+  const cf_request_joining step = {.stage = stage, .wanted = wanted, .cancels = cancels};
+  MUST(cf_request_join(request, &step, sources, n, told, 4, &todo));
+}
+
+static void join_first(cf_handle *request, int count, uint16_t wanted) {
+  uint16_t sources[JOINED];
+  for (uint16_t i = 0; i < count; i++) sources[i] = i;
+  joins(request, JOINED, wanted, false, sources, (size_t)count);
+}
+
+static void wants_all(cf_handle *request, int count) { join_first(request, count, (uint16_t)count); }
+
+static void wants_one(cf_handle *request, int count) { join_first(request, count, 1); }
+
+/* The first so many stages are in the scope of the next one. */
+static void are_in_scope(cf_handle *request, int count) {
+  const uint16_t scope = (uint16_t)count;
+  for (uint16_t i = 0; i < scope; i++) joins(request, i, 1, true, &scope, 1);
+}
+
+/* Behind the first so many stages, some join the two behind them. */
+static void others_join(cf_handle *request, int count) {
+  for (int i = 0; i < OPEN_JOINS; i++) {
+    const uint16_t at = (uint16_t)(count + 3 * i), sources[] = {(uint16_t)(at + 1), (uint16_t)(at + 2)};
+    joins(request, at, 2, false, sources, 2);
+  }
+}
+
+static void none_joins(cf_handle *request, int count) { (void)request, (void)count; }
+
+static int open_stages(cf_handle *request, int stages) {
+  int count = 0;
+  cf_stage stage;
+  for (int i = 0; i < stages; i++) {
+    MUST(cf_ledger_stage(request, (uint16_t)i, &stage));
+    count += stage.kind != CF_IS_SETTLED;
+  }
+  return count;
+}
+
+static void count_joins(void) {
+  static const struct {
+    const char *name;
+    void (*set)(cf_handle *request, int count), (*run)(cf_handle *request, int count);
+    uint32_t call;
+    int count, stages, left; /* the parts, the stages, and how many of these are open at the end */
+  } rows[] = {
+      {"request_complete", none_joins, request_complete, CF_CALL_COMPLETE, BESIDE, 2 * BESIDE, BESIDE},
+      {"request_fail", none_joins, request_fail, CF_CALL_FAIL, BESIDE, 2 * BESIDE, BESIDE},
+      {"request_beside_16", others_join, request_beside_16, CF_CALL_COMPLETE, BESIDE, 2 * BESIDE, BESIDE},
+      {"join_all_2", wants_all, join_all_2, CF_CALL_COMPLETE, 2, JOINED + 1, JOINED - 2},
+      {"join_all_8", wants_all, join_all_8, CF_CALL_COMPLETE, 8, JOINED + 1, JOINED - 8},
+      {"join_all_64", wants_all, join_all_64, CF_CALL_COMPLETE, 64, JOINED + 1, JOINED - 64},
+      {"join_all_512", wants_all, join_all_512, CF_CALL_COMPLETE, 512, JOINED + 1, 0},
+      {"join_first_2", wants_one, join_first_2, CF_CALL_FAIL, 2, JOINED + 1, JOINED - 2},
+      {"join_first_8", wants_one, join_first_8, CF_CALL_FAIL, 8, JOINED + 1, JOINED - 8},
+      {"join_first_64", wants_one, join_first_64, CF_CALL_FAIL, 64, JOINED + 1, JOINED - 64},
+      {"join_first_512", wants_one, join_first_512, CF_CALL_FAIL, 512, JOINED + 1, 0},
+      {"scope_end_8", are_in_scope, scope_end_8, CF_CALL_CANCEL, 8, 9, 0},
+      {"scope_end_64", are_in_scope, scope_end_64, CF_CALL_CANCEL, 64, 65, 0},
+      {"scope_end_511", are_in_scope, scope_end_511, CF_CALL_CANCEL, 511, 512, 0},
+      {"cancel_all_8", none_joins, cancel_all_8, CF_CALL_CANCEL, 8, 9, 0},
+      {"cancel_all_64", none_joins, cancel_all_64, CF_CALL_CANCEL, 64, 65, 0},
+      {"cancel_all_511", none_joins, cancel_all_511, CF_CALL_CANCEL, 511, 512, 0},
+  };
+  static const uint8_t lanes[JOINED + 1];
+  for (size_t row = 0; row < sizeof rows / sizeof rows[0]; row++) {
+    cf_handle plan = plan_of(SOURCES, (uint16_t)rows[row].stages), request = {0};
+    MUST(cf_request_new(&plan, &(cf_request_sizes){.lanes = 1, .own = ME}, lanes, (size_t)rows[row].stages, &request));
+    for (uint16_t i = 0; i < JOINED; i++)
+      joined[i] = word_of((cf_event){.call = rows[row].call, .stage = i, .value = number(1), .code = 1});
+    rows[row].set(&request, rows[row].count);
+    rows[row].run(&request, rows[row].count);
+    must_be(open_stages(&request, rows[row].stages) == rows[row].left, rows[row].name);
+    cf_free(&request), cf_free(&plan);
+    say(rows[row].name, rows[row].count);
+  }
+}
+
 /* ---- Graphs ---- */
 
 COUNTED graph_ready(cf_handle *graph) {
@@ -507,6 +629,7 @@ int main(int count, char **given_words) {
     if (count != 2 || strcmp(given_words[1], shapes[i].name) != 0) continue;
     cf_handle plan = plan_of(shapes[i].shape, STAGES);
     if (shapes[i].shape == SOURCES) {
+      count_joins();
       count_completions(&plan);
     } else {
       count_ledger(&plan);
