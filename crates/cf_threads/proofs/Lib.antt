@@ -1,3 +1,5 @@
+pub mod Sums
 pub mod Tokens
-pub mod Told
+pub mod Kept
+pub mod Works
 pub mod Dealt

@@ -4,26 +4,13 @@ use mathlib.Core.Option.{some, some-ne-none, some-injective}
 use lib.ListN.{get_elem?}
 use Rattle.crossbeam_utils.specs.Register.{Turns, Forks, Merges}
 use Rattle.atomic_table.proofs.Lists.{at_set, at_snoc, set_again}
-use Rattle.cf_ledger.specs.declared.step.Taken.{Taken}
 use Rattle.cf_threads.specs.declared.slips.View.{View}
-use Rattle.cf_threads.specs.Slips.{IsCompared, IsIn, IsShared, TakesJob, all_parts, keeper, slip, spent, weigh, with_slip, without_slip}
+use Rattle.cf_threads.specs.declared.turn.Turn.{Turn}
+use Rattle.cf_threads.specs.Slips.{AreAmong, IsCompared, IsFair, IsIn, IsShared, TakesTurn, all_parts, keeper, slip, spent, with_slip, without_slip}
+use Rattle.cf_threads.specs.Turns.{begun, ended, one, weigh}
+use Rattle.cf_threads.proofs.Sums.{gap_in_sum, less_in_sum, one_of_sum, weigh_append, weigh_both, weigh_push, weigh_set}
 
--- ---- sums
-
-sum_append : {A : Type 0} (f : A → ℕ) (xs ys : List A) → weigh f (xs ++ ys) ≡ weigh f xs + weigh f ys
-sum_append f [] ys = omega arith
-sum_append f (x ∷ xs) ys = let more = sum_append f xs ys in omega (arith, more)
-
--- the sum after a change of one
-sum_set : (f : View → ℕ) (views : List View) (by : ℕ) (v w : View) → get_elem? views by ≡ some v → weigh f (set views by w) + f v ≡ weigh f views + f w
-sum_set f [] by v w e = absurd (some-ne-none v (sym e))
-sum_set f (x ∷ xs) zero v w e = let is = ap f (some-injective x v e) in omega (arith, is)
-sum_set f (x ∷ xs) (suc by) v w e = let more = sum_set f xs by v w e in omega (arith, more)
-
-one_of_sum : (f : View → ℕ) (views : List View) (by : ℕ) (v : View) → get_elem? views by ≡ some v → f v ≤ weigh f views
-one_of_sum f [] by v e = absurd (some-ne-none v (sym e))
-one_of_sum f (x ∷ xs) zero v e = let is = ap f (some-injective x v e) in omega (arith, is)
-one_of_sum f (x ∷ xs) (suc by) v e = let more = one_of_sum f xs by v e in omega (arith, more)
+-- ---- who has every part
 
 -- where nobody has a part, nothing is there
 none_in_sum : (f : View → ℕ) (views : List View) → ((j : ℕ) (u : View) → get_elem? views j ≡ some u → u.parts ≡ 0 → f u ≡ 0) → weigh (λ (v : View). v.parts) views ≡ 0 → weigh f views ≡ 0
@@ -49,12 +36,51 @@ alone_in_sum f (x ∷ xs) (suc by) v e idle whole =
     let more = alone_in_sum f xs by v e (λ j u at. idle (suc j) u at) (omega (arith, whole, within)) in
     omega (arith, none, more)
 
+-- ---- what is fair
+
+pub fair_none : (parts : ℕ) → IsFair parts []
+fair_none parts = record { some = λ weight. omega arith; few = omega arith }
+
+fair_both : (p q : ℕ) (xs ys : List Turn) → IsFair p xs → IsFair q ys → IsFair (p + q) (xs ++ ys)
+fair_both p q xs ys h k = record {
+  some = λ weight.
+      (let a = h.some weight in
+      let b = k.some weight in
+      let c = weigh_append (begun weight) xs ys in
+      let d = weigh_append (ended weight) xs ys in
+      omega (arith, a, b, c, d));
+  few =
+      (let a = h.few in
+      let b = k.few in
+      let c = weigh_append (begun one) xs ys in
+      let d = weigh_append (ended one) xs ys in
+      omega (arith, a, b, c, d));
+}
+
+-- with all slips together no more is held than there are parts
+few_in_all : (words : List ℕ) (views : List View) → (h : IsShared words views) → weigh (begun one) h.log ≤ weigh (ended one) h.log + all_parts
+few_in_all words views h =
+    let least = less_in_sum (λ (v : View). weigh (ended one) v.mine + v.parts) (λ (v : View). weigh (begun one) v.mine) views (λ j u e. (h.fits j u e).fair.few) in
+    let both = weigh_both (λ (v : View). weigh (ended one) v.mine) (λ (v : View). v.parts) views in
+    let a = h.taken (begun one) in
+    let b = h.taken (ended one) in
+    let p = h.parts in
+    omega (arith, least, both, a, b, p)
+
+-- what is held with one is among what is held with all
+some_among : (words : List ℕ) (views : List View) (h : IsShared words views) (by : ℕ) (v : View) → get_elem? views by ≡ some v → (weight : ℕ → ℕ) → weigh (begun weight) v.mine + weigh (ended weight) h.log ≤ weigh (ended weight) v.mine + weigh (begun weight) h.log
+some_among words views h by v at weight =
+    let gap = gap_in_sum (λ (u : View). weigh (begun weight) u.mine) (λ (u : View). weigh (ended weight) u.mine) views by v at (λ j u e. (h.fits j u e).fair.some weight) in
+    let a = h.taken (begun weight) in
+    let b = h.taken (ended weight) in
+    omega (arith, gap, a, b)
+
 -- ---- steps
 
 off : false ≡ true → ⊥
 off e = true≢false (sym e)
 
-in_set : (seat : ℕ) (log : List Taken) (views : List View) (by : ℕ) (w : View) → ((j : ℕ) (u : View) → j ≢ by → get_elem? views j ≡ some u → IsIn seat log j u) → IsIn seat log by w
+in_set : (seat : ℕ) (log : List Turn) (views : List View) (by : ℕ) (w : View) → ((j : ℕ) (u : View) → j ≢ by → get_elem? views j ≡ some u → IsIn seat log j u) → IsIn seat log by w
     → (j : ℕ) (u : View) → get_elem? (set views by w) j ≡ some u → IsIn seat log j u
 in_set seat log views by w others mine j u e =
     ⊎_elim
@@ -63,56 +89,96 @@ in_set seat log views by w others mine j u e =
     (at_set views by j w u e)
 
 pub begins : (words : List ℕ) → IsShared words (keeper all_parts [] ∷ [])
-begins words = record { seat = 0; log = []; parts = refl; taken = λ weight. refl; fits = one }
+begins words = record { seat = 0; log = []; parts = refl; taken = λ weight. refl; fits = first }
   where
-    one : (by : ℕ) (v : View) → get_elem? (keeper all_parts [] ∷ []) by ≡ some v → IsIn 0 [] by v
-    one zero v e = subst (IsIn 0 [] 0) (some-injective _ _ e) ((λ none. refl), (λ _. (refl, refl)))
-    one (suc by) v e = absurd (some-ne-none v (sym e))
+    first : (by : ℕ) (v : View) → get_elem? (keeper all_parts [] ∷ []) by ≡ some v → IsIn 0 [] by v
+    first zero v e = subst (IsIn 0 [] 0) (some-injective _ _ e) (record { idle = λ none. refl; keeps = λ _. (refl, refl); fair = fair_none all_parts })
+    first (suc by) v e = absurd (some-ne-none v (sym e))
 
--- the keeper takes a job
-pub takes : (by : ℕ) (v : View) (job : Taken) → v.keeps ≡ true → 0 < v.parts → Turns IsShared by v (λ x. x) (TakesJob job)
-takes by v job keeps some_part words views h at =
-    let w : View = record v { all = v.all ++ job ∷ []; mine = v.mine ++ job ∷ [] } in
-    let known = (h.fits by v at).1 keeps in (
-      w,
+-- once the keeper has taken a turn
+abbrev taken_view : View → Turn → View
+taken_view v turn = record v { all = v.all ++ turn ∷ []; mine = v.mine ++ turn ∷ [] }
+
+keeps_taken : (by : ℕ) (v : View) (turn : Turn) (words : List ℕ) (views : List View) → v.keeps ≡ true → 0 < v.parts → IsFair v.parts (v.mine ++ turn ∷ []) → IsShared words views → get_elem? views by ≡ some v
+    → (h : IsShared words (set views by (taken_view v turn))) × (h.log ≡ v.all ++ turn ∷ [])
+keeps_taken by v turn words views keeps some_part fair h at =
+    let w = taken_view v turn in
+    let known = (h.fits by v at).keeps keeps in (
       (record {
         seat = h.seat;
-        log = h.log ++ job ∷ [];
-        parts = (let s = sum_set (λ (u : View). u.parts) views by v w at in let p = h.parts in omega (arith, s, p));
+        log = h.log ++ turn ∷ [];
+        parts = (let s = weigh_set (λ (u : View). u.parts) views by v w at in let p = h.parts in omega (arith, s, p));
         taken = λ weight.
-            (let s = sum_set (λ (u : View). weigh weight u.mine) views by v w at in
+            (let s = weigh_set (λ (u : View). weigh weight u.mine) views by v w at in
             let t = h.taken weight in
-            let a = sum_append weight v.mine (job ∷ []) in
-            let b = sum_append weight h.log (job ∷ []) in
+            let a = weigh_push weight v.mine turn in
+            let b = weigh_push weight h.log turn in
             omega (arith, s, t, a, b));
-        fits = in_set h.seat (h.log ++ job ∷ []) views by w
-            (λ j u apart e. ((h.fits j u e).0, (λ k. absurd (apart (((h.fits j u e).1 k).0 ∙ sym known.0)))))
-            ((λ none. absurd (omega (arith, none, some_part))), (λ _. (known.0, ap (λ (l : List Taken). l ++ job ∷ []) known.1)));
+        fits = in_set h.seat (h.log ++ turn ∷ []) views by w
+            (λ j u apart e. record {
+              idle = (h.fits j u e).idle;
+              keeps = λ k. absurd (apart (((h.fits j u e).keeps k).0 ∙ sym known.0));
+              fair = (h.fits j u e).fair;
+            })
+            (record {
+              idle = λ none. absurd (omega (arith, none, some_part));
+              keeps = λ _. (known.0, ap (λ (l : List Turn). l ++ turn ∷ []) known.1);
+              fair = fair;
+            });
       }),
-      refl,
+      ap (λ (l : List Turn). l ++ turn ∷ []) (sym known.1),
+    )
+
+-- the keeper takes a turn
+pub takes : (by : ℕ) (v : View) (turn : Turn) → v.keeps ≡ true → 0 < v.parts → IsFair v.parts (v.mine ++ turn ∷ []) → Turns IsShared by v (λ x. x) (TakesTurn turn)
+takes by v turn keeps some_part fair words views h at =
+    let w = taken_view v turn in
+    let next = keeps_taken by v turn words views keeps some_part fair h at in
+    let known = ((h.fits by v at).keeps keeps).1 in (
+      w,
+      next.0,
+      record {
+        is = refl;
+        among = record {
+          some = λ weight.
+              (let gap = some_among words views h by v at weight in
+              let a = weigh_push (begun weight) v.mine turn in
+              let b = weigh_push (ended weight) v.mine turn in
+              let c = weigh_push (begun weight) v.all turn in
+              let d = weigh_push (ended weight) v.all turn in
+              let e = ap (weigh (begun weight)) known in
+              let f = ap (weigh (ended weight)) known in
+              omega (arith, gap, a, b, c, d, e, f));
+          few =
+              (let all = few_in_all words (set views by w) next.0 in
+              let a = ap (weigh (begun one)) next.1 in
+              let b = ap (weigh (ended one)) next.1 in
+              omega (arith, all, a, b));
+        };
+      },
     )
 
 -- a part goes to a new slip
-pub cuts : (by : ℕ) (v : View) → 0 < v.parts → Forks IsShared by v (without_slip v) (slip v.mine)
-cuts by v some_part words views h at =
+pub cuts : (by : ℕ) (v : View) → 0 < v.parts → IsFair 1 v.mine → Forks IsShared by v (without_slip v) (slip v.mine)
+cuts by v some_part fair words views h at =
     let l = without_slip v in
     let r = slip v.mine in
     record {
       seat = h.seat;
       log = h.log;
       parts =
-          (let s = sum_set (λ (u : View). u.parts) views by v l at in
-          let t = sum_append (λ (u : View). u.parts) (set views by l) (r ∷ []) in
+          (let s = weigh_set (λ (u : View). u.parts) views by v l at in
+          let t = weigh_append (λ (u : View). u.parts) (set views by l) (r ∷ []) in
           let p = h.parts in
           omega (arith, s, t, p, some_part));
       taken = λ weight.
-          (let s = sum_set (λ (u : View). weigh weight u.mine) views by v l at in
-          let t = sum_append (λ (u : View). weigh weight u.mine) (set views by l) (r ∷ []) in
+          (let s = weigh_set (λ (u : View). weigh weight u.mine) views by v l at in
+          let t = weigh_append (λ (u : View). weigh weight u.mine) (set views by l) (r ∷ []) in
           let p = h.taken weight in
           omega (arith, s, t, p));
       fits = λ j u e. ⊎_elim
-          (λ was. in_set h.seat h.log views by l (λ k y apart at'. h.fits k y at') ((λ _. refl), (h.fits by v at).1) j u was)
-          (λ (same : r ≡ u). subst (IsIn h.seat h.log j) same ((λ none. absurd (omega (arith, none))), (λ k. absurd (off k))))
+          (λ was. in_set h.seat h.log views by l (λ k y apart at'. h.fits k y at') (record { idle = λ _. refl; keeps = (h.fits by v at).keeps; fair = fair_none _ }) j u was)
+          (λ (same : r ≡ u). subst (IsIn h.seat h.log j) same (record { idle = λ none. absurd (omega (arith, none)); keeps = λ k. absurd (off k); fair = fair }))
           (at_snoc (set views by l) r u j e);
     }
 
@@ -120,7 +186,7 @@ none_left : (v w : View) → (v.parts ≡ 0 → v.mine ≡ []) → (w.parts ≡ 
 none_left v w first second none =
     let a = first (omega (arith, none)) in
     let b = second (omega (arith, none)) in
-    ap (λ (l : List Taken). l ++ w.mine) a ∙ b
+    ap (λ (l : List Turn). l ++ w.mine) a ∙ b
 
 -- a slip comes back
 pub joins : (by : ℕ) (v : View) (other : ℕ) (w : View) → Merges IsShared by v other w (with_slip v w) spent
@@ -128,29 +194,32 @@ joins by v other w words views h at apart there =
     let both = with_slip v w in
     let was : get_elem? views other ≡ some w = ⊎_elim (λ (t : (other ≡ by) × (both ≡ w)). absurd (apart t.0)) (λ (t : (other ≢ by) × (get_elem? views other ≡ some w)). t.1) (at_set views by other both w there) in
     let vs = set views by both in
+    let mine = h.fits by v at in
+    let its = h.fits other w was in
     record {
       seat = h.seat;
       log = h.log;
       parts =
-          (let s = sum_set (λ (u : View). u.parts) views by v both at in
-          let t = sum_set (λ (u : View). u.parts) vs other w spent there in
+          (let s = weigh_set (λ (u : View). u.parts) views by v both at in
+          let t = weigh_set (λ (u : View). u.parts) vs other w spent there in
           let p = h.parts in
           omega (arith, s, t, p));
       taken = λ weight.
-          (let s = sum_set (λ (u : View). weigh weight u.mine) views by v both at in
-          let t = sum_set (λ (u : View). weigh weight u.mine) vs other w spent there in
-          let a = sum_append weight v.mine w.mine in
+          (let s = weigh_set (λ (u : View). weigh weight u.mine) views by v both at in
+          let t = weigh_set (λ (u : View). weigh weight u.mine) vs other w spent there in
+          let a = weigh_append weight v.mine w.mine in
           let p = h.taken weight in
           omega (arith, s, t, a, p));
       fits = in_set h.seat h.log vs other spent
-          (λ j u _ e. in_set h.seat h.log views by both (λ k y _ at'. h.fits k y at') (none_left v w (h.fits by v at).0 (h.fits other w was).0, (h.fits by v at).1) j u e)
-          ((λ _. refl), (λ k. absurd (off k)));
+          (λ j u _ e. in_set h.seat h.log views by both (λ k y _ at'. h.fits k y at')
+          (record { idle = none_left v w mine.idle its.idle; keeps = mine.keeps; fair = fair_both v.parts w.parts v.mine w.mine mine.fair its.fair }) j u e)
+          (record { idle = λ _. refl; keeps = λ k. absurd (off k); fair = fair_none 0 });
     }
 
 -- who has every part compares
 pub compares : (by : ℕ) (v : View) → v.keeps ≡ true → v.parts ≡ all_parts → Turns IsShared by v (λ x. x) IsCompared
 compares by v keeps whole words views h at =
-    let known = (h.fits by v at).1 keeps in
-    let alone : (weight : Taken → ℕ) → weigh weight v.mine ≡ weigh weight v.all =
-    λ weight. sym (alone_in_sum (λ (u : View). weigh weight u.mine) views by v at (λ j u e none. ap (weigh weight) ((h.fits j u e).0 none)) (h.parts ∙ sym whole)) ∙ h.taken weight ∙ ap (weigh weight) (sym known.1) in
+    let known = (h.fits by v at).keeps keeps in
+    let alone : (weight : Turn → ℕ) → weigh weight v.mine ≡ weigh weight v.all =
+    λ weight. sym (alone_in_sum (λ (u : View). weigh weight u.mine) views by v at (λ j u e none. ap (weigh weight) ((h.fits j u e).idle none)) (h.parts ∙ sym whole)) ∙ h.taken weight ∙ ap (weigh weight) (sym known.1) in
     (v, subst (IsShared words) (sym (set_again views by v at)) h, (refl, alone))

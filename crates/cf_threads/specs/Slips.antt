@@ -1,29 +1,24 @@
--- Slips: what the keeper and each thread know of the jobs that were taken.
-use Rattle.std.specs.Prelude.{◌≡◌, ℕ, ◌+◌, ◌-◌, None, List, [], ◌∷◌, ◌++◌, false, true}
+-- Slips: what the keeper and each thread know of the turns that were taken.
+use Rattle.std.specs.Prelude.{◌≡◌, ℕ, ◌+◌, ◌-◌, ◌≤◌, None, Ok, List, [], ◌∷◌, ◌++◌, false, true}
 use mathlib.Core.Option.{some}
 use lib.ListN.{get_elem?}
-use Rattle.cf_forms.specs.declared.forms.Args.TheVariants.{None as WithNothing}
-use Rattle.cf_ledger.specs.declared.step.Taken.{Taken}
+use Rattle.cf_threads.specs.Turns.{begun, ended, one, weigh}
 use Rattle.cf_threads.specs.declared.slips.View.{View}
+use Rattle.cf_threads.specs.declared.turn.Turn.{Turn}
 
--- the weights of these, added up
-abbrev pub weigh : {A : Type 0} → (A → ℕ) → List A → ℕ
-weigh weight [] = 0
-weigh weight (x ∷ xs) = weight x + weigh weight xs
-
-abbrev pub no_job : Taken
-no_job = record { stage = 0; function = None; args = WithNothing; word = 0 }
+abbrev pub no_turn : Turn
+no_turn = record { held = None; next = Ok None }
 
 -- all parts together
 abbrev pub all_parts : ℕ
 all_parts = 4096
 
 -- the keeper's slip, with so many parts, once all of these were taken
-abbrev pub keeper : ℕ → List Taken → View
+abbrev pub keeper : ℕ → List Turn → View
 keeper parts all = record { parts = parts; keeps = true; all = all; mine = [] }
 
 -- a thread's slip, with which these were taken
-abbrev pub slip : List Taken → View
+abbrev pub slip : List Turn → View
 slip mine = record { parts = 1; keeps = false; all = []; mine = mine }
 
 abbrev pub IsKeeper : View → Type 0
@@ -42,21 +37,35 @@ without_slip v = record { parts = v.parts - 1; keeps = v.keeps; all = v.all; min
 abbrev pub spent : View
 spent = record { parts = 0; keeps = false; all = []; mine = [] }
 
--- with no part nothing was taken, and only one slip is the keeper's, which knows what was taken
-abbrev pub IsIn : ℕ → List Taken → ℕ → View → Type 0
-IsIn seat log by v = (v.parts ≡ 0 → v.mine ≡ []) × (v.keeps ≡ true → (by ≡ seat) × (v.all ≡ log))
+-- with so many parts no more is brought back than was told, and no more is held than there are parts
+pub record IsFair (parts : ℕ) (mine : List Turn) : Type 0 where
+  pub some : (weight : ℕ → ℕ) → weigh (ended weight) mine ≤ weigh (begun weight) mine
+  pub few : weigh (begun one) mine ≤ weigh (ended one) mine + parts
 
--- however jobs are weighed, those that were taken with all slips together weigh what those do that were taken
+-- with no part nothing was taken, and only one slip is the keeper's, which knows what was taken
+pub record IsIn (seat : ℕ) (log : List Turn) (by : ℕ) (v : View) : Type 0 where
+  pub idle : v.parts ≡ 0 → v.mine ≡ []
+  pub keeps : v.keeps ≡ true → (by ≡ seat) × (v.all ≡ log)
+  pub fair : IsFair v.parts v.mine
+
+-- however turns are weighed, those that were taken with all slips together weigh what those do that were taken
 pub record IsShared (words : List ℕ) (views : List View) : Type 0 where
   pub seat : ℕ
-  pub log : List Taken
+  pub log : List Turn
   pub parts : weigh (λ (v : View). v.parts) views ≡ all_parts
-  pub taken : (weight : Taken → ℕ) → weigh (λ (v : View). weigh weight v.mine) views ≡ weigh weight log
+  pub taken : (weight : Turn → ℕ) → weigh (λ (v : View). weigh weight v.mine) views ≡ weigh weight log
   pub fits : (by : ℕ) (v : View) → get_elem? views by ≡ some v → IsIn seat log by v
 
-abbrev pub TakesJob : Taken → View → List ℕ → List ℕ → View → Type 0
-TakesJob job v before after w = w ≡ record v { all = v.all ++ job ∷ []; mine = v.mine ++ job ∷ [] }
+-- what is held with one slip is among what is held with all, which is no more than there are parts
+pub record AreAmong (mine all : List Turn) : Type 0 where
+  pub some : (weight : ℕ → ℕ) → weigh (begun weight) mine + weigh (ended weight) all ≤ weigh (ended weight) mine + weigh (begun weight) all
+  pub few : weigh (begun one) all ≤ weigh (ended one) all + all_parts
 
--- however jobs are weighed, those that were taken with this slip weigh what all do
+-- a turn is taken, and it is known how what is held by it stands to all that is held
+pub record TakesTurn (turn : Turn) (v : View) (before after : List ℕ) (w : View) : Type 0 where
+  pub is : w ≡ record v { all = v.all ++ turn ∷ []; mine = v.mine ++ turn ∷ [] }
+  pub among : AreAmong w.mine w.all
+
+-- however turns are weighed, those that were taken with this slip weigh what all do
 abbrev pub IsCompared : View → List ℕ → List ℕ → View → Type 0
-IsCompared v before after w = (w ≡ v) × ((weight : Taken → ℕ) → weigh weight v.mine ≡ weigh weight v.all)
+IsCompared v before after w = (w ≡ v) × ((weight : Turn → ℕ) → weigh weight v.mine ≡ weigh weight v.all)

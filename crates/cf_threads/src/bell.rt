@@ -37,7 +37,7 @@ impl Bell {
         seen: MutexGuard<'a, Desk<B>>,
         lane: u8,
     ) -> MutexGuard<'a, Desk<B>>
-        requires { NothingIsReady (mutex_guard_value seen).teller lane }
+        requires { NothingIsReady (mutex_guard_value seen).machine.teller lane }
     {
         let _lane = lane;
         self.more.wait(rt, seen)

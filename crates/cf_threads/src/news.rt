@@ -12,7 +12,7 @@ impl News {
     }
 
     /// It is told.
-    pub fn told(self) {
+    pub(crate) fn told(self) {
         let News { told: _ } = self;
     }
 }

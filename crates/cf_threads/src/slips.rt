@@ -1,12 +1,13 @@
-//! What carries facts out of a lock: slips, of no bytes. The keeper's lies under the lock and knows all jobs that were
+//! What carries facts out of a lock: slips, of no bytes. The keeper's lies under the lock and knows all turns that were
 //! taken, and each thread's knows those that this thread took. Once all are back in one, they are compared.
 ghost use Rattle.std.specs.Prelude.{◌≡◌, ◌∷◌, ◌<◌, ◌++◌, ◌-◌, ℕ, IfOk, [], true};
-ghost use Rattle.cf_ledger.specs.declared.step.Taken.{Taken};
 ghost use Rattle.crossbeam_utils.specs.Seq.{IsSamePass, cell_view};
-ghost use Rattle.cf_threads.specs.Slips.{IsKeeper, IsSlip, all_parts, keeper, slip, weigh, with_slip};
+ghost use Rattle.cf_threads.specs.Slips.{AreAmong, IsFair, IsKeeper, IsSlip, all_parts, keeper, slip, with_slip};
+ghost use Rattle.cf_threads.specs.Turns.{Holds, weigh};
+ghost use Rattle.cf_threads.specs.declared.turn.Turn.{Turn};
 
+use crate::turn::Turn;
 use atomic_table::{Join, Split};
-use cf_ledger::Taken;
 use crossbeam_utils::atomic::seq_cell::{Pass, RuledSeqCell};
 use crossbeam_utils::rule::{Outcome, Protocol};
 use std::alloc::{AllocError, Global};
@@ -20,10 +21,10 @@ pub struct View {
     pub parts: u64,
     /// Whether it is the keeper's.
     pub keeps: bool,
-    /// All jobs that were taken, if it is the keeper's.
-    pub all: LinkedList<Taken>,
-    /// The jobs that were taken with it.
-    pub mine: LinkedList<Taken>,
+    /// All turns that were taken, if it is the keeper's.
+    pub all: LinkedList<Turn>,
+    /// The turns that were taken with it.
+    pub mine: LinkedList<Turn>,
 }
 
 /// What was taken with all slips together is what was taken.
@@ -38,28 +39,28 @@ impl Protocol<[u64; 1], View> for Shares {
     ghost first = { keeper all_parts [] };
 }
 
-/// Which job is taken.
-pub trait Job {
-    ghost use Rattle.cf_ledger.specs.declared.step.Taken.{Taken};
+/// Which turn is taken.
+pub trait Which {
+    ghost use Rattle.cf_threads.specs.declared.turn.Turn.{Turn};
 
-    ghost job: { Taken };
+    ghost turn: { Turn };
 }
 
-impl Job for Brand {
-    ghost use Rattle.cf_threads.specs.Slips.{no_job};
+impl Which for Brand {
+    ghost use Rattle.cf_threads.specs.Slips.{no_turn};
 
-    ghost job = { no_job };
+    ghost turn = { no_turn };
 }
 
-/// The job is taken.
-struct Takes<J> {
-    job: PhantomData<J>,
+/// The turn is taken.
+struct Takes<W> {
+    which: PhantomData<W>,
 }
 
-impl<J: Job> Outcome<[u64; 1], View> for Takes<J> {
-    ghost use Rattle.cf_threads.specs.Slips.{TakesJob};
+impl<W: Which> Outcome<[u64; 1], View> for Takes<W> {
+    ghost use Rattle.cf_threads.specs.Slips.{TakesTurn};
 
-    ghost then = { TakesJob J.job };
+    ghost then = { TakesTurn W.turn };
 }
 
 /// What was taken is compared.
@@ -114,34 +115,38 @@ pub fn cut(cell: &Cell, all: &mut Slip) -> Slip
     cell.split_pass::<Part>(all)
 }
 
-/// Notes a job as taken with a slip, beside the keeper's.
-pub fn note<R: Wait>(rt: &R, cell: &Cell, all: &mut Slip, mine: Slip, job: &Taken) -> Slip
+/// Notes a turn as taken with a slip, beside the keeper's. What the thread brought is what it held.
+pub fn note<R: Wait>(rt: &R, cell: &Cell, all: &mut Slip, mine: Slip, turn: &Turn) -> Slip
     requires own { all.old.table_id ≡ cell.now.table.shared.table_id }
     requires keeper { IsKeeper (cell_view all.old) }
     requires slip { (mine.table_id ≡ all.old.table_id) × (mine.me.1 ≡ []) × IsSlip (cell_view mine) }
+    requires holds { Holds turn.now.held (cell_view mine).mine }
     ensures kept { IsSamePass all.old all.new
-        × (cell_view all.new ≡ keeper (cell_view all.old).parts ((cell_view all.old).all ++ job.now ∷ [])) }
+        × (cell_view all.new ≡ keeper (cell_view all.old).parts ((cell_view all.old).all ++ turn.now ∷ [])) }
     ensures given { (result.table_id ≡ all.old.table_id) × (result.me.1 ≡ [])
-        × (cell_view result ≡ slip ((cell_view mine).mine ++ job.now ∷ [])) }
+        × (cell_view result ≡ slip ((cell_view mine).mine ++ turn.now ∷ [])) }
+    ensures among { AreAmong ((cell_view mine).mine ++ turn.now ∷ []) ((cell_view all.old).all ++ turn.now ∷ []) }
 {
     cell.join_pass::<Part>(all, mine);
-    take_job::<Brand, R>(rt, cell, all, job);
+    take_turn::<Brand, R>(rt, cell, all, turn);
     cell.split_pass::<Part>(all)
 }
 
-/// Notes a job as taken with a slip that knows all.
-fn take_job<J: Job, R: Wait>(rt: &R, cell: &Cell, all: &mut Slip, job: &Taken)
+/// Notes a turn as taken with a slip that knows all.
+fn take_turn<W: Which, R: Wait>(rt: &R, cell: &Cell, all: &mut Slip, turn: &Turn)
     requires own { all.old.table_id ≡ cell.now.table.shared.table_id }
     requires keeps { ((cell_view all.old).keeps ≡ true) × (0 < (cell_view all.old).parts) }
-    requires job { job.now ≡ J.job }
+    requires turn { turn.now ≡ W.turn }
+    requires fair { IsFair (cell_view all.old).parts ((cell_view all.old).mine ++ turn.now ∷ []) }
     ensures same { IsSamePass all.old all.new }
     ensures taken { cell_view all.new ≡ record (cell_view all.old) {
-      all = (cell_view all.old).all ++ job.now ∷ [];
-      mine = (cell_view all.old).mine ++ job.now ∷ [];
+      all = (cell_view all.old).all ++ turn.now ∷ [];
+      mine = (cell_view all.old).mine ++ turn.now ∷ [];
     } }
+    ensures among { AreAmong ((cell_view all.old).mine ++ turn.now ∷ []) ((cell_view all.old).all ++ turn.now ∷ []) }
 {
-    let _job = job;
-    cell.load_as::<Takes<J>, R>(rt, all);
+    let _turn = turn;
+    cell.load_as::<Takes<W>, R>(rt, all);
 }
 
 /// Takes a slip back.
@@ -158,7 +163,7 @@ pub fn compare<R: Wait>(rt: &R, cell: &Cell, all: &mut Slip)
     requires own { all.old.table_id ≡ cell.now.table.shared.table_id }
     requires whole { ((cell_view all.old).keeps ≡ true) × ((cell_view all.old).parts ≡ all_parts) }
     ensures same { IsSamePass all.old all.new × (cell_view all.new ≡ cell_view all.old) }
-    ensures each { (weight : Taken → ℕ) → weigh weight (cell_view all.old).mine ≡ weigh weight (cell_view all.old).all }
+    ensures each { (weight : Turn → ℕ) → weigh weight (cell_view all.old).mine ≡ weigh weight (cell_view all.old).all }
 {
     cell.load_as::<Compares, R>(rt, all);
 }

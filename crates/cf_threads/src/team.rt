@@ -1,16 +1,19 @@
 //! Threads that run a request together.
 ghost use Rattle.std.specs.Prelude.{◌≡◌, ◌+◌, ◌-◌, ◌<◌, ◌≤◌, ℕ, All, IfOk, [], vec_capacity, vec_len};
 ghost use Rattle.std.specs.List.{AllZip};
-ghost use Rattle.cf_ledger.specs.declared.step.Taken.{Taken};
 ghost use Rattle.crossbeam_utils.specs.Seq.{cell_view};
-ghost use Rattle.cf_threads.specs.Slips.{all_parts, keeper, slip, weigh};
-ghost use Rattle.cf_threads.specs.Teams.{BelongsTo, HasEnded, IsBack, IsDealt, IsLeft, RanTogether, jobs_done};
+ghost use Rattle.cf_threads.specs.Slips.{all_parts, keeper, slip};
+ghost use Rattle.cf_threads.specs.Teams.{BelongsTo, HasEnded, IsBack, IsDealt, IsLeft, RanTogether, turns_of};
+ghost use Rattle.cf_threads.specs.Turns.{weigh};
+ghost use Rattle.cf_threads.specs.declared.turn.Turn.{Turn};
 
 use crate::bell::Bell;
 use crate::desk::Desk;
+use crate::place::Place;
 use crate::room::Room;
 use crate::slips::{Cell, Slip, compare, cut, open, take_back};
-use crate::work::{Host, Place, Stopped, work};
+use crate::turn::Turn;
+use crate::work::{Host, Stopped, work};
 use cf_forms::Functions;
 use cf_request::Machine;
 use cf_request::laws::each_stage_is_run_once;
@@ -21,12 +24,12 @@ use std::sync::{Mutex, Wait};
 use std::thread;
 use std::thread::Threads;
 
-/// What a thread leaves: its functions, why it has stopped, if it was refused a step, and which jobs it took.
+/// What a thread leaves: its functions, why it has stopped, if it was refused a step, and which turns it took.
 #[derive(Drop)]
 pub struct Worked<F> {
     pub functions: F,
     pub stopped: Option<Stopped>,
-    pub jobs: Snapshot<Slip>,
+    pub turns: Snapshot<Slip>,
 }
 
 /// What all threads leave, each in the place of its functions.
@@ -46,7 +49,8 @@ pub struct Ended<F> {
 
 /// Starts a thread for each of these functions. The threads run the stages of a lane of a machine, under one lock, until
 /// none is ready and no thread holds one. Each job that the machine told is called once, by one of them, with its own
-/// arguments, and nothing else is called. It fails only where there is no memory.
+/// arguments, its stage is finished with what that call answered, and nothing else is called. A thread stops early only
+/// if the machine refuses it a step, and then it says why. It fails only where there is no memory.
 pub fn run<R: Threads + Wait + Sync, F: Functions + Send + Drop>(
     rt: &R,
     alloc: Global,
@@ -56,7 +60,7 @@ pub fn run<R: Threads + Wait + Sync, F: Functions + Send + Drop>(
 ) -> Result<Left<F>, AllocError>
     requires lane { place.lane < machine.teller.lanes.count }
     requires few { vec_len hands < 4096 }
-    ensures { IfOk result (λ left. RanTogether F.calls machine hands.items left.machine left.workers.items) }
+    ensures { IfOk result (λ left. RanTogether F.calls place machine hands.items left.machine left.workers.items) }
 {
     let (cell, all) = open(alloc)?;
     run_in::<Brand, R, F>(rt, &cell, all, machine, place, hands)
@@ -73,11 +77,11 @@ fn run_in<B: Room + Send + Sync, R: Threads + Wait + Sync, F: Functions + Send +
 ) -> Result<Left<F>, AllocError>
     requires own { (cell.now.table.shared.table_id ≡ B.table) × (all.table_id ≡ B.table) }
     requires whole { cell_view all ≡ keeper all_parts [] }
-    requires start { machine ≡ B.start }
+    requires start { (machine ≡ B.start) × (place ≡ B.place) }
     requires parts { B.parts + vec_len hands ≡ all_parts }
     requires few { vec_len hands < 4096 }
     requires lane { place.lane < B.start.teller.lanes.count }
-    ensures { IfOk result (λ left. RanTogether F.calls machine hands.items left.machine left.workers.items) }
+    ensures { IfOk result (λ left. RanTogether F.calls place machine hands.items left.machine left.workers.items) }
 {
     each_stage_is_run_once();
     let alloc = *hands.allocator();
@@ -126,7 +130,7 @@ fn spread<B: Room + Send + Sync, R: Threads + Wait + Sync, F: Functions + Send +
     jobs: Vec<(F, Slip)>,
 ) -> Result<(Desk<B>, Vec<Ended<F>>), AllocError>
     requires cell { cell.now.table.shared.table_id ≡ B.table }
-    requires lane { place.lane < B.start.teller.lanes.count }
+    requires place { (place ≡ B.place) × (place.lane < B.start.teller.lanes.count) }
     requires jobs { All (λ job. BelongsTo B.table job.1 × (cell_view job.1 ≡ slip [])) jobs.items }
     ensures each { IfOk result (λ r. AllZip (HasEnded F.calls B.table) jobs.items r.1.items) }
 {
@@ -139,7 +143,7 @@ fn spread<B: Room + Send + Sync, R: Threads + Wait + Sync, F: Functions + Send +
         jobs,
         &|job: (F, Slip)| -> Ended<F>
             requires cell { cell.now.table.shared.table_id ≡ B.table }
-            requires lane { place.lane < B.start.teller.lanes.count }
+            requires place { (place ≡ B.place) × (place.lane < B.start.teller.lanes.count) }
             requires job { BelongsTo B.table job.1 × (cell_view job.1 ≡ slip []) }
             ensures { HasEnded F.calls B.table job result }
         { work_as(rt, cell, desk, rung, place, job) },
@@ -157,16 +161,16 @@ fn work_as<B: Room, F: Functions, R: Wait>(
     job: (F, Slip),
 ) -> Ended<F>
     requires cell { cell.now.table.shared.table_id ≡ B.table }
-    requires lane { place.lane < B.start.teller.lanes.count }
+    requires place { (place ≡ B.place) × (place.lane < B.start.teller.lanes.count) }
     requires job { BelongsTo B.table job.1 × (cell_view job.1 ≡ slip []) }
     ensures { HasEnded F.calls B.table job result }
 {
     let (mut functions, mine) = job;
     let host = Host { cell, desk, bell };
-    let (end, mine) = work(rt, &host, place, &mut functions, mine);
+    let (stopped, mine) = work(rt, &host, place, &mut functions, mine);
     Ended {
         functions,
-        stopped: end.err(),
+        stopped,
         mine,
     }
 }
@@ -185,8 +189,8 @@ fn take_all_back<F: Drop>(
     ensures same { (all.new.table_id ≡ all.old.table_id) × ((cell_view all.new).keeps ≡ (cell_view all.old).keeps)
         × ((cell_view all.new).all ≡ (cell_view all.old).all) }
     ensures parts { (cell_view all.new).parts ≡ (cell_view all.old).parts + vec_len ended }
-    ensures weighs { (weight : Taken → ℕ) → weigh weight (cell_view all.new).mine
-        ≡ weigh (λ w. weigh weight (jobs_done w)) result.items }
+    ensures weighs { (weight : Turn → ℕ) → weigh weight (cell_view all.new).mine
+        ≡ weigh (λ w. weigh weight (turns_of w)) result.items }
     ensures workers { AllZip IsLeft ended.items result.items }
 {
     let mut rest = ended.into_iter();
@@ -196,12 +200,12 @@ fn take_all_back<F: Drop>(
             stopped,
             mine,
         } = one;
-        let jobs = Snapshot::of(&mine);
+        let turns = Snapshot::of(&mine);
         take_back(cell, all, mine);
         back.push_reserved(Worked {
             functions,
             stopped,
-            jobs,
+            turns,
         });
     }
     back

@@ -1,11 +1,13 @@
 //! What one thread does.
-ghost use Rattle.std.specs.Prelude.{◌≡◌, ◌<◌, ◌++◌, []};
+ghost use Rattle.std.specs.Prelude.{◌≡◌, ◌<◌, []};
 ghost use Rattle.crossbeam_utils.specs.Seq.{cell_view};
-ghost use Rattle.cf_threads.specs.Desks.{CallsEach, jobs_of};
 ghost use Rattle.cf_threads.specs.Slips.{IsSlip, slip};
+ghost use Rattle.cf_threads.specs.Turns.{Holds};
+ghost use Rattle.cf_threads.specs.Works.{HasWorked, TakesNext};
 
 use crate::bell::Bell;
-use crate::desk::{Desk, Turn};
+use crate::desk::{Desk, Told};
+use crate::place::Place;
 use crate::room::Room;
 use crate::slips::{Cell, Slip};
 use cf_forms::Functions;
@@ -20,13 +22,6 @@ pub struct Host<'a, B: Room> {
     pub bell: &'a Bell,
 }
 
-/// As whom a thread claims, and of which lane.
-#[derive(Clone, Copy)]
-pub struct Place {
-    pub who: u8,
-    pub lane: u8,
-}
-
 /// Why a thread has stopped, and what it holds, which stays claimed.
 #[derive(Clone, Copy, Debug, PartialEq, Eq)]
 pub struct Stopped {
@@ -35,38 +30,40 @@ pub struct Stopped {
 }
 
 /// Takes the lock, finishes what is held, and claims a stage. As long as none is ready and another thread holds one, it
-/// rests.
+/// rests, and then holds nothing.
 fn take_next<B: Room, R: Wait>(
     rt: &R,
     host: &Host<'_, B>,
     place: Place,
     held: Option<Held>,
     mine: Slip,
-) -> (Result<Option<Taken>, StepFault>, Slip)
+) -> (Result<Option<Taken>, Stopped>, Slip)
     requires cell { host.now.cell.now.table.shared.table_id ≡ B.table }
-    requires lane { place.lane < B.start.teller.lanes.count }
+    requires place { (place ≡ B.place) × (place.lane < B.start.teller.lanes.count) }
     requires mine { (mine.table_id ≡ B.table) × (mine.me.1 ≡ []) × IsSlip (cell_view mine) }
-    ensures mine { (result.1.table_id ≡ B.table) × (result.1.me.1 ≡ []) }
-    ensures noted { cell_view result.1 ≡ slip ((cell_view mine).mine ++ jobs_of result.0) }
+    requires holds { Holds held (cell_view mine).mine }
+    ensures mine { (result.1.table_id ≡ B.table) × (result.1.me.1 ≡ []) × IsSlip (cell_view result.1) }
+    ensures next { TakesNext held (cell_view mine).mine result.0 (cell_view result.1).mine }
 {
     let mut seen = host.desk.lock(rt);
     let mut holds = held;
     let mut mine = mine;
     'turns: for _ in rt.forever() {
-        let Turn {
+        let Told {
             next,
             mine: back,
             news,
-        } = seen.turn(rt, host.cell, place.who, place.lane, holds, mine);
+        } = seen.turn(rt, host.cell, place, holds, mine);
         host.bell.ring(news);
         mine = back;
         match next {
             Ok(None) => {
                 if seen.is_left() {
-                    return (next, mine);
+                    return (Ok(None), mine);
                 }
             }
-            _ => return (next, mine),
+            Ok(Some(taken)) => return (Ok(Some(taken)), mine),
+            Err(fault) => return (Err(Stopped { fault, held: holds }), mine),
         }
         holds = None;
         seen = host.bell.rest(rt, seen, place.lane);
@@ -75,19 +72,20 @@ fn take_next<B: Room, R: Wait>(
 }
 
 /// Works until no stage of the lane is ready and no thread holds one: takes a stage under the lock, calls its function
-/// outside of it, and finishes the stage under the lock, when it takes the next.
+/// outside of it, and finishes the stage with the answer under the lock, when it takes the next. If a step is refused,
+/// it stops and says why.
 pub fn work<B: Room, F: Functions, R: Wait>(
     rt: &R,
     host: &Host<'_, B>,
     place: Place,
     functions: &mut F,
     mine: Slip,
-) -> (Result<(), Stopped>, Slip)
+) -> (Option<Stopped>, Slip)
     requires cell { host.now.cell.now.table.shared.table_id ≡ B.table }
-    requires lane { place.lane < B.start.teller.lanes.count }
-    requires mine { (mine.table_id ≡ B.table) × (mine.me.1 ≡ []) × IsSlip (cell_view mine) }
+    requires place { (place ≡ B.place) × (place.lane < B.start.teller.lanes.count) }
+    requires mine { (mine.table_id ≡ B.table) × (mine.me.1 ≡ []) × (cell_view mine ≡ slip []) }
     ensures mine { (result.1.table_id ≡ B.table) × (result.1.me.1 ≡ []) × IsSlip (cell_view result.1) }
-    ensures called { CallsEach F.calls functions.old (cell_view mine).mine functions.new (cell_view result.1).mine }
+    ensures worked { HasWorked F.calls functions.old (cell_view result.1).mine functions.new result.0 }
 {
     let mut holds = None;
     let mut mine = mine;
@@ -102,8 +100,8 @@ pub fn work<B: Room, F: Functions, R: Wait>(
                     answer,
                 });
             }
-            Ok(None) => return (Ok(()), mine),
-            Err(fault) => return (Err(Stopped { fault, held: holds }), mine),
+            Ok(None) => return (None, mine),
+            Err(stopped) => return (Some(stopped), mine),
         }
     }
     unreachable!()

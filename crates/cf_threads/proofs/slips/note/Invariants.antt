@@ -1,4 +1,4 @@
 use Rattle.cf_threads.proofs.slips.note.Given as goal
 
-abbrev pub ghosts-take_job : goal.ghosts-take_job
-ghosts-take_job g a = record { job = a.job.now }
+abbrev pub ghosts-take_turn : goal.ghosts-take_turn
+ghosts-take_turn g a = record { turn = a.turn.now }

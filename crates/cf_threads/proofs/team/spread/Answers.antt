@@ -8,7 +8,7 @@ use Rattle.cf_threads.proofs.team.spread.Goals as goal
 pub map_vec-requires-after_bounds : goal.map_vec-requires-after_bounds
 map_vec-requires-after_bounds g c = λ κs within i x less is. (
   c.requires.cell,
-  (c.requires.lane, subst (λ (y : g.row.F.Denot × Slip). BelongsTo g.B.Room.table y.1 × (cell_view y.1 ≡ slip [])) (sym is) (c.requires.jobs i x less)),
+  (c.requires.place, subst (λ (y : g.row.F.Denot × Slip). BelongsTo g.B.Room.table y.1 × (cell_view y.1 ≡ slip [])) (sym is) (c.requires.jobs i x less)),
 )
 
 pub returns : goal.returns

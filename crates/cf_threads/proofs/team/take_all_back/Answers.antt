@@ -2,8 +2,8 @@ use Rattle.std.proofs.Common.{◌≡◌, ◌++◌, ◌∷◌, ◌+◌, [], List,
 use Rattle.std.specs.List.{All, AllZip}
 use Rattle.std.specs.Vec.Iter.{into_iter_items}
 use Rattle.crossbeam_utils.specs.Seq.{cell_view}
-use Rattle.cf_threads.specs.Slips.{weigh}
-use Rattle.cf_threads.specs.Teams.{IsBack, IsLeft, Slip, jobs_done}
+use Rattle.cf_threads.specs.Teams.{IsBack, IsLeft, Slip, turns_of}
+use Rattle.cf_threads.specs.Turns.{weigh}
 use Rattle.cf_threads.specs.declared.team.Worked.{Worked}
 use Rattle.cf_threads.proofs.Dealt.{all_middle, weighs_more, zip_push}
 use Rattle.cf_threads.proofs.team.take_all_back.Given.{Over}
@@ -25,7 +25,7 @@ next-init g c = record {
   keeps = refl;
   knows = refl;
   shares = omega arith;
-  weighs = λ weight. ap (weigh weight) c.requires.keeper.0 ∙ sym (ap (weigh (λ (w : Worked g.row.F.Denot). weigh weight (jobs_done w))) c.requires.keeper.1);
+  weighs = λ weight. ap (weigh weight) c.requires.keeper.0 ∙ sym (ap (weigh (λ (w : Worked g.row.F.Denot). weigh weight (turns_of w))) c.requires.keeper.1);
   workers = subst (λ (l : List (Worked g.row.F.Denot)). AllZip IsLeft [] l) (sym c.requires.keeper.1) tt;
 }
 
@@ -46,7 +46,7 @@ next-preserved g c =
     let back = c.take_back.ensures in
     let pushed = c.push_reserved.ensures in
     let rest = c.in-Some.ensures.cases.1 in
-    let left : Worked g.row.F.Denot = record { functions = c.in-Some.one.functions; stopped = c.in-Some.one.stopped; jobs = c.of-jobs.result } in
+    let left : Worked g.row.F.Denot = record { functions = c.in-Some.one.functions; stopped = c.in-Some.one.stopped; turns = c.of-turns.result } in
     record {
       done = i.done ++ c.in-Some.one ∷ [];
       parts = parts g at ∙ sym (append_assoc i.done (c.in-Some.one ∷ []) (into_iter_items c.next-in-next.new.self));
@@ -56,6 +56,6 @@ next-preserved g c =
       knows = ap (λ v. v.all) back.1 ∙ i.knows;
       shares = (let n = ap (λ v. v.parts) back.1 in let m = ap (λ v. v.parts) b.1 in let s = i.shares in let l = length-append i.done (c.in-Some.one ∷ []) in omega (arith, n, m, s, l));
       weighs = weighs_more (cell_view c.next.all) (cell_view c.take_back.new.all) (cell_view c.in-Some.one.mine) c.next.back.items c.push_reserved.new.self.items left i.weighs back.1
-          (ap (λ (s : Slip). (cell_view s).mine) c.of-jobs.ensures) pushed.items;
-      workers = subst (AllZip IsLeft (i.done ++ c.in-Some.one ∷ [])) (sym {A = List (Worked g.row.F.Denot)} pushed.items) (zip_push IsLeft i.done c.next.back.items c.in-Some.one left i.workers (refl, c.of-jobs.ensures));
+          (ap (λ (s : Slip). (cell_view s).mine) c.of-turns.ensures) pushed.items;
+      workers = subst (AllZip IsLeft (i.done ++ c.in-Some.one ∷ [])) (sym {A = List (Worked g.row.F.Denot)} pushed.items) (zip_push IsLeft i.done c.next.back.items c.in-Some.one left i.workers (record { functions = refl; stopped = refl; turns = c.of-turns.ensures }));
     }

@@ -2,10 +2,10 @@ use Rattle.std.proofs.Common.{◌≡◌, ◌≤◌, ◌+◌, ◌++◌, ℕ, List
 use Rattle.std.specs.List.{AllZip}
 use Rattle.std.specs.Vec.Iter.{into_iter_items, into_iter_len}
 use Rattle.crossbeam_utils.specs.Seq.{cell_view}
-use Rattle.cf_ledger.specs.declared.step.Taken.{Taken}
-use Rattle.cf_threads.specs.Slips.{weigh}
-use Rattle.cf_threads.specs.Teams.{IsLeft, jobs_done}
+use Rattle.cf_threads.specs.Teams.{IsLeft, turns_of}
+use Rattle.cf_threads.specs.Turns.{weigh}
 use Rattle.cf_threads.specs.declared.team.Ended.{Ended}
+use Rattle.cf_threads.specs.declared.turn.Turn.{Turn}
 use Rattle.cf_threads.proofs.team.take_all_back.Given as goal
 
 abbrev pub invariant-next : goal.invariant-next
@@ -17,7 +17,7 @@ invariant-next g l = record {
   keeps : (cell_view l.all).keeps ≡ (cell_view l.initial.all).keeps;
   knows : (cell_view l.all).all ≡ (cell_view l.initial.all).all;
   shares : (cell_view l.all).parts ≡ (cell_view l.initial.all).parts + length done;
-  weighs : (weight : Taken → ℕ) → weigh weight (cell_view l.all).mine ≡ weigh (λ w. weigh weight (jobs_done w)) l.back.items;
+  weighs : (weight : Turn → ℕ) → weigh weight (cell_view l.all).mine ≡ weigh (λ w. weigh weight (turns_of w)) l.back.items;
   workers : AllZip IsLeft done l.back.items;
 }
 
