@@ -59,16 +59,21 @@ enum { GIVING = 1, RAISING = 2, LINKING = 3 }; /* how a stage is finished: GIVES
 #define THROWS (2ULL << 32)
 #define LINKS (3ULL << 32)
 
-static _Thread_local int caller;  /* which caller this thread is */
+static _Thread_local int caller; /* which caller this thread is */
+/* Whose function this thread runs, and which. They are borrowed, from who calls it. */
+static _Thread_local struct {
+  const void *request;
+  uint16_t stage;
+} at_work;
 static const uint8_t lanes[MOST]; /* each stage is of the only lane */
 static bool visits_types;         /* whether an object visits its type; before 3.9 that is done by Python for it */
 
 /* Names that are looked for often, each by its place in a table. */
-enum { PUT, REFUSE, HAND_ON, SET_ALARM, STOP, SHOW, LOG, RELAY, LINK, CONDITION, RESULT, NAMES };
+enum { PUT, REFUSE, HAND_ON, SET_ALARM, STOP, SHOW, LOG, RELAY, LINK, CONDITION, RESULT, RING, NAMES };
 static const char MODULE[] = "_module";
 static PyModuleDef definition;
 static const char *const names[NAMES] = {"put", "_refuse_ready", "_give_chosen_turns", "_set_alarm", "_stop", "_show", "_log", "relay",
-    "_link", "_new_condition", "_awaited_result"};
+    "_link", "_new_condition", "_awaited_result", "ring"};
 
 /* What one interpreter has of this. */
 typedef struct {
@@ -91,12 +96,15 @@ typedef struct {
 static const char POOL[] = "cf._cf.pool";
 
 /* What stands beside a stage. `told` is pending until the stage is settled. `stage` is its future, which is held until
- * all was told of it, and may be missing of a planned one. */
+ * all was told of it, and may be missing of a planned one. `scope` is the stage of the scope that it is of, and `by` the one
+ * whose function attached it, each plus 1, or 0. */
 typedef struct {
   cf_outcome told;
-  uint16_t next_settled;
+  uint16_t next_settled, scope, by;
   uint8_t form;
   bool running, stops; /* whether its function runs, and whether it still did as the stage was told */
+  uint8_t aid;         /* whether it stands for a join or a scope, as words.py has these: nobody waits for it by itself */
+  bool is_taken;       /* whether somebody takes its failure over: a stage behind it, or who asked for its result */
   PyObject *stage;
 } Row;
 
@@ -114,11 +122,13 @@ typedef struct {
   uint64_t waiting[WAITING];
   bool counts, untold; /* whether words are counted, as the machine may do some by itself, and stages are left to be told */
   bool chooses;        /* whether its class chooses who has a turn */
+  uint16_t scope;      /* the stage of the scope that all its later stages are of, plus 1, or 0 */
   Row *rows;
   int64_t *times; /* of each word, in nanoseconds */
   PyTypeObject *stage_class;
   PyObject *works, *names, *values, *errors;
   PyObject *kept, *calls; /* a capsule of the Pool, and the functions of its plan's stages */
+  PyObject *bells;        /* of those who wait for the stages of a scope, as a tuple: they are rung after each call. Or NULL */
 } Request;
 
 /* A future. `given` is its value, or the exception that somebody gave, and NULL where nobody did. */
@@ -473,7 +483,7 @@ static void hand_on(Request *self, PyObject **first) {
 
 /* Tells what came of calls: first those who wait, then the threads, then the callbacks. */
 static int tell(Request *self, News news) {
-  if (news.settled == NONE && !news.is_ready && !news.is_other_moment) return 0;
+  if (news.settled == NONE && !news.is_ready && !news.is_other_moment && !self->bells) return 0;
   PyObject *first = NULL;
   uint16_t shown = NONE, next;
   Py_INCREF(self);
@@ -489,6 +499,10 @@ static int tell(Request *self, News news) {
     } else break;
   }
   if (news.is_other_moment && self->works) let((PyObject *)self, self->state->names[SET_ALARM], &first);
+  PyObject *bells = self->bells;
+  Py_XINCREF(bells); /* (others may hang one up or take one down meanwhile) */
+  for (Py_ssize_t k = 0; bells && k < PyTuple_Size(bells); k++) let(PyTuple_GetItem(bells, k), self->state->names[RING], &first);
+  Py_XDECREF(bells);
   for (uint16_t i = news.settled; i != NONE; i = self->rows[i].next_settled) {
     Stage *stage = (Stage *)self->rows[i].stage;
     self->rows[i].stage = NULL;
@@ -644,6 +658,7 @@ static int Request_traverse(Request *self, visitproc visit, void *arg) {
   for (uint32_t i = 0; i < self->stages; i++) Py_VISIT(self->rows[i].stage);
   Py_VISIT(self->works);
   Py_VISIT(self->calls);
+  Py_VISIT(self->bells);
   Py_VISIT(self->stage_class);
   Py_VISIT(self->names);
   Py_VISIT(self->values);
@@ -654,6 +669,7 @@ static int Request_traverse(Request *self, visitproc visit, void *arg) {
 static int Request_clear(Request *self) {
   for (uint32_t i = 0; i < self->stages; i++) Py_CLEAR(self->rows[i].stage);
   Py_CLEAR(self->works);
+  Py_CLEAR(self->bells);
   return 0; /* (what a stage tells is read from the rest) */
 }
 
@@ -736,13 +752,13 @@ static bool may_wait(const Request *self, long form, const uint16_t *of, size_t 
   return is_open && self->waits < WAITING && !self->counts && !self->untold && !self->chooses && !self->todo.ready[0];
 }
 
-/* Attaches the stages of such an `attach`, all or none, with room for them. */
-static uint32_t attach_all(Request *self, long form, const uint16_t *of, size_t n, uint16_t function) {
+/* Attaches the stages of such an `attach`, all or none, with room for them. Those of a scope are put into it next. */
+static uint32_t attach_all(Request *self, long form, const uint16_t *of, size_t n, uint16_t function, bool is_of_scope) {
   cf_request_gathering gathering = {.who = (uint8_t)caller, .form = (uint32_t)form};
   cf_request_composing composing = {.who = (uint8_t)caller, .form = (uint32_t)form, .source = of[0], .function = function};
   cf_reply reply;
   uint64_t word = KIND(ATTACH) | WHO(caller) | OF(of[0]) | (uint64_t)n << 32 | (uint64_t)form << 24 | (uint64_t)of[1] << 12 | function;
-  if (may_wait(self, form, of, n)) {
+  if (!is_of_scope && may_wait(self, form, of, n)) {
     self->waiting[self->waits++] = word;
     self->todo.told = self->todo.news = 0;
     return CF_OK;
@@ -757,10 +773,36 @@ static uint32_t attach_all(Request *self, long form, const uint16_t *of, size_t 
   return code;
 }
 
-/* A stage more, behind n stages of these numbers; what it calls is a function with its arguments, or NULL. It takes
- * further stages below it: a composing one its relay, a source, and one that gathers more than two of them those that
- * gather them two by two. */
-static PyObject *attach(Request *self, long form, const uint16_t *of, size_t n, PyObject *const *call, PyObject *name) {
+/* Whether stages can be attached in this scope, as the machine says: 1, 0 if it has ended, and -1 and an error. */
+static int may_attach_in(Request *self, uint16_t scope) {
+  cf_stage now;
+  uint32_t code = flush(self);
+  if (!code) code = cf_ledger_stage(self->machine, (uint16_t)(scope - 1), &now);
+  if (!code) return now.kind != CF_IS_SETTLED;
+  refused(self, code);
+  return -1;
+}
+
+/* Puts the stages from a number on into a scope: each is cancelled once that ends. Where there is no memory, those that
+ * aren't in it are cancelled. */
+static uint32_t put_in(Request *self, uint32_t at, uint16_t scope, News *news) {
+  const uint16_t source = (uint16_t)(scope - 1);
+  uint32_t code = CF_OK;
+  self->counts = true;
+  for (; at < self->stages && !code; at++) {
+    const cf_request_joining joining = {(uint16_t)at, 1, 1};
+    code = cf_request_join(self->machine, &joining, &source, 1, TELLING);
+    if (!code) note(self, 0, news);
+  }
+  cf_reply reply;
+  for (uint32_t k = at - 1; code && k < self->stages; k++) apply(self, KIND(CANCEL) | WHO(OWN) | OF(k), &reply, news);
+  return code;
+}
+
+/* A stage more, behind n stages of these numbers, in a scope, if one is given; what it calls is a function with its
+ * arguments, or NULL. It takes further stages below it: a composing one its relay, a source, and one that gathers more than
+ * two of them those that gather them two by two. */
+static PyObject *attach(Request *self, long form, const uint16_t *of, size_t n, PyObject *const *call, PyObject *name, uint16_t scope) {
   uint32_t relays = composes(form), many = relays + (gathers(form) && n > 2 ? (uint32_t)n - 1 : 1);
   Stage *stage = new_stage(self, 0);
   if (!stage) return NULL;
@@ -770,21 +812,26 @@ static PyObject *attach(Request *self, long form, const uint16_t *of, size_t n, 
       Py_INCREF(call[k]);
       *places[k] = call[k];
     }
-  if (leave_to_parent(self) || rows_for(self, many)) {
+  if (!scope) scope = self->scope;
+  int may_be = leave_to_parent(self) || rows_for(self, many) ? -1 : scope ? may_attach_in(self, scope) : 1;
+  if (may_be <= 0) {
     Py_DECREF(stage);
+    if (!may_be) Py_XDECREF(PyObject_CallMethod((PyObject *)self, "_refuse_scope", "i", scope - 1));
     return NULL;
   }
   /* From here on in one step. */
   uint32_t at = self->stages, last = at + many - 1;
   uint32_t code = name_all(self, relays, self->state->names[RELAY]);
   if (!code) code = name_all(self, many - relays, name);
-  if (!code) code = attach_all(self, form, of, n, stage->call ? (uint16_t)last : 0);
+  if (!code) code = attach_all(self, form, of, n, stage->call ? (uint16_t)last : 0, scope != 0);
   if (code) {
     name_all(self, 0, NULL);
     Py_DECREF(stage);
     return refused(self, code);
   }
-  for (uint32_t k = 0; k < many; k++) self->rows[at + k] = (Row){.form = k < relays ? CF_SOURCE : (uint8_t)form};
+  uint16_t by = at_work.request == self ? (uint16_t)(at_work.stage + 1) : 0;
+  for (uint32_t k = 0; k < many; k++) self->rows[at + k] = (Row){.form = k < relays ? CF_SOURCE : (uint8_t)form, .scope = scope, .by = by};
+  for (size_t k = 0; k < n; k++) self->rows[of[k]].is_taken = true;
   self->stages += many;
   stage->number = (uint16_t)last;
   stage->form = (uint8_t)form;
@@ -792,13 +839,23 @@ static PyObject *attach(Request *self, long form, const uint16_t *of, size_t n, 
   Py_INCREF(stage);
   News news = NO_NEWS;
   note(self, many, &news);
-  if (tell(self, news)) Py_CLEAR(stage);
+  code = scope ? put_in(self, at, scope, &news) : CF_OK;
+  int failed = tell(self, news);
+  if (code && !failed) refused(self, code);
+  if (code || failed) Py_CLEAR(stage);
   return (PyObject *)stage;
 }
 
-/* _attach(form, first, second, call, args, kwargs, name): a stage more, behind at most two stages of this request. */
+/* A scope by the number of its stage, plus 1; 0 for None, and -1 and an error. */
+static int scope_in(Request *self, PyObject *scope) {
+  long number = scope == Py_None ? -1 : number_below(scope, (long)self->stages, "scope");
+  return number < 0 && PyErr_Occurred() ? -1 : (int)number + 1;
+}
+
+/* _attach(form, first, second, call, args, kwargs, name, scope=None): a stage more, behind at most two stages of this
+ * request. It is of this scope, else of that of the first. */
 static PyObject *Request_attach(Request *self, PyObject *const *args, Py_ssize_t n) {
-  if (n != 7) return PyErr_Format(PyExc_TypeError, "_attach takes 7");
+  if (n < 7 || n > 8) return PyErr_Format(PyExc_TypeError, "_attach takes 7 or 8");
   long form = number_below(args[0], CF_EXCEPTIONALLY_COMPOSE + 1, "form");
   if (form < 0) return NULL;
   if ((args[4] != Py_None && !PyTuple_Check(args[4])) || (args[5] != Py_None && !PyDict_Check(args[5])) || !PyUnicode_Check(args[6]))
@@ -811,18 +868,26 @@ static PyObject *Request_attach(Request *self, PyObject *const *args, Py_ssize_t
       of[many++] = ((Stage *)args[k])->number;
     }
   if (composes(form) && many != 1) return PyErr_Format(PyExc_ValueError, "a composing stage is behind one stage");
-  return attach(self, form, of, many, &args[3], args[6]);
+  int scope = n == 8 ? scope_in(self, args[7]) : 0;
+  if (scope < 0) return NULL;
+  if (!scope && many) scope = self->rows[of[0]].scope;
+  return attach(self, form, of, many, &args[3], args[6], (uint16_t)scope);
 }
 
-/* _attach_all(form, numbers, name): a stage more, behind all stages of these numbers, or behind the first of them. */
+/* _attach_all(form, numbers, name, scope=None): a stage more, behind all stages of these numbers, or behind the first of
+ * them. */
 static PyObject *Request_attach_all(Request *self, PyObject *const *args, Py_ssize_t n) {
-  if (n != 3 || !PyBytes_Check(args[1]) || !PyUnicode_Check(args[2])) return PyErr_Format(PyExc_TypeError, "_attach_all takes 3");
+  if (n < 3 || n > 4 || !PyBytes_Check(args[1]) || !PyUnicode_Check(args[2]))
+    return PyErr_Format(PyExc_TypeError, "_attach_all takes 3 or 4");
   long form = number_below(args[0], CF_ANY_OF + 1, "form");
   size_t many = (size_t)PyBytes_Size(args[1]) / sizeof(uint16_t);
   const uint16_t *of = (const uint16_t *)PyBytes_AsString(args[1]), few[2] = {many ? of[0] : 0, 0};
-  if (form < 0) return NULL;
+  int scope = form < 0 ? -1 : n == 4 ? scope_in(self, args[3]) : 0;
+  if (scope < 0) return NULL;
   if (!gathers(form)) return PyErr_Format(PyExc_ValueError, "form %ld gathers nothing", form);
-  return many > MOST ? full(self) : attach(self, form, many < 2 ? few : of, many, NULL, args[2]);
+  for (size_t k = 0; k < many; k++)
+    if (of[k] >= self->stages) return PyErr_Format(PyExc_IndexError, "no such stage");
+  return many > MOST ? full(self) : attach(self, form, many < 2 ? few : of, many, NULL, args[2], (uint16_t)scope);
 }
 
 /* _change(kind, who, stage, given): completes, fails or cancels a stage, and says whether that did it. */
@@ -891,10 +956,18 @@ static PyObject *args_of(Called *it) {
   return it->args;
 }
 
-/* Calls the function. Without a tuple that costs less. */
-static PyObject *called(Called *it) {
-  if (!it->args && !it->kwargs) return PyObject_CallFunctionObjArgs(it->call, it->given[0], it->given[1], NULL);
-  return args_of(it) ? PyObject_Call(it->call, it->args, it->kwargs) : NULL;
+/* Calls the function of a stage. Without a tuple that costs less. */
+static PyObject *called(Called *it, const Request *request, uint16_t stage) {
+  const void *request_before = at_work.request;
+  uint16_t stage_before = at_work.stage;
+  at_work.request = request;
+  at_work.stage = stage;
+  PyObject *given = !it->args && !it->kwargs ? PyObject_CallFunctionObjArgs(it->call, it->given[0], it->given[1], NULL)
+                    : args_of(it)            ? PyObject_Call(it->call, it->args, it->kwargs)
+                                             : NULL;
+  at_work.request = request_before;
+  at_work.stage = stage_before;
+  return given;
 }
 
 /* What a stage that is claimed lets be called, with its own arguments or with what it waited for; nothing and an error
@@ -933,7 +1006,7 @@ static int answer_of(Request *self, long kind, PyObject *given, cf_answer *answe
   *answer = (cf_answer){.kind = (uint32_t)kind - GIVING};
   if (kind == GIVING && given != Py_None) answer->value = (cf_value){CF_INT, (int32_t)number};
   if (kind == RAISING) answer->code = number;
-  if (kind == LINKING) answer->stage = ((Stage *)given)->number;
+  if (kind == LINKING) self->rows[answer->stage = ((Stage *)given)->number].is_taken = true;
   return 0;
 }
 
@@ -1008,7 +1081,7 @@ static PyObject *run(Request *self, PyObject *number, bool all) {
       if ((is_claimed = step(self, who, &task, &it, &error, &first)) <= 0) break;
     }
     uint16_t i = task.stage;
-    PyObject *given = it.call ? called(&it) : NULL, *raised = it.call && !given ? caught() : error;
+    PyObject *given = it.call ? called(&it, self, i) : NULL, *raised = it.call && !given ? caught() : error;
     called_clear(&it);
     is_claimed = -1;
     if (leave_to_parent(self)) keep(&first);
@@ -1121,20 +1194,21 @@ static PyObject *Request_follow(Request *self, PyObject *const *args, Py_ssize_t
   if (stage < 0 || leave_to_parent(self)) return NULL;
   News news = NO_NEWS;
   self->counts = true;
+  self->rows[stage].is_taken = true;
   uint32_t code = flush(self);
   if (!code) code = cf_request_follow(self->machine, (uint16_t)relay, (uint16_t)stage, TELLING);
   if (!code) note(self, 0, &news);
   return told_or_refused(self, code, news);
 }
 
-/* _join_within(stage, wanted, numbers): lets a stage end once so many of the stages of these numbers have values, or too few
- * can have them still. */
+/* _join_within(stage, wanted, numbers, cancels): lets a stage end once so many of the stages of these numbers have values, or
+ * too few can have them still; cancels it then, if it says so. */
 static PyObject *Request_join(Request *self, PyObject *const *args, Py_ssize_t n) {
-  if (n != 3 || !PyBytes_Check(args[2])) return PyErr_Format(PyExc_TypeError, "_join_within takes 3");
+  if (n != 4 || !PyBytes_Check(args[2])) return PyErr_Format(PyExc_TypeError, "_join_within takes 4");
   int stage = stage_in(self, args[0]);
   long wanted = stage < 0 ? -1 : number_below(args[1], NONE, "quorum");
   if (wanted < 0 || leave_to_parent(self)) return NULL;
-  const cf_request_joining joining = {(uint16_t)stage, (uint16_t)wanted, 0};
+  const cf_request_joining joining = {(uint16_t)stage, (uint16_t)wanted, args[3] == Py_True};
   const uint16_t *of = (const uint16_t *)PyBytes_AsString(args[2]);
   size_t many = (size_t)PyBytes_Size(args[2]) / sizeof *of;
   News news = NO_NEWS;
@@ -1142,7 +1216,102 @@ static PyObject *Request_join(Request *self, PyObject *const *args, Py_ssize_t n
   uint32_t code = flush(self);
   if (!code) code = cf_request_join(self->machine, &joining, of, many, TELLING);
   if (!code) note(self, 0, &news);
+  for (size_t k = 0; k < many && !code && !joining.cancels; k++) self->rows[of[k]].is_taken = true;
   return told_or_refused(self, code, news);
+}
+
+/* _set_aside(stage, aid): a stage stands for a join or a scope. _aid_of(stage): for what it stands. */
+static PyObject *Request_set_aside(Request *self, PyObject *const *args, Py_ssize_t n) {
+  if (n != 2) return PyErr_Format(PyExc_TypeError, "_set_aside takes 2");
+  int stage = stage_in(self, args[0]);
+  long aid = stage < 0 ? -1 : number_below(args[1], UINT8_MAX, "aid");
+  if (aid < 0) return NULL;
+  self->rows[stage].aid = (uint8_t)aid;
+  Py_RETURN_NONE;
+}
+static PyObject *Request_aid_of(Request *self, PyObject *number) {
+  int stage = stage_in(self, number);
+  return stage < 0 ? NULL : PyLong_FromLong(self->rows[stage].aid);
+}
+
+/* _put_all_in(scope): all stages that are attached from now on are of a scope. */
+static PyObject *Request_put_all_in(Request *self, PyObject *number) {
+  int scope = scope_in(self, number);
+  if (scope < 0) return NULL;
+  self->scope = (uint16_t)scope;
+  Py_RETURN_NONE;
+}
+
+/* _scope_of(stage): the number of the stage of its scope, or None. */
+static PyObject *Request_scope_of(Request *self, PyObject *number) {
+  int stage = stage_in(self, number);
+  if (stage < 0) return NULL;
+  if (!self->rows[stage].scope) Py_RETURN_NONE;
+  return PyLong_FromLong(self->rows[stage].scope - 1);
+}
+
+/* Whether a stage is within a scope. A scope is attached before all that are within it. */
+static bool is_within(const Request *self, uint32_t i, uint32_t scope) {
+  uint32_t its = self->rows[i].scope;
+  while (its > scope) its = self->rows[its - 1].scope;
+  return its == scope;
+}
+
+/* Whether a function is called, which may still take over a stage that it attached. */
+static bool is_claimed(Request *self, uint16_t by) {
+  cf_stage now;
+  return by && !cf_ledger_stage(self->machine, (uint16_t)(by - 1), &now) && now.who != CF_NOBODY;
+}
+
+/* _hang(bell): from now on its `ring` is called after each call, before callbacks. _take_down(bell): no longer. */
+static PyObject *change_bells(Request *self, PyObject *bell, bool hangs) {
+  for (bool is_done = false; !is_done;) { /* (what is collected meanwhile may change them, too) */
+    PyObject *before = self->bells, *now = NULL;
+    Py_XINCREF(before);
+    PyObject *changed = before ? PySequence_List(before) : PyList_New(0);
+    Py_ssize_t many = changed ? PyList_Size(changed) : 0, k = 0;
+    while (k < many && PyList_GetItem(changed, k) != bell) k++;
+    if (changed && !(hangs ? PyList_Append(changed, bell) : PyList_SetSlice(changed, k, k < many ? k + 1 : k, NULL)))
+      now = PyList_AsTuple(changed);
+    Py_XDECREF(changed);
+    is_done = now && self->bells == before;
+    if (is_done) self->bells = PyTuple_Size(now) ? now : NULL;
+    if (now && (!is_done || !PyTuple_Size(now))) Py_DECREF(now);
+    if (is_done) Py_XDECREF(before); /* (of the request) */
+    Py_XDECREF(before);
+    if (!now) return NULL;
+  }
+  Py_RETURN_NONE;
+}
+static PyObject *Request_hang(Request *self, PyObject *bell) { return change_bells(self, bell, true); }
+static PyObject *Request_take_down(Request *self, PyObject *bell) { return change_bells(self, bell, false); }
+
+/* _look_within(scope): whether a stage within a scope is open for which somebody may wait, whether one is cancelled, and the
+ * numbers of those that failed and that nobody takes over. */
+static PyObject *Request_look_within(Request *self, PyObject *number) {
+  int scope = scope_in(self, number);
+  if (scope < 0 || leave_to_parent(self)) return NULL;
+  uint32_t code = flush(self);
+  if (code) return refused(self, code);
+  uint16_t failed[MOST];
+  size_t many = 0;
+  bool is_open = false, is_cancelled = false;
+  for (uint32_t i = (uint32_t)scope; i < self->stages; i++) {
+    const Row *row = &self->rows[i];
+    bool is_relay = i + 1 < self->stages && composes(row[1].form);
+    if (row->aid || is_relay || !is_within(self, i, (uint32_t)scope)) continue;
+    is_open |= !row->told.kind;
+    is_cancelled |= row->told.kind == CF_CANCELLED;
+    bool has_failed = row->told.kind && row->told.kind != CF_VALUE && row->told.kind != CF_CANCELLED;
+    if (has_failed && !row->is_taken && !is_claimed(self, row->by)) failed[many++] = (uint16_t)i;
+  }
+  PyObject *list = PyList_New((Py_ssize_t)many);
+  for (size_t k = 0; list && k < many; k++) {
+    PyObject *one = PyLong_FromLong(failed[k]);
+    if (one) PyList_SetItem(list, (Py_ssize_t)k, one);
+    else Py_CLEAR(list);
+  }
+  return list ? Py_BuildValue("(OON)", is_open ? Py_True : Py_False, is_cancelled ? Py_True : Py_False, list) : NULL;
 }
 
 /* _deadline(stage, moment, is_value, number): by this moment the stage gets the value of this number, or fails with the
@@ -1291,6 +1460,13 @@ static PyMethodDef request_methods[] = {{"_attach", FAST(Request_attach), METH_F
     {"_take_turns_back", (PyCFunction)Request_take_turns_back, METH_NOARGS, "Takes all turns back."},
     {"_follow_within", FAST(Request_follow), METH_FASTCALL, "Lets a stage end as another does."},
     {"_join_within", FAST(Request_join), METH_FASTCALL, "Lets a stage end by others."},
+    {"_set_aside", FAST(Request_set_aside), METH_FASTCALL, "Nobody waits for a stage by itself."},
+    {"_aid_of", (PyCFunction)Request_aid_of, METH_O, "Whether a stage stands for a join or a scope."},
+    {"_put_all_in", (PyCFunction)Request_put_all_in, METH_O, "Puts all later stages into a scope."},
+    {"_scope_of", (PyCFunction)Request_scope_of, METH_O, "The scope of a stage."},
+    {"_hang", (PyCFunction)Request_hang, METH_O, "Hangs a bell up."},
+    {"_take_down", (PyCFunction)Request_take_down, METH_O, "Takes a bell down."},
+    {"_look_within", (PyCFunction)Request_look_within, METH_O, "What is open and what has failed within a scope."},
     {"_deadline", FAST(Request_deadline), METH_FASTCALL, "Sets a deadline."},
     {"_pass", (PyCFunction)Request_pass, METH_O, "Lets time pass."}, {"_words", (PyCFunction)Request_words, METH_NOARGS, "All words."},
     {"_next_ready", (PyCFunction)Request_next_ready, METH_O, "The lowest ready stage from a number on."},
@@ -1367,6 +1543,12 @@ static PyObject *Stage_result(Stage *self, PyObject *args, PyObject *kwargs) {
   return given;
 }
 
+/* _take_over(): somebody asks for its result, and so gets its failure. */
+static PyObject *Stage_take_over(Stage *self, PyObject *Py_UNUSED(none)) {
+  if (self->request) self->request->rows[self->number].is_taken = true;
+  Py_RETURN_NONE;
+}
+
 static PyObject *Stage_add_done_callback(Stage *self, PyObject *call) {
   PyObject *first = NULL;
   be_here(self);
@@ -1401,6 +1583,7 @@ static PyObject *Stage_waited(Stage *self, void *is_condition) {
 
 static PyMethodDef stage_methods[] = {{"done", (PyCFunction)Stage_done, METH_NOARGS, "Whether it is settled."},
     {"cancelled", (PyCFunction)Stage_cancelled, METH_NOARGS, "Whether it was cancelled."},
+    {"_take_over", (PyCFunction)Stage_take_over, METH_NOARGS, "Somebody gets its failure."},
     {"result", FAST(Stage_result), METH_VARARGS | METH_KEYWORDS, "Waits for its value. Its exception is raised."},
     {"add_done_callback", (PyCFunction)Stage_add_done_callback, METH_O, "Calls a function with it, once it is settled."}, {NULL}};
 static PyMemberDef stage_members[] = {{"request", T_OBJECT, offsetof(Stage, request), READONLY, "What it belongs to."},
@@ -1464,6 +1647,13 @@ static PyObject *set_caller(PyObject *Py_UNUSED(module), PyObject *who) {
   Py_RETURN_NONE;
 }
 
+/* is_stopping(): whether the stage whose function this thread runs is settled; None where it runs none. */
+static PyObject *is_stopping(PyObject *Py_UNUSED(module), PyObject *Py_UNUSED(none)) {
+  const Request *request = at_work.request;
+  if (!request) Py_RETURN_NONE;
+  return PyBool_FromLong(request->rows[at_work.stage].told.kind != 0);
+}
+
 static PyObject *forked(PyObject *module, PyObject *Py_UNUSED(none)) {
   ((State *)PyModule_GetState(module))->forks++;
   Py_RETURN_NONE;
@@ -1471,6 +1661,7 @@ static PyObject *forked(PyObject *module, PyObject *Py_UNUSED(none)) {
 
 static PyMethodDef module_methods[] = {{"pool", (PyCFunction)pool_of, METH_VARARGS, "Keeps machines of a plan."},
     {"set_caller", (PyCFunction)set_caller, METH_O, "Gives this thread the number of a caller."},
+    {"is_stopping", (PyCFunction)is_stopping, METH_NOARGS, "Whether the function that this thread runs may end."},
     {"forked", (PyCFunction)forked, METH_NOARGS, "Tells that this process is a fork's child."}, {NULL}};
 
 /* A type of the module, which has it by its name, too. */

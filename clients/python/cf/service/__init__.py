@@ -25,17 +25,19 @@ Java's names:
     allOf, anyOf                                    all_of, first_of
     join, get                                       result, which raises the exception itself
 """
+from .contexts import is_stopping
 from .flow import Flow, Step
 from .history import History, describe_all, describe_nothing, describe_types
 from .loop import LoopService
 from .meter import Meter
 from .opened import OpenRequest, Wait
 from .request import Request
+from .scope import Scope
 from .service import Service
 from .spans import Span, SpanFile, Spans, spans_of, spans_to
 from .stage import Stage
 from .watch import Watch
-from .words import RequestFull
+from .words import RequestFull, ScopeEnded
 
 __all__ = [
     "Flow",
@@ -45,6 +47,8 @@ __all__ = [
     "OpenRequest",
     "Request",
     "RequestFull",
+    "Scope",
+    "ScopeEnded",
     "Service",
     "Span",
     "SpanFile",
@@ -56,6 +60,7 @@ __all__ = [
     "describe_all",
     "describe_nothing",
     "describe_types",
+    "is_stopping",
     "spans_of",
     "spans_to",
 ]

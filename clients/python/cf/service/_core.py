@@ -1,16 +1,19 @@
 """Plans, requests and stages over the C module: what of them isn't hot. `native/_cf.c` has the rest."""
+import asyncio
 import ctypes as c
 import os
 import threading
 from array import array
 from concurrent.futures import CancelledError, _base
 from types import TracebackType
-from typing import TYPE_CHECKING, Any, Callable, ClassVar, Dict, List, NoReturn, Optional, Sequence, Set, Tuple, Type
+from typing import TYPE_CHECKING, Any, Callable, ClassVar, Dict, List, NoReturn, Optional, Sequence, Tuple, Type
 
 from ..plan import Plan
 from ..values import BadAnswer, Form
 from .history import escaped
-from .words import ATTACH, CANCELLED, CLOCK, COMPOSE_FORMS, FAIL_AS, MOST_EDGES, MOST_STAGES, PENDING, RELAY, TIMED_OUT, VALUE, RequestFull
+from .waits import Bell, LoopBell
+from .words import ATTACH, CANCEL, CANCELLED, CLOCK, COMPOSE_FORMS, FAIL_AS, JOIN, MOST_EDGES, MOST_STAGES, PENDING, RELAY, TIMED_OUT, VALUE
+from .words import RequestFull, ScopeEnded
 
 try:
     from .. import _cf
@@ -95,15 +98,13 @@ class RequestCore(_cf.RequestCore):
     """A request of the module, which has no lock of its own: each call there is one step for all threads.
 
     Attributes:
-        _stage_class: The class of its futures.
-        _joins: The numbers of the stages that end by others, if there are any."""
+        _stage_class: The class of its futures."""
 
-    __slots__ = ("_title", "_keeps", "_plan", "_joins", "__weakref__")
+    __slots__ = ("_title", "_keeps", "_plan", "__weakref__")
     _stage_class: "ClassVar[Type[Stage[Any]]]"
 
     if TYPE_CHECKING:
         _traces: Dict[int, Tuple[BaseException, Optional[TracebackType]]]
-        _joins: Set[int]
 
         def _link(self, stage: "Stage[Any]", who: int, to: Any) -> bool:
             ...
@@ -148,19 +149,64 @@ class RequestCore(_cf.RequestCore):
     def _refuse_stage() -> NoReturn:
         raise RequestFull("a request has at most 4,096 stages")
 
-    def _gather(self, form: int, of: "Sequence[Stage[Any]]", name: str) -> "Stage[Any]":
+    def _refuse_scope(self, number: int) -> NoReturn:
+        raise ScopeEnded(f"{escaped(self._name_of(number))} has ended: attach outside of it, or in another scope")
+
+    def _gather(self, form: int, of: "Sequence[Stage[Any]]", name: str, scope: Optional[int] = None) -> "Stage[Any]":
         """Attaches stages that wait for all of these, or for one of them, and returns the last."""
         if any(source.request is not self for source in of):
             raise TypeError("no stage of this request")
-        return self._attach_all(form, array("H", [source.number for source in of]).tobytes(), name)
+        return self._attach_all(form, array("H", [source.number for source in of]).tobytes(), name, scope)
 
     def _join(self, stage: "Stage[Any]", wanted: int, of: "Sequence[Stage[Any]]") -> None:
         """Lets a stage end once so many of these have values, or too few can have them still."""
-        self._joins = {*self._joins_made(), stage.number}
-        self._join_within(stage.number, wanted, array("H", [source.number for source in of]).tobytes())
+        self._set_aside(stage.number, JOIN)
+        self._join_within(stage.number, wanted, array("H", [source.number for source in of]).tobytes(), False)
 
-    def _joins_made(self) -> Set[int]:
-        return getattr(self, "_joins", set())
+    def _end_with(self, scope: "Stage[Any]", stage: "Stage[Any]") -> None:
+        """Lets a scope end, whose stage is given, as soon as another stage does."""
+        self._join_within(scope.number, 1, array("H", [stage.number]).tobytes(), True)
+
+    def _is_within(self, number: int, scope: int) -> bool:
+        """Whether a stage is of a scope or of one within it."""
+        its = self._scope_of(number)
+        while its is not None and its > scope:
+            its = self._scope_of(its)
+        return its == scope
+
+    def _failures_within(self, scope: int) -> Optional[List[BaseException]]:
+        """The exceptions of the stages within a scope that failed and that nobody takes over; none once all are settled, and
+        None as long as one is open."""
+        is_open, _, failed = self._look_within(scope)
+        errors = {id(error): error for error in (self._stage(number)._error() for number in failed)}
+        return None if is_open and not failed else list(errors.values())
+
+    def _wait_within(self, scope: int) -> List[BaseException]:
+        """Waits until all stages within a scope are settled, or some have failed that nobody takes over: their exceptions."""
+        bell = Bell()
+        self._hang(bell)
+        try:
+            failures = self._failures_within(scope)
+            while failures is None:
+                bell.wait()
+                failures = self._failures_within(scope)
+        finally:
+            self._take_down(bell)
+        return failures
+
+    async def _await_within(self, scope: int) -> List[BaseException]:
+        """The same on an event loop."""
+        failures = self._failures_within(scope)
+        while failures is None:
+            bell = LoopBell(asyncio.get_running_loop())
+            self._hang(bell)
+            try:
+                failures = self._failures_within(scope)
+                if failures is None:
+                    await bell.end
+            finally:
+                self._take_down(bell)
+        return failures
 
     @staticmethod
     def _default_error(kind: int) -> BaseException:
@@ -238,7 +284,7 @@ class RequestCore(_cf.RequestCore):
 
     def _facts(self) -> "Tuple[array[int], array[int], List[str], List[Any], List[Optional[BaseException]]]":
         """The words, the time of each in nanoseconds, and names, values and errors. Words that the machine did to a
-        relay or a join by itself have RELAY as caller."""
+        relay or a join by itself, and those by which a scope's end cancels, have RELAY as caller."""
         words, times = array("Q", self._words()), array("q", self._times)
         del words[len(times) :]
         forms = [row[0] for row in (() if self._plan is None else self._plan.rows)]
@@ -246,10 +292,10 @@ class RequestCore(_cf.RequestCore):
         late = {word & 0xFFFFFFFF for word in words if word >> 56 == FAIL_AS}
         errors = [it if type(it) is not Limit else it.error_in(self) if number in late else None for number, it in enumerate(self._errors)]
         facts = words, times[: len(words)], self._names[: len(forms)], self._values[:], errors
-        joins = self._joins_made()
         for place, word in enumerate(words):
             stage = word >> 36 & 0xFFF
-            if word >> 48 & 0xFF == CLOCK and (stage in joins or forms[stage + 1 : stage + 2] and forms[stage + 1] in COMPOSE_FORMS):
+            is_own = word >> 48 & 0xFF == CLOCK
+            if is_own and (word >> 56 == CANCEL or self._aid_of(stage) == JOIN or any(it in COMPOSE_FORMS for it in forms[stage + 1 : stage + 2])):
                 words[place] = word ^ (CLOCK ^ RELAY) << 48
         return facts
 
@@ -285,6 +331,7 @@ class StageCore(_cf.StageCore):
 
     def _settle(self, timeout: Optional[float]) -> None:
         """Waits until it is settled, and not cancelled."""
+        self._take_over()
         if not self._ended:
             self._wait(timeout)
             if not self._ended:

@@ -3,10 +3,33 @@ import contextvars
 import functools
 from typing import Any, Callable, Dict, Optional, Tuple
 
+from .. import _cf
 from ._core import RequestCore
 from .request import Request
 from .stage import Stage
-from .words import COMPOSE_FORMS, GIVES, THROWS
+from .words import COMPOSE_FORMS, GIVES, PENDING, THROWS
+
+
+# The stage of the function that runs here, where no thread of a service calls it.
+AT_WORK: "contextvars.ContextVar[Optional[Stage[Any]]]" = contextvars.ContextVar("AT_WORK", default=None)
+
+
+def is_stopping() -> bool:
+    """Whether the function that calls this may end early: its stage is settled otherwise, as by a time limit, `abandon` or the
+    end of its scope. What the function returns then comes too late.
+
+        def export(rows):
+            for row in rows:
+                if is_stopping():
+                    return
+                write(row)
+
+    It may be called anywhere, and takes a fraction of a microsecond. Outside a stage's function it is False."""
+    told = _cf.is_stopping()
+    if told is not None:
+        return told
+    stage = AT_WORK.get()
+    return stage is not None and stage._ended != PENDING
 
 
 class Within(functools.partial):  # type: ignore[type-arg]
@@ -36,9 +59,11 @@ class ContextRequest(Request):
         args: Optional[Tuple[Any, ...]],
         kwargs: Optional[Dict[str, Any]],
         name: str,
+        scope: Optional[int] = None,
+        /,
     ) -> "Stage[Any]":
         within = None if call is None else Within(contextvars.copy_context().run, call)
-        return RequestCore._attach(self, form, first, second, within, args, kwargs, name)
+        return RequestCore._attach(self, form, first, second, within, args, kwargs, name, scope)
 
     def _within(self, call: Callable[..., Any]) -> Within:
         """A flow's function with its context. One that was attached has that already."""
@@ -58,7 +83,9 @@ class ContextRequest(Request):
             return None
         stage, call, args, kwargs = begun
         try:
-            given = (call if type(call) is Within else self._within(call))(*args, **kwargs)
+            within = call if type(call) is Within else self._within(call)
+            within.func(AT_WORK.set, stage)
+            given = within(*args, **kwargs)
         except BaseException as error:
             error.__traceback__ = error.__traceback__ and error.__traceback__.tb_next
             goes_on = self._end(stage, who, THROWS, error)
@@ -66,7 +93,7 @@ class ContextRequest(Request):
             goes_on = finish_stage(stage, who, given)
             del given
         # An error's traceback may keep this frame, which is to keep nothing.
-        del stage, begun, call, args, kwargs
+        del stage, begun, call, args, kwargs, within
         return goes_on
 
 

@@ -83,7 +83,7 @@ class EndingRequest(ContextRequest):
         return ends
 
     def end(self) -> None:
-        left = [self._stage(number) for number, kind, *_ in self._open_stages() if kind != IS_SETTLED]
+        left = [self._stage(number) for number, kind, *_ in self._open_stages() if kind != IS_SETTLED and not self._aid_of(number)]
         count = itertools.count(len(left) - 1, -1)
         for stage in left:
             stage.add_done_callback(lambda _: None if next(count) else self._tell_end())
@@ -98,8 +98,7 @@ class EndingRequest(ContextRequest):
         """Has the hook told, if it wasn't yet. It raises nothing."""
         try:
             if self._ends.requests.pop(id(self), None) is not None:
-                history = History(self.name, self._plan, self._facts())
-                described = partial(history._with_descriptions, getattr(self, "_describe", self._works.describe))
+                described = partial(self._history()._with_descriptions, getattr(self, "_describe", self._works.describe))
                 self._ends.tell(described, self._context)
         except Exception:
             LOGGER.warning("the end of a request isn't told", exc_info=True)

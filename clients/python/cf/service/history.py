@@ -5,7 +5,7 @@ import subprocess
 import time
 import unicodedata
 from array import array
-from typing import TYPE_CHECKING, Any, Callable, Iterator, List, NamedTuple, Optional, Sequence, Tuple
+from typing import TYPE_CHECKING, Any, Callable, Iterator, List, NamedTuple, Optional, Sequence, Set, Tuple
 
 from .._library import CNews, CReply, CStage
 from ..events import Event, event_of
@@ -139,6 +139,7 @@ class History:
         self.words: List[int] = _numbers("Q", words)
         rows = [] if plan is None else plan.rows
         self.planned: List[Tuple[int, Tuple[int, ...], bool]] = [(form, of, call is not None) for form, of, call, _ in rows]
+        self._aids: Set[int] = set()  # stages that stand for a join or a scope
         self._times = _numbers("q", times)
         self._since = time.time_ns() - time.monotonic_ns()  # when the clock of the times was at 0
         self._opened: Optional[int] = None  # in nanoseconds since 1970, where the first event doesn't tell it

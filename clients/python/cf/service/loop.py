@@ -4,9 +4,9 @@ import asyncio
 import inspect
 import itertools
 from types import CoroutineType
-from typing import TYPE_CHECKING, Any, Awaitable, Callable, List, Optional, Set, Type, TypeVar, cast
+from typing import TYPE_CHECKING, Any, Awaitable, Callable, Dict, List, Optional, Type, TypeVar, cast
 
-from .contexts import ContextRequest, finish_stage, Within
+from .contexts import AT_WORK, ContextRequest, finish_stage, Within
 from .ending import EndingRequest, Ends, Hook
 from .flow import Flow
 from .history import Describe, describe_all
@@ -69,9 +69,9 @@ class LoopService:
             self._kind = ContextRequest if on_end is None else EndingRequest
         self._requests = itertools.count()
 
-    def request(self, name: str = "", room: int = ROOM, *, describe: Optional[Describe] = None) -> Request:
-        """As `Service.request`."""
-        return self._kind(self._works, name or f"request {next(self._requests)}", room, self)._describing(describe)
+    def request(self, name: str = "", room: int = ROOM, *, timeout: Optional[float] = None, describe: Optional[Describe] = None) -> Request:
+        """As `Service.request`. One with a timeout is for `async with`."""
+        return self._kind(self._works, name or f"request {next(self._requests)}", room, self)._describing(describe)._with_timeout(timeout)
 
     def start(self, flow: Flow, *given: Any, name: str = "", describe: Optional[Describe] = None) -> Request:
         """As `Service.start`."""
@@ -99,11 +99,15 @@ class _LoopWorks(LoopWaker):
     def __init__(self, loop: asyncio.AbstractEventLoop, describe: Describe, ends: Optional[Ends]) -> None:
         super().__init__(loop)
         self.describe, self.ends = describe, ends
-        self._tasks: "Set[asyncio.Task[None]]" = set()
+        self._stopped: "Dict[asyncio.Task[None], Stage[Any]]" = {}
 
     @property
     def clock(self) -> "_LoopWorks":
         return self
+
+    @property
+    def loop(self) -> asyncio.AbstractEventLoop:
+        return self._loop
 
     def refusal(self) -> RuntimeError:
         return RuntimeError("Event loop is closed")
@@ -116,6 +120,7 @@ class _LoopWorks(LoopWaker):
                 return
             stage, call, args, kwargs = begun
             within = call if type(call) is Within else cast(ContextRequest, turn)._within(call)
+            within.func(AT_WORK.set, stage)
             try:
                 given = within(*args, **kwargs)
             except BaseException as error:
@@ -145,12 +150,16 @@ class _LoopWorks(LoopWaker):
     def stop(self, stage: "Stage[Any]") -> None:
         task = stage.__dict__.pop("_task", None)
         if task is not None:
-            self._soon(self._cancel, task)
+            self._stopped[task] = stage
+            if not self._soon(self._cancel, task):
+                del self._stopped[task]
+
+    def stopped(self) -> "Dict[asyncio.Task[None], Stage[Any]]":
+        return dict(self._stopped)
 
     def _cancel(self, task: "asyncio.Task[None]") -> None:
         """Cancels a task that the stage keeps no longer."""
-        self._tasks.add(task)
-        task.add_done_callback(self._tasks.discard)
+        task.add_done_callback(self._stopped.pop)
         task.cancel()
 
     async def _awaited(self, stage: "Stage[Any]", given: Awaitable[Any]) -> None:
@@ -158,6 +167,8 @@ class _LoopWorks(LoopWaker):
             value = await given
         except BaseException as error:
             stage.__dict__.pop("_task", None)
+            if stage._ended and not isinstance(error, asyncio.CancelledError):
+                stage.__dict__["_late"] = error
             goes_on = self._raised(stage, error)
         else:
             stage.__dict__.pop("_task", None)

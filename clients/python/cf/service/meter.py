@@ -128,7 +128,7 @@ def _took(reading: _Reading) -> Iterator[Tuple[str, int]]:
             before, changed[stage] = changed.get(stage, moments[0]), moment
             if reading.claims.get(stage) is entry:  # before that it was made ready
                 yield QUEUE, moment - before
-            if reading.shapes[stage][0] == Form.SOURCE:
+            if reading.shapes[stage][0] == Form.SOURCE and stage not in reading.history._aids:
                 began = _began(reading, stage)
                 if began is not None:
                     yield WAIT, max(moment - began, 0)

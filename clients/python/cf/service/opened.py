@@ -65,13 +65,13 @@ def waits_of(request: "Request") -> List[Wait]:
 
 
 def _waits(request: "Request", found: "List[Tuple[int, int, int, int, int]]", times: "array[int]", now: int) -> List[Wait]:
-    waits, joins = [], request._joins_made()
+    waits = []
     for number, kind, form, who, last in sorted(found, key=lambda it: it[-1]):
         if who < MOST_CALLERS:
             state = LATE if kind == IS_SETTLED else RUNNING
         elif kind == IS_READY:
             state = READY
-        elif kind == IS_PENDING and form == Form.SOURCE and number not in joins:
+        elif kind == IS_PENDING and form == Form.SOURCE and not request._aid_of(number):
             state = PROMISE
         else:
             continue

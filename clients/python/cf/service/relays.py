@@ -10,7 +10,7 @@ import weakref
 from collections import deque
 from typing import TYPE_CHECKING, Any, Callable, Deque, Dict, List, Optional, Tuple
 
-from ._core import LimitValue
+from ._core import LimitValue, StageCore
 from .words import BAD_ANSWER, CANCEL, COMPLETE, FAIL, FAIL_AS, FAIL_BADLY, RELAY, TIMED_OUT, VALUE
 
 if TYPE_CHECKING:
@@ -28,6 +28,8 @@ def follow_future(relay: "Stage[Any]", future: "concurrent.futures.Future[Any]")
     """Lets a relay end as the future does. Until then the future keeps the relay, and so the request. Returns a function
     that releases the relay, which still follows the future if somebody else has it; None where the future was done
     already."""
+    if isinstance(future, StageCore):
+        future._take_over()
     if future.done():
         _drain([relay], future)
         return None
@@ -106,6 +108,12 @@ def is_relay(call: object) -> bool:
 def is_release(call: object) -> bool:
     """Whether a callback only lets go of a relay or of a limit's value."""
     return getattr(call, "__func__", None) in (_KeptRelay.release, LimitValue.release)
+
+
+def let_go_with(stage: "Stage[Any]", holds: List[Hold]) -> None:
+    """Releases relays once the only stage that needs them is settled."""
+    for hold in holds:
+        stage.add_done_callback(hold)
 
 
 class _Handing(threading.local):

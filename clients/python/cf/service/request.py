@@ -46,7 +46,7 @@ A function from ready to finished
 Relays
     A source has to be a stage of the same request. Any other future gets a relay: a source of this request that ends as
     the future does (`follow_future` in relays.py). The future keeps the relay, and so the request, until either is
-    settled. If only one stage needed the relay, the relay is released once that stage is settled (`_let_go_with`).
+    settled. If only one stage needed the relay, the relay is released once that stage is settled (`let_go_with`).
 
     A composing stage has a relay right below it. Its finish links to the stage that the function returned, if that is a
     lower one of this request, and else to the relay (`_link`). If the function returned a higher stage of this request,
@@ -81,19 +81,20 @@ Which methods call a user's code
     `history` (`describe`), `Ends._call` (the hook, and `describe` before it), and relays, which add a callback to
     somebody's future and ask for its result.
 """
+import asyncio
 import concurrent.futures
-import functools
 import math
-import sys
 import time
 from array import array
-from typing import TYPE_CHECKING, Any, Callable, List, NoReturn, Optional, Sequence, Tuple, TypeVar
+from typing import TYPE_CHECKING, Any, Callable, Dict, List, Optional, Sequence, Tuple, TypeVar
 
 from ..values import Form
 from ._core import RequestCore
+from .attaching import Attaching
 from .history import Describe, History
 from .opened import Wait, waits_of
-from .relays import Hold, follow_future
+from .relays import Hold, follow_future, let_go_with
+from .scope import Scope
 from .stage import Stage
 from .words import FAIL, LINKS, RELAY, THROWS, name_of
 
@@ -144,6 +145,13 @@ if TYPE_CHECKING:
         def stop(self, stage: "Stage[Any]") -> None:
             """A stage was settled while its function still runs."""
 
+        def stopped(self) -> "Dict[asyncio.Task[None], Stage[Any]]":
+            """The coroutines that were stopped and haven't ended yet."""
+
+        @property
+        def loop(self) -> Optional[asyncio.AbstractEventLoop]:
+            """The event loop that calls the functions, if one does."""
+
         @property
         def belongs_to_parent(self) -> bool:
             """Whether the turns stay with the parent at a `fork`."""
@@ -155,7 +163,7 @@ T = TypeVar("T")
 R = TypeVar("R", bound="Request")
 
 
-class Request(RequestCore):
+class Request(RequestCore, Attaching):
     """Stages that belong together, with one history. `Service.request` and `Service.start` open one. Any thread may use
     it; calls on one request wait for one another.
 
@@ -169,158 +177,19 @@ class Request(RequestCore):
     Each method that attaches stages raises
 
         RequestFull: There would be more than 4,096 stages. Nothing is changed.
+        ScopeEnded: The stage would be of a scope that has ended. Nothing is changed.
         RuntimeError: The stage has a function, and the service is shut down. Nothing is changed."""
 
     _stage_class = Stage
-    __slots__ = ("_describe", "_alarm", "_traces")  # (`_describe` where that isn't what the service chose)
+    __slots__ = ("_describe", "_alarm", "_around", "_traces")  # (`_describe` where that isn't what the service chose)
     _describe: Describe
     _alarm: Tuple[int, int]  # its moment and number, on a clock
+    _around: Scope  # of which all stages are, where the request has a deadline
 
     @property
     def name(self) -> str:
         """Its name in histories."""
         return self._title or (self._name_of(0) if self._stages else "request")
-
-    # Stages.
-
-    def supply(self, fn: "Callable[P, T]", /, *args: "P.args", **kwargs: "P.kwargs") -> "Stage[T]":
-        """Calls a function on one of the service's threads, or on the loop of a `LoopService`.
-
-        Args:
-            fn: Called with the other arguments.
-
-        Returns:
-            A stage that ends with what the function returns or raises."""
-        if self._works.closed:
-            raise self._works.refusal()
-        return self._attach(Form.SUPPLY, None, None, fn, args or None, kwargs or None, name_of(fn))
-
-    def promise(self, name: str = "promise") -> "Stage[Any]":
-        """Attaches a stage without a function. Settle it by `complete`, `fail`, `cancel` or a time limit.
-
-            approval = request.promise("approval")
-            shipped = approval.then(ship)
-            ..
-            approval.complete("yes")
-
-        Args:
-            name: What histories call it.
-
-        Returns:
-            The stage. Until it is settled, the stages that depend on it wait."""
-        return self._attach(Form.SOURCE, None, None, None, None, None, name)
-
-    def adopt(self, future: "concurrent.futures.Future[T]") -> "Stage[T]":
-        """Makes a future a stage of this request, so that other stages can wait for it.
-
-            price = request.adopt(executor.submit(quote, "lamp")).then(with_tax)
-
-        Args:
-            future: Any future of `concurrent.futures`. It keeps the request alive until it or the returned stage is
-                settled. If that may take long, cancel the stage once you don't need it.
-
-        Returns:
-            A stage that ends as the future does; a stage of this request is returned as it is."""
-        holds: List[Hold] = []
-        stage = self._relay_of(future, holds)
-        _let_go_with(stage, holds)
-        return stage
-
-    def all_of(self, *of: "concurrent.futures.Future[Any]") -> "Stage[None]":
-        """Waits for all futures, also where one of them fails.
-
-        Args:
-            of: Stages of this request, or any other futures, each of which takes a relay.
-
-        Returns:
-            A stage that ends once all are settled: with None if all have values, else with the exception of the first
-            one in this order that has one. For n futures it takes n - 1 stages, at least one."""
-        return self._of_all(Form.ALL_OF, of, "all of")
-
-    def first_of(self, *of: "concurrent.futures.Future[T]") -> "Stage[T]":
-        """Waits for the future that is settled first, be it by an exception. The others go on.
-
-            quote = request.first_of(request.supply(ask, here), request.supply(ask, there))
-
-        Args:
-            of: Stages of this request, or any other futures, each of which takes a relay.
-
-        Returns:
-            A stage that ends as the first one does, be it with an exception. For n futures it takes n - 1 stages, at
-            least one.
-
-        Raises:
-            ValueError: No future is given."""
-        if not of:
-            raise ValueError("of no stages none is the first")
-        return self._of_all(Form.ANY_OF, of, "first of")
-
-    def gather(self, *of: "concurrent.futures.Future[T]") -> "Stage[List[T]]":
-        """Waits for all futures, and collects their values.
-
-            prices = request.gather(*[request.supply(quote, item) for item in items])
-
-        Args:
-            of: As in `all_of`.
-
-        Returns:
-            A stage that ends with the list of the values, in this order, or with an exception as `all_of` does. It
-            takes one stage more than `all_of`."""
-        if self._works.closed:
-            raise self._works.refusal()
-        here, holds = self._relays_of(of, max(len(of) - 1, 1) + 1)
-        done: Stage[List[T]] = self._behind(Form.APPLY, self._gather(Form.ALL_OF, here, "all of"), None, functools.partial(_results, here))
-        _let_go_with(done, holds)
-        return done.named("gather")
-
-    def first(self, *of: "concurrent.futures.Future[T]") -> "Stage[T]":
-        """Waits for the first future that succeeds. The others go on.
-
-            quote = request.first(request.supply(ask, here), request.supply(ask, there))
-
-        Args:
-            of: As in `all_of`.
-
-        Returns:
-            A stage that ends with the value that is there first. Once all have failed, it fails with an `ExceptionGroup`
-            of their exceptions; before Python 3.11 with the last one, and the others as its `__context__`. It takes two
-            stages.
-
-        Raises:
-            ValueError: No future is given."""
-        return self._joined(1, of, Form.EXCEPTIONALLY, _fail_together, "first")
-
-    def all(self, *of: "concurrent.futures.Future[T]") -> "Stage[List[T]]":
-        """Waits for all futures to succeed, and fails as soon as one of them does. The others go on.
-
-            user, price = request.all(request.supply(load_user, 3), request.supply(quote, "lamp")).result()
-
-        Args:
-            of: As in `all_of`.
-
-        Returns:
-            A stage that ends with the list of the values, in this order, or with the exception that comes first. It takes
-            two stages."""
-        if not of:
-            return self.gather()
-        return self._joined(len(of), of, Form.APPLY, _results, "all")
-
-    def quorum(self, wanted: int, *of: "concurrent.futures.Future[T]") -> "Stage[List[T]]":
-        """Waits until so many futures have succeeded. The others go on.
-
-            votes = request.quorum(2, *[request.supply(ask, replica) for replica in replicas])
-
-        Args:
-            wanted: How many, from 1 to all of them.
-            of: As in `all_of`. One that is given twice counts twice.
-
-        Returns:
-            A stage that ends with a list of the values that are there then, as many as are wanted at least, in this
-            order. Once too many have failed, it fails as `first` does. It takes two stages.
-
-        Raises:
-            ValueError: None is wanted, or more than there are."""
-        return self._joined(wanted, of, Form.HANDLE, _values_or_failures, "quorum")
 
     def __getitem__(self, step: "Step[T]") -> "Stage[T]":
         """The stage of a flow's step, in a request that was begun with the flow.
@@ -333,7 +202,12 @@ class Request(RequestCore):
 
     def history(self) -> History:
         """All that happened until now, as a `History` that stays as it is. It takes about a microsecond an event."""
-        return History(self.name, self._plan, self._facts())._with_descriptions(getattr(self, "_describe", self._works.describe))
+        return self._history()._with_descriptions(getattr(self, "_describe", self._works.describe))
+
+    def _history(self) -> History:
+        history = History(self.name, self._plan, self._facts())
+        history._aids = {number for number in range(len(history.names)) if self._aid_of(number)}
+        return history
 
     def waits(self) -> List[Wait]:
         """Why it isn't over, the longest-lasting first: functions that run, or that no thread has taken, and promises that
@@ -372,13 +246,40 @@ class Request(RequestCore):
     def end(self) -> None:
         """Says that this request is over: once all stages that it has now are settled, the `on_end` of its service is
         told of it. `with service.request(..) as request:` says so at the end of the block. Without a call the request
-        is over once nobody has it or one of its stages any more. To a service without `on_end` it means nothing."""
+        is over once nobody has it or one of its stages any more. To a service without `on_end` it means nothing.
+
+        A request with a `timeout` ends its block, `with` or `async with`, as a `Scope` does."""
 
     def __enter__(self: R) -> R:
+        if hasattr(self, "_around"):
+            self._around.__enter__()
         return self
 
-    def __exit__(self, *_cause: object) -> None:
-        self.end()
+    def __exit__(self, *cause: Any) -> None:
+        try:
+            if hasattr(self, "_around"):
+                self._around.__exit__(*cause)
+        finally:
+            self.end()
+
+    async def __aenter__(self: R) -> R:
+        if hasattr(self, "_around"):
+            await self._around.__aenter__()
+        return self
+
+    async def __aexit__(self, *cause: Any) -> None:
+        try:
+            if hasattr(self, "_around"):
+                await self._around.__aexit__(*cause)
+        finally:
+            self.end()
+
+    def _with_timeout(self: R, seconds: Optional[float]) -> R:
+        """This request, all stages of which are of one scope with that deadline, if one is given."""
+        if seconds is not None:
+            self._around = self.scope(seconds, self.name)
+            self._put_all_in(self._around._stage.number)
+        return self
 
     def _describing(self: R, describe: Optional[Describe]) -> R:
         """This request, whose histories tell of values what a function does, if one is given."""
@@ -394,53 +295,33 @@ class Request(RequestCore):
         name = name_of(fn)
         if second is None or isinstance(second, Stage) and second.request is self:
             return self._attach(form, first, second, fn, None, None, name)
-        (here,), holds = self._relays_of([second], 1)
+        (here,), holds = self._relays_of([second], 1, self._scope_of(first.number))
         stage = self._attach(form, first, here, fn, None, None, name)
-        _let_go_with(stage, holds)
+        let_go_with(stage, holds)
         return stage
 
-    def _of_all(self, form: Form, of: "Sequence[concurrent.futures.Future[Any]]", name: str) -> "Stage[Any]":
-        here, holds = self._relays_of(of, max(len(of) - 1, 1))
-        stage = self._gather(form, here, name)
-        _let_go_with(stage, holds)
-        return stage
-
-    def _joined(self, wanted: int, of: "Sequence[concurrent.futures.Future[Any]]", form: Form, fn: Callable[..., Any], name: str) -> "Stage[Any]":
-        """A stage behind one that ends once so many of these have succeeded, or too few can. Its function is given the
-        stages, too."""
-        if not 1 <= wanted <= len(of):
-            raise ValueError(f"{wanted} of {len(of)} futures can't be wanted")
-        if self._works.closed:
-            raise self._works.refusal()
-        here, holds = self._relays_of(of, 2)
-        join = self.promise(f"{wanted} of {len(of)}")
-        try:
-            joined = self._behind(form, join, None, functools.partial(fn, here)).named(name)
-            self._join(join, wanted, here)
-        except BaseException:
-            join.cancel()
-            raise
-        _let_go_with(joined, holds)
-        return joined
-
-    def _relays_of(self, of: "Sequence[concurrent.futures.Future[Any]]", more: int) -> "Tuple[List[Stage[Any]], List[Hold]]":
-        """Stages of this request that end as these futures do, and the holds on the relays among them. Where there isn't
-        room for these and for `more` stages, nothing is attached."""
+    def _relays_of(
+        self, of: "Sequence[concurrent.futures.Future[Any]]", more: int, scope: Optional[int] = None
+    ) -> "Tuple[List[Stage[Any]], List[Hold]]":
+        """Stages of this request that end as these futures do, new ones in a scope, and the holds on the relays among them. Where
+        there isn't room for these and for `more` stages, nothing is attached."""
         _check_futures(of)
         others = sum(not isinstance(future, Stage) or future.request is not self for future in of)
         self._check_room(others + more)
         holds: List[Hold] = []
-        return [self._relay_of(future, holds) for future in of], holds
+        return [self._relay_of(future, holds, scope) for future in of], holds
 
-    def _relay_of(self, future: "concurrent.futures.Future[T]", holds: List[Hold]) -> "Stage[T]":
-        """As `adopt`. Adds the hold on a new relay to `holds`."""
+    def _relay_of(self, future: "concurrent.futures.Future[T]", holds: List[Hold], scope: Optional[int] = None) -> "Stage[T]":
+        """As `adopt`, in a scope. Adds the hold on a new relay to `holds`."""
         if isinstance(future, Stage) and future.request is self:
             return future
         _check_futures([future])
-        relay: Stage[T] = self.promise(f"relay of {self._title_of(future)}")
+        relay: Stage[T] = self._attach(Form.SOURCE, None, None, None, None, None, f"relay of {self._title_of(future)}", scope)
         hold = follow_future(relay, future)
         if hold is not None:
             holds.append(hold)
+            if self._scope_of(relay.number) is not None:  # whose end may come before another stage needs it
+                relay.add_done_callback(hold)
         return relay
 
     def _check_room(self, stages: int) -> None:
@@ -463,6 +344,8 @@ class Request(RequestCore):
             return self._end(stage, who, THROWS, TypeError(f"{to!r} is no future"))
         if isinstance(to, Stage) and to.request is self and to.number < stage.number:
             return self._end(stage, who, LINKS, to)
+        if isinstance(to, Stage):
+            to._take_over()
         relay, goes_on = self._stage(stage.number - 1), False
         self._rename(relay.number, f"relay of {self._title_of(to)}")
         try:
@@ -486,7 +369,7 @@ class Request(RequestCore):
         except Exception as error:
             self._change(FAIL, RELAY, relay, error)
         else:
-            _let_go_with(stage, [] if hold is None else [hold])
+            let_go_with(stage, [] if hold is None else [hold])
 
     def _title_of(self, future: "concurrent.futures.Future[Any]") -> str:
         """The name in histories of a future from outside, or of a higher stage."""
@@ -504,44 +387,3 @@ def _check_futures(of: Sequence[object]) -> None:
                 "of a list one by one, as gather(*futures), and a coroutine function to a LoopService's "
                 "supply"
             )
-
-
-def _results(stages: "List[Stage[T]]", _: None) -> List[T]:
-    return [stage.result() for stage in stages]
-
-
-def _values_or_failures(stages: "List[Stage[T]]", _: None, error: Optional[BaseException]) -> List[T]:
-    """The values that are there; with an exception, those of all that failed are raised."""
-    if error is not None:
-        return _fail_together(stages, error)
-    return [stage.result() for stage in stages if stage.done() and _failure_of(stage) is None]
-
-
-def _fail_together(stages: "List[Stage[Any]]", last: BaseException) -> NoReturn:
-    """Raises the exceptions of all of these that failed, the last of which is given."""
-    failures = {id(error): error for error in map(_failure_of, stages) if error is not None}
-    if failures and sys.version_info >= (3, 11):
-        raise BaseExceptionGroup(f"{len(failures)} of {len(stages)} have failed", list(failures.values()))
-    failures.pop(id(last), None)
-    end, seen = last, {id(last)}
-    for error in failures.values():
-        while end.__context__ is not None and id(end.__context__) not in seen:
-            end = end.__context__
-            seen.add(id(end))
-        if id(error) not in seen:
-            end.__context__ = error
-    raise last
-
-
-def _failure_of(stage: "Stage[Any]") -> Optional[BaseException]:
-    """The exception of a stage, if it has one by now."""
-    try:
-        return stage.exception(0) if stage.done() else None
-    except concurrent.futures.CancelledError as error:
-        return error
-
-
-def _let_go_with(stage: "Stage[Any]", holds: List[Hold]) -> None:
-    """Releases relays once the only stage that needs them is settled."""
-    for hold in holds:
-        stage.add_done_callback(hold)

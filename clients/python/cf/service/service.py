@@ -106,15 +106,23 @@ class Service(concurrent.futures.Executor):
         self._kind = (ContextRequest if contexts else Request) if on_end is None else EndingRequest
         weakref.finalize(self, self._works.close)
 
-    def request(self, name: str = "", room: int = ROOM, *, describe: Optional[Describe] = None) -> Request:
+    def request(self, name: str = "", room: int = ROOM, *, timeout: Optional[float] = None, describe: Optional[Describe] = None) -> Request:
         """Opens a request without stages. It keeps this service alive.
+
+            with service.request("order 17", timeout=5) as request:
+                ..
 
         Args:
             name: What histories call it. By default `request 0` and so on.
             room: A guess how many stages it will have. One that grows beyond that does all its events again a few
                 times.
-            describe: What its histories tell of values and exceptions, in place of what the service chose."""
-        return self._kind(self._works, name or f"request {next(self._requests)}", room, self)._describing(describe)
+            timeout: In how many seconds all of its stages are cancelled that are open, as in `or_timeout`. They are of one scope
+                then, which takes a stage, and its block ends as that of a `Scope` does.
+            describe: What its histories tell of values and exceptions, in place of what the service chose.
+
+        Raises:
+            ValueError: `timeout` is NaN."""
+        return self._kind(self._works, name or f"request {next(self._requests)}", room, self)._describing(describe)._with_timeout(timeout)
 
     def start(self, flow: Flow, *given: Any, name: str = "", describe: Optional[Describe] = None) -> Request:
         """Begins a request of a flow's stages, and comes back at once. Threads run what becomes ready. Further stages

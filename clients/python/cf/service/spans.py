@@ -8,11 +8,11 @@ import json
 import os
 from typing import Any, Dict, Iterator, List, NamedTuple, Optional, Sequence, Set, Tuple, Union
 
-from ..events import Attach, Claim, Finish
+from ..events import Attach, Cancel, Claim, Finish
 from ..values import Link, Thrown
 from .ending import Hook
 from .history import HistoryEntry, History, _whole
-from .words import ANSWER, COMPOSE_FORMS, FIRST_WORKER, FORMS, NUMBER, VALUE, OutcomeNumbers
+from .words import ANSWER, COMPOSE_FORMS, FIRST_WORKER, FORMS, NUMBER, RELAY, VALUE, OutcomeNumbers
 
 UNSET, OK, ERROR = range(3)  # the codes of a status
 INTERNAL = 1  # the kind of these spans
@@ -74,6 +74,8 @@ class _Reading:
             self.shapes[reply[NUMBER]], self.attached[reply[NUMBER]] = (int(event.form), event.of), entry
             if event.who >= FIRST_WORKER:
                 self.inner.add(reply[NUMBER])
+        elif isinstance(event, Cancel) and (event.who == RELAY or event.stage in self.history._aids):  # by a scope's end, or one
+            self.inner.add(event.stage)
         elif isinstance(event, Claim) and not reply[ANSWER]:
             self.claims[event.stage] = entry
         elif isinstance(event, Finish):

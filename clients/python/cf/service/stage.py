@@ -60,6 +60,7 @@ class Stage(_Future[T]):
     Each method that attaches a stage returns the new stage, and raises
 
         RequestFull: The request has 4,096 stages. Nothing is changed.
+        ScopeEnded: This stage's scope has ended, of which the new one would be, too. Nothing is changed.
         RuntimeError: The service is shut down, so nobody would run the function. Nothing is changed."""
 
     # What is attached behind it.
@@ -295,6 +296,7 @@ class Stage(_Future[T]):
         cancels this stage alone, and not while its function runs. `await asyncio.shield(stage)` gives up this wait alone.
         A settled stage is given at once."""
         if not self.done():
+            self._take_over()
             yield from self._wait_on(asyncio.get_running_loop())
             error = None if self.cancelled() else self.exception()
             if error is not None and type(error) in ASYNCIOS:

@@ -1,5 +1,6 @@
 """Waiting and waking in `cf.service`: threads that use turns (`Threads`), the clock (`Clock`), the thread of a hook
-(`Aside`), the waiters of a stage (`AwaitedFuture`), and the wake-up of an event loop (`LoopWaker`).
+(`Aside`), the waiters of a stage (`AwaitedFuture`) and of a scope (`Bell`), and the wake-up of an event loop
+(`LoopWaker`).
 
 Locks, conditions, queues, threads and the time come from `primitives` alone. So tests/waits can run this code in every
 order, with threads that don't start, interrupts, and objects that are collected at each step.
@@ -411,6 +412,49 @@ class Aside(_OnDemandThread):
             return None
 
 
+class Bell:
+    """Wakes a thread that looks again each time that it is rung."""
+
+    def __init__(self) -> None:
+        self._changed = primitives.condition()
+        self._is_rung = False
+
+    def ring(self) -> None:
+        """Wakes the thread, or lets it not wait the next time."""
+        with self._changed:
+            self._is_rung = True
+            self._changed.notify_all()
+
+    def wait(self) -> None:
+        """Waits until it is rung, or was since the last time."""
+        with self._changed:
+            self._changed.wait_for(lambda: self._is_rung)
+            self._is_rung = False
+
+
+class LoopBell:
+    """Wakes a task of an event loop, once. Any thread may ring it.
+
+    Attributes:
+        end: What the task awaits."""
+
+    def __init__(self, loop: asyncio.AbstractEventLoop) -> None:
+        self._loop = loop
+        self.end: "asyncio.Future[None]" = loop.create_future()
+
+    def ring(self, _settled: object = None) -> None:
+        """Wakes the task."""
+        if asyncio._get_running_loop() is self._loop:
+            self._tell()
+        else:
+            with contextlib.suppress(RuntimeError):  # the loop is closed, and nobody waits there
+                self._loop.call_soon_threadsafe(self._tell)
+
+    def _tell(self) -> None:
+        if not self.end.done():
+            self.end.set_result(None)
+
+
 class AwaitedFuture:
     """The waiting side of a future: by its condition, by `wait` and `as_completed`, or on a loop."""
 
@@ -452,22 +496,10 @@ class AwaitedFuture:
 
     def _wait_on(self, loop: asyncio.AbstractEventLoop) -> Generator[Any, None, None]:
         """Waits on the running loop until it is settled. If the waiting task is cancelled, calls `cancel`."""
-        end = loop.create_future()
-
-        def tell() -> None:
-            if not end.done():
-                end.set_result(None)
-
-        def settled(_future: object) -> None:
-            if asyncio._get_running_loop() is loop:
-                tell()
-            else:
-                with contextlib.suppress(RuntimeError):  # the loop is closed, and nobody waits there
-                    loop.call_soon_threadsafe(tell)
-
-        self.add_done_callback(settled)
+        bell = LoopBell(loop)
+        self.add_done_callback(bell.ring)
         try:
-            yield from end
+            yield from bell.end
         except asyncio.CancelledError:
             self.cancel()
             raise

@@ -8,6 +8,7 @@ so.
 All methods of a watch are called on the thread that makes the change, reads or waits. Nothing here has a lock of
 its own, so one thread at a time may be within a service that is watched.
 """
+import asyncio
 import concurrent.futures
 import functools
 from array import array
@@ -17,7 +18,9 @@ from ._core import set_caller
 from .ending import Ends
 from .history import Describe, History
 from .relays import Hold, is_relay, is_release
+from .contexts import AT_WORK
 from .request import Request
+from .scope import Scope
 from .stage import Stage
 from .words import COMPOSE_FORMS, GIVES, LINKS, THROWS
 
@@ -107,6 +110,7 @@ class ReadyStage:
         """Calls the function, and keeps what it returns or raises. Only what `leaves` names is raised."""
         assert self.fn is not None
         set_caller(self._who)
+        before = AT_WORK.set(self.stage)
         try:
             args, kwargs = self._args
             self._given = self.fn(*args, **kwargs)
@@ -115,6 +119,7 @@ class ReadyStage:
                 raise
             self._kind, self._given, self.error = THROWS, error, error
         finally:
+            AT_WORK.reset(before)
             set_caller(0)
 
     def finish(self) -> "Optional[ReadyStage]":
@@ -130,7 +135,7 @@ class ReadyStage:
 class WatchedWorks:
     """What `Works` is to a request, where a watch runs the service."""
 
-    belongs_to_parent = False
+    belongs_to_parent, loop = False, None
 
     def __init__(self, watch: Watch, describe: Describe) -> None:
         self.watch, self.describe, self.closed = watch, describe, False
@@ -158,6 +163,9 @@ class WatchedWorks:
 
     def stop(self, stage: "Stage[Any]") -> None:
         """(The watch calls the function.)"""
+
+    def stopped(self) -> "Dict[asyncio.Task[None], Stage[Any]]":
+        return {}
 
     def close(self) -> None:
         self.closed = True
@@ -253,31 +261,59 @@ class WatchedRequest(Request):
         args: Optional[Tuple[Any, ...]],
         kwargs: Optional[Dict[str, Any]],
         name: str,
+        scope: Optional[int] = None,
+        /,
     ) -> "Stage[Any]":
-        stage = super()._attach(form, first, second, call, args, kwargs, name)
+        self._read_scope(self._scope_of(first.number) if scope is None and first is not None else scope)
+        stage = super()._attach(form, first, second, call, args, kwargs, name, scope)
         self._date()
         if form in COMPOSE_FORMS:
             self._meet(self._stage(stage.number - 1), ())
         self._meet(stage, [source for source in (first, second) if source is not None])
         return stage
 
-    def _gather(self, form: int, of: "Sequence[Stage[Any]]", name: str) -> "Stage[Any]":
+    def _gather(self, form: int, of: "Sequence[Stage[Any]]", name: str, scope: Optional[int] = None) -> "Stage[Any]":
+        self._read_scope(scope)
         first = self._stages
-        root = super()._gather(form, of, name)
+        root = super()._gather(form, of, name, scope)
         self._date()
         self._meet(self._stage(first), of[:2])
         for number in range(first + 1, root.number + 1):
             self._meet(self._stage(number), (self._stage(number - 1), of[number - first + 1]))
         return root
 
+    def _read_scope(self, scope: Optional[int]) -> None:
+        """A stage is to be attached in a scope, unless that has ended."""
+        around: Optional[Scope] = getattr(self, "_around", None)
+        if scope is not None or around is not None:
+            self.watch.on_read(around._stage if scope is None and around is not None else self._stage(cast(int, scope)))
+
     def _join(self, stage: "Stage[Any]", wanted: int, of: "Sequence[Stage[Any]]") -> None:
         super()._join(stage, wanted, of)
         self._date()
         self.watch.on_attached(stage, of)
 
+    def _end_with(self, scope: "Stage[Any]", stage: "Stage[Any]") -> None:
+        super()._end_with(scope, stage)
+        self._date()
+        self.watch.on_attached(scope, [stage])
+
     def _meet(self, stage: "Stage[Any]", of: "Sequence[Stage[Any]]") -> None:
         _meet(stage)
-        self.watch.on_attached(stage, of)
+        scope = self._scope_of(stage.number)
+        self.watch.on_attached(stage, of if scope is None else [*of, self._stage(scope)])
+
+    def _look_within(self, scope: int) -> Tuple[bool, bool, List[int]]:
+        self.watch.on_history_read(self)
+        return super()._look_within(scope)
+
+    def _wait_within(self, scope: int) -> List[BaseException]:
+        failures = self._failures_within(scope)
+        while failures is None:
+            stages = [self._stage(number) for number in range(scope + 1, self._stages) if self._is_within(number, scope)]
+            self.watch.wait(stages, lambda: self._failures_within(scope) is not None, None)
+            failures = self._failures_within(scope)
+        return failures
 
     def _change(self, kind: int, who: int, stage: "int | Stage[Any]", given: Any) -> bool:
         its = self._stage(stage) if isinstance(stage, int) else stage
@@ -301,8 +337,8 @@ class WatchedRequest(Request):
         self.watch.on_finished(stage, given if kind == LINKS else None)
         return goes_on
 
-    def _relay_of(self, future: "concurrent.futures.Future[T]", holds: List[Hold]) -> "Stage[T]":
-        relay = super()._relay_of(future, holds)
+    def _relay_of(self, future: "concurrent.futures.Future[T]", holds: List[Hold], scope: Optional[int] = None) -> "Stage[T]":
+        relay = super()._relay_of(future, holds, scope)
         if relay is not future:
             self.watch.on_linked(relay, future)
         return relay

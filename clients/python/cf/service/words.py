@@ -28,6 +28,8 @@ NEVER = 2**64 - 1  # the moment of the next deadline where there is none
 # The callers in a history (docs/FORMATS.md, "Callers"). THIS_THREAD is whichever this thread is.
 THIS_THREAD, CLIENT, CLOCK, RELAY, FIRST_WORKER, MOST_CALLERS = -1, 0, 1, 2, 3, 64
 
+JOIN, SCOPE = 1, 2  # for what a stage may stand that nobody waits for by itself
+
 FORMS = (
     "source",
     "supply",
@@ -73,6 +75,10 @@ def name_of(call: Any) -> str:
     if type(call) is FunctionType:
         return call.__qualname__
     return str(getattr(getattr(call, "func", call), "__qualname__", type(call).__name__))
+
+
+class ScopeEnded(RuntimeError):
+    """A stage was to be attached in a scope that has ended. Nothing was changed."""
 
 
 class RequestFull(RuntimeError):

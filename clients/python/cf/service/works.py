@@ -1,11 +1,12 @@
 """The threads of a service: how they use turns, and what happens to unused turns at a shutdown, at the end of the
 interpreter and in a child of `fork`."""
+import asyncio
 import atexit
 import logging
 import os
 import weakref
 from concurrent.futures.thread import BrokenThreadPool
-from typing import TYPE_CHECKING, Any, Callable, Iterable, Optional, Sequence, Tuple, TypeVar
+from typing import TYPE_CHECKING, Any, Callable, Dict, Iterable, Optional, Sequence, Tuple, TypeVar
 
 from ._core import set_caller
 from .ending import Ends
@@ -25,7 +26,7 @@ BROKEN = "A thread initializer failed, the thread pool is not usable anymore"
 class Works(Threads):
     """The threads and the clock of a service. A turn is used by running a function of the request that is ready."""
 
-    belongs_to_parent = True
+    belongs_to_parent, loop = True, None
 
     def __init__(
         self,
@@ -68,6 +69,9 @@ class Works(Threads):
     def stop(self, stage: "Stage[Any]") -> None:
         """(A function on a thread can't be stopped.)"""
 
+    def stopped(self) -> "Dict[asyncio.Task[None], Stage[Any]]":
+        return {}
+
     def refuse(self, turns: "Sequence[Request]") -> None:
         _do_to_all(lambda request: request._refuse(self.refusal()), dict.fromkeys(turns))
 
@@ -109,6 +113,7 @@ class Here:
     """The works of a flow that one thread runs. There is no clock."""
 
     closed = belongs_to_parent = False
+    loop = None
     ends: Optional[Ends] = None
 
     @property
@@ -127,6 +132,9 @@ class Here:
 
     def stop(self, stage: "Stage[Any]") -> None:
         """(It runs on this thread.)"""
+
+    def stopped(self) -> "Dict[asyncio.Task[None], Stage[Any]]":
+        return {}
 
 
 _open_works: "weakref.WeakSet[Works]" = weakref.WeakSet()

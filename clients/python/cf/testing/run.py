@@ -390,8 +390,8 @@ def _end_of(stage: "Stage[Any]") -> str:
     """The outcome of a settled stage, in words."""
     if stage.cancelled():
         return "is cancelled"
-    error = stage.exception(0)
-    return f"ends: {describe_all(stage.result(0) if error is None else error)}"
+    error = stage._exception  # (to ask for it would take a failure over)
+    return f"ends: {describe_all(stage._given if error is None else error)}"
 
 
 def _next_of(thing: Thing, flight: Flight) -> List[Move]:

@@ -170,12 +170,19 @@ class Joins(Case):
 class Cores(CoreCase):
     def test_arguments_of_other_types(self):
         core, number = self.request, self.request.promise().number
-        for given in ((), (number, 1), (number, 1, [0]), (7, 1, b"\0\0"), (number, "1", b"\0\0"), (number, -1, b"\0\0")):
+        for given in (
+            (),
+            (number, 1, b"\0\0"),
+            (number, 1, [0], False),
+            (7, 1, b"\0\0", False),
+            (number, "1", b"\0\0", False),
+            (number, -1, b"\0\0", False),
+        ):
             with self.assertRaises((TypeError, ValueError, IndexError)):
                 core._join_within(*given)
         for given in ((number, 0, b"\0\0"), (number, 2, b"\0\0"), (number, 1, b""), (number, 1, b"\7\0")):
             with self.assertRaises(RuntimeError):
-                core._join_within(*given)
+                core._join_within(*given, False)
         self.fits(core)
 
     def test_what_is_written_down(self):
