@@ -138,7 +138,17 @@ def rows_of_python(tools: Tools, made: Path) -> List[Row]:
         Row(
             "some of CPython's tests over Python's service",
             [MODULE, tested],
-            [[tools[tested], "conformance/clients/python-suites", "FutureTests", "ThreadPoolExecutorTest", "ToThreadTests"]],
+            [
+                [
+                    tools[tested],
+                    "conformance/clients/python-suites",
+                    "FutureTests",
+                    "ThreadPoolExecutorTest",
+                    "ToThreadTests",
+                    "TestTaskGroup",
+                    "TimeoutTests",
+                ]
+            ],
         ),
         Row("Python's ledgers, steps and workers", [MODULE, "python3"], [[python, "-m", "unittest", "discover", "-s", "clients/python/tests"]]),
         Row("the reference of Python's package", [MODULE, "python3"], [[python, "clients/python/reference", str(made / "reference")]]),
