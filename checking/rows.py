@@ -80,6 +80,7 @@ def rows_of_python(tools: Tools, made: Path) -> List[Row]:
         ),
         example("Python's example", "example.py", "clients/python/examples"),
         example("Python's handler on an event loop", "async_handler.py"),
+        example("Python's handler of eight backends", "eight_backends.py", "clients/python/examples"),
         example("Python's first program", "first.py"),
         example("Python's spans in a file", "traced.py", "docs/HISTORIES.md"),
         example("Python's order of three processes", "order.py", "docs/STORES.md"),

@@ -17,16 +17,13 @@ async def quote(number):
 
 
 async def handle(service, number):
-    request = service.request(f"order {number}")
-    order = request.supply(load, number)
-    cents = request.supply(quote, number)
-    answer = order.combine(cents, lambda order, cents: {**order, "cents": cents}).named("answer")
     try:
-        return 200, await answer.or_timeout(0.5)
+        async with service.request(f"order {number}", timeout=0.5) as request:  # ends also if the client hangs up
+            order = request.supply(load, number)
+            cents = request.supply(quote, number)
+            return 200, await order.combine(cents, lambda order, cents: {**order, "cents": cents})
     except TimeoutError as error:
         return 504, str(error)
-    finally:  # also if the client hangs up, and the server cancels this handler
-        request.cancel()
 
 
 async def main():
