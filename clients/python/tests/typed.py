@@ -25,6 +25,7 @@ if TYPE_CHECKING:
         OpenRequest,
         Request,
         RequestFull,
+        Scope,
         Service,
         Span,
         SpanFile,
@@ -33,6 +34,7 @@ if TYPE_CHECKING:
         Wait,
         describe_nothing,
         describe_types,
+        is_stopping,
         spans_of,
         spans_to,
     )
@@ -58,6 +60,11 @@ if TYPE_CHECKING:
         composed: Stage[int] = text.compose(lambda it: request.supply(size, it))
         deeper: Stage[int] = composed.recover_compose(lambda error: request.supply(size, ""))
         listed: Stage[List[int]] = request.gather(number, first)
+        tried: Stage[str] = request.retry(load, 17, times=5, on=(OSError, KeyError))
+        with request.scope(timeout=2, name="quotes") as scope:
+            inner: Scope = scope.scope()
+            best: Stage[str] = inner.ends_with(scope.first(tried, scope.supply(load, 17)))
+            print(best, is_stopping())
         nothing: Stage[None] = request.all_of(number, text, other)
         one: Stage[float] = request.first_of(other, request.adopt(other))
         won: Stage[float] = request.first(other, one)

@@ -2,7 +2,8 @@
 
 A `Service` runs functions on threads, a `LoopService` on an event loop. `service.request(name)` opens a `Request`, whose
 stages are futures: `request.supply(fn)` calls a function, `request.promise()` waits for somebody to complete it, and
-`stage.then(fn)` calls a function with a stage's value. A `Flow` is a plan that many requests do.
+`stage.then(fn)` calls a function with a stage's value. `request.scope()` opens a `Scope`, whose stages end together. A
+`Flow` is a plan that many requests do.
 
     with Service() as service:
         request = service.request("order 17")

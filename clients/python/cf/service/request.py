@@ -14,7 +14,7 @@ What is kept where
       names a value or an exception by its index in these lists. The future of a stage is in its row until the stage is
       settled, and has the function with its arguments until then.
     - `Request` and `Stage` inherit from the cores. They have the methods that users call, and relays of futures from
-      outside the request.
+      outside the request. What attaches stages in a `Scope`, too, is in attaching.py.
     - Waiting and waking is in waits.py: threads, a clock, the waiters of a stage, the wake-up of a loop. `Works`
       (works.py) has the threads and the clock of a `Service`, `_LoopWorks` (loop.py) the event loop of a
       `LoopService`. A request sees both as the protocol `Works` below.
@@ -55,6 +55,10 @@ Relays
 Joins
     `first`, `all` and `quorum` attach a promise, which the machine settles once the stages that it joins have decided it
     (`_join`), and a stage behind it, whose function collects values or exceptions.
+
+Scopes
+    A scope is a promise, too. The module puts each stage of it behind that in the step that attaches it, so that the
+    machine cancels them together. scope.py has the rest.
 
 Time limits
     Each is a deadline of the machine (`_limit`), which tells the moment of the next one with each call, where that has

@@ -41,10 +41,18 @@ class Held:
 
 
 class Scopes(Case):
+    def setUp(self):
+        super().setUp()
+        self.all_held = []
+
+    def tearDown(self):
+        for held in self.all_held:
+            held.go.set()
+        super().tearDown()
+
     def held(self):
-        held = Held()
-        self.addCleanup(held.go.set)
-        return held
+        self.all_held.append(Held())
+        return self.all_held[-1]
 
     def test_a_first_success_ends_the_others(self):
         slow, scope = self.held(), self.request.scope()
@@ -132,7 +140,12 @@ class Scopes(Case):
             scope.promise()
 
     def test_a_scope_ends_with_a_stage_in_whichever_way(self):
-        for settle in (lambda stage: stage.complete(1), lambda stage: stage.fail(Oops()), lambda stage: stage.cancel(), lambda stage: stage.or_timeout(0)):
+        for settle in (
+            lambda stage: stage.complete(1),
+            lambda stage: stage.fail(Oops()),
+            lambda stage: stage.cancel(),
+            lambda stage: stage.or_timeout(0),
+        ):
             for of in (self.request.scope(), self.request):
                 scope = of if of is not self.request else self.request.scope()
                 last, left = of.promise(), scope.promise()
@@ -278,7 +291,12 @@ class Scopes(Case):
     def test_a_request_with_a_timeout(self):
         with self.assertRaisesRegex(TimeoutError, "order 17 took longer than 0.05 s"):
             with self.service.request("order 17", timeout=0.05) as request:
-                stages = [request.promise(), request.supply(self.held()), request.all_of(request.promise(), request.promise()), request.scope().promise()]
+                stages = [
+                    request.promise(),
+                    request.supply(self.held()),
+                    request.all_of(request.promise(), request.promise()),
+                    request.scope().promise(),
+                ]
                 self.assertEqual([wait.name for wait in request.waits()][0], "promise")
                 stages[0].result(20)
         self.assertEqual([stage.cancelled() or type(stage.exception(0)) is CancelledError for stage in stages], [True] * 4)
@@ -302,6 +320,22 @@ class Scopes(Case):
             with self.request.scope() as scope:
                 left = scope.promise()
         self.assertTrue(left.cancelled())
+
+    def test_a_scope_that_ends_while_a_stage_is_attached(self):
+        """The future from outside, for which a relay was attached by then, doesn't keep it."""
+        scope = self.request.scope()
+
+        class Ends(concurrent.futures.Future):
+            def add_done_callback(self, fn):
+                super().add_done_callback(fn)
+                scope.end()
+
+        for attach in (lambda future: stage.combine(future, max), lambda future: scope.gather(future), lambda future: scope.first(stage, future)):
+            stage, future = scope.promise(), Ends()
+            with self.assertRaises(ScopeEnded):
+                attach(future)
+            self.assertEqual(len(future._relays), 0)
+            scope = self.request.scope()
 
     # What else looks at stages.
 
@@ -558,7 +592,7 @@ class OnLoops(unittest.TestCase):
                         raise KeyError
 
                     scope.supply(soon)
-            self.assertEqual({type(error) for error in failures(caught.exception)}, {KeyError, Oops})
+            self.assertLessEqual({KeyError, Oops}, {type(error) for error in failures(caught.exception)})
             error = ValueError()
             with self.assertRaises(ValueError):
                 async with request.scope() as scope:
@@ -573,7 +607,7 @@ class OnLoops(unittest.TestCase):
 
     def test_deadlines(self):
         async def body(service, request):
-            for wait in (lambda scope: scope.promise(), lambda _: asyncio.sleep(20), lambda scope: scope.supply(asyncio.sleep, 20)):
+            for wait in (lambda scope: scope.promise(), lambda _: asyncio.sleep(5), lambda scope: scope.supply(asyncio.sleep, 5)):
                 with self.assertRaisesRegex(asyncio.TimeoutError if sys.version_info >= (3, 11) else TimeoutError, "took longer than 0.02 s"):
                     async with request.scope(timeout=0.02) as scope:
                         await wait(scope)
@@ -608,9 +642,9 @@ class OnLoops(unittest.TestCase):
 
             handler = asyncio.ensure_future(handle())
             await asyncio.sleep(0)
-            time.sleep(0.03)
-            handler.cancel()
-            with self.assertRaises(asyncio.CancelledError):
+            asyncio.get_running_loop().call_later(0.03, handler.cancel)
+            time.sleep(0.05)  # so that both come before the handler goes on
+            with self.assertRaises(asyncio.CancelledError if sys.version_info >= (3, 11) else TimeoutError):
                 await handler
 
         self.run_on(body)
@@ -747,7 +781,11 @@ class Cores(CoreCase):
 
     def test_what_is_written_down(self):
         scope = self.request.scope()
-        stages = [scope.promise(), scope.supply(inc, 1).compose(lambda _: scope.promise()), scope.gather(scope.promise(), scope.promise(), scope.promise())]
+        stages = [
+            scope.promise(),
+            scope.supply(inc, 1).compose(lambda _: scope.promise()),
+            scope.gather(scope.promise(), scope.promise(), scope.promise()),
+        ]
         self.assertTrue(until(lambda: self.request._stages > 9))
         scope.end()
         self.assertTrue(all(stage.done() for stage in stages))

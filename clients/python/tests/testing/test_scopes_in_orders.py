@@ -107,7 +107,9 @@ def tried(world):
     world.calls(stage.cancel, name="the caller")
     world.check(lambda: len(calls) <= 2, "at most two tries")
     world.at_end(lambda: len(calls) == 2 or stage.cancelled(), "two tries or a cancellation")
-    world.at_end(lambda: all(request._stage(number)._ended for number in range(request._stages) if request._scope_of(number) is not None), "nothing is left")
+    world.at_end(
+        lambda: all(request._stage(number)._ended for number in range(request._stages) if request._scope_of(number) is not None), "nothing is left"
+    )
     return stage
 
 
@@ -135,7 +137,9 @@ class InEveryOrder(unittest.TestCase):
         def attach(scope, *given):
             return scope.request._attach(*given)
 
-        with mock.patch.object(Scope, "_attach", attach), mock.patch.object(Scope, "_relay_of", lambda scope, *given: scope.request._relay_of(*given)):
+        with mock.patch.object(Scope, "_attach", attach), mock.patch.object(
+            Scope, "_relay_of", lambda scope, *given: scope.request._relay_of(*given)
+        ):
             report = orders(block, seconds=100)
         self.assertIn("left something open", report.failed[0].why)
 
