@@ -387,10 +387,11 @@ CALL(jint, gather)(JNIEnv *env, jobject machine, jlong at, jint waiting, jint fo
   return end(core, code);
 }
 
-/* Does the words that wait, and lets a stage end once so many of these have values, or too few can have them still. */
-CALL(jint, join)(JNIEnv *env, jobject machine, jlong at, jint waiting, jint stage, jint wanted, jshortArray sources, jint who) {
+/* Does the words that wait, and lets a stage end once so many of these have values, or too few can have them still, or be cancelled then. */
+CALL(jint, join)
+(JNIEnv *env, jobject machine, jlong at, jint waiting, jint stage, jint wanted, jshortArray sources, jboolean cancels, jint who) {
   (void)machine;
-  const cf_request_joining step = {.stage = (uint16_t)stage, .wanted = (uint16_t)wanted};
+  const cf_request_joining step = {.stage = (uint16_t)stage, .wanted = (uint16_t)wanted, .cancels = cancels};
   struct core *core = begin(at);
   uint32_t code = do_waiting(core, waiting);
   if (code != CF_OK) return end(core, code);

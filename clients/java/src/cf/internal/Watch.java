@@ -4,6 +4,7 @@ import cf.service.Request;
 import cf.service.Stage;
 import java.util.List;
 import java.util.concurrent.CompletionStage;
+import java.util.function.BooleanSupplier;
 
 /**
  * Runs a service move by move, in place of its executors and its clock, and is called for all that happens to its stages. It decides when a ready
@@ -60,6 +61,9 @@ public interface Watch {
 
     /** Waits until a stage is settled, or so many nanoseconds have passed, if they aren't negative. */
     void awaitStage(Stage<?> stage, long nanos);
+
+    /** Waits until this holds of stages of a request, and says whether it had to. */
+    boolean awaitScope(Request request, BooleanSupplier isSettled);
 
     /** Takes a ready stage in place of an executor. */
     void submit(ReadyStage task);

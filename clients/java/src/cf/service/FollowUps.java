@@ -1,5 +1,6 @@
 package cf.service;
 
+import cf.internal.Form;
 import cf.internal.Watch;
 
 /**
@@ -7,6 +8,9 @@ import cf.internal.Watch;
  * that this thread has claimed. They may be of several requests, so a chain through many of them is no recursion.
  */
 final class FollowUps implements Watch.Turn {
+    /** Of each thread the follow-ups whose function it calls, in the one place of a row: so a thread that lives on keeps no class of this library. */
+    private static final ThreadLocal<Object[]> CALLING = new ThreadLocal<>();
+
     /** The test that decides when functions are called; null where this thread calls them. */
     final Watch watch;
     private Stage<?> settled, lastSettled, handed, lastHanded;
@@ -21,6 +25,12 @@ final class FollowUps implements Watch.Turn {
 
     /** The error that cut a request's follow-ups short, or null. */
     Throwable failure;
+
+    /** Whose function is called; the stage is null of a flow's that nobody has asked for. */
+    private Request caller;
+    private int called;
+    private Stage<?> calledStage;
+    private Object[] place;
 
     /** What a function that was called for a watch has returned or thrown, until its stage is finished. */
     private Object result;
@@ -135,6 +145,42 @@ final class FollowUps implements Watch.Turn {
         return call;
     }
 
+    // Calls.
+
+    /** Calls a function of this stage. */
+    Object call(Request request, int number, Stage<?> stage, Form form, Object function, Object first, Object second) {
+        if (place == null || watch != null) { // Without a watch one thread does all of it.
+            place = placeOfThread();
+        }
+        Object[] at = place;
+        Object around = at[0];
+        caller = request;
+        called = number;
+        calledStage = stage;
+        at[0] = this;
+        try {
+            return ContextFunction.call(form, function, first, second);
+        } finally {
+            at[0] = around;
+        }
+    }
+
+    private static Object[] placeOfThread() {
+        Object[] place = CALLING.get();
+        if (place == null) {
+            place = new Object[1];
+            CALLING.set(place);
+        }
+        return place;
+    }
+
+    /** Whether the stage is settled whose function this thread calls. */
+    static boolean isStopping() {
+        Object[] place = CALLING.get();
+        FollowUps it = place == null ? null : (FollowUps) place[0];
+        return it != null && (it.calledStage != null ? it.calledStage.readOutcome() != null : it.caller.isSettled(it.called));
+    }
+
     // For a watch.
 
     @Override
@@ -156,7 +202,7 @@ final class FollowUps implements Watch.Turn {
         isSettled = calls.stage.outcome != null;
         result = thrown = null;
         try {
-            result = isSettled ? null : ContextFunction.call(calls.form, calls.function, calls.first, calls.secondArgument());
+            result = isSettled ? null : call(calls.request, calls.number, calls.stage, calls.form, calls.function, calls.first, calls.secondArgument());
         } catch (Throwable error) {
             if (watch.endsRun(error)) {
                 throw error;

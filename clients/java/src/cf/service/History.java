@@ -82,7 +82,8 @@ public final class History extends RequestHistory {
      * What happened as OpenTelemetry's spans: one for the request, and then within it one for each call of a function, in the order of their
      * stages, from its claim to its finish. Names and attributes are those of {@code cf_look trace --spans}. There are none if nothing happened. A
      * thread claims all functions at once that one event made ready, so the spans of the later ones have the waiting for the earlier ones in them.
-     * The request has failed if a stage has that no other one waits for; stages that functions attached aren't looked at for that.
+     * The request has failed if a stage has that no other one waits for; what functions attached, and what a scope has cancelled, isn't looked at for
+     * that.
      */
     public List<Span> spans() {
         return SpanReader.spansOf(this);
@@ -298,14 +299,15 @@ public final class History extends RequestHistory {
     }
 
     /**
-     * The words, with those as a relay's that settle one of this request, or a join, which the machine does as the clock. A relay stands right
-     * below a composing stage.
+     * The words, with those as a relay's that settle one of this request, a join, or what is of a scope, which the machine does as the clock. A relay
+     * stands right below a composing stage; and the clock cancels nothing.
      */
     private long[] relayWords() {
         Form[] forms = allForms();
         return Arrays.stream(words).map(word -> {
             int stage = Words.stage(word), above = stage + 1;
-            boolean isRelays = Words.caller(word) == Request.CLOCK && (joins.get(stage) || above < stages && forms[above].composes);
+            boolean isRelays = Words.caller(word) == Request.CLOCK
+                    && (Words.kind(word) == Words.CANCEL || joins.get(stage) || above < stages && forms[above].composes);
             return isRelays ? Words.withCaller(Request.RELAY, word) : word;
         }).toArray();
     }

@@ -436,9 +436,9 @@ final class Machine {
         accept(link(core().address, waitingWords, 0, relay, stage, NOBODY));
     }
 
-    /** Lets a stage end once so many of these have values, or too few can have them still. */
-    void join(int stage, int wanted, short[] of, int who) {
-        accept(join(core().address, waitingWords, stage, wanted, of, who));
+    /** Lets a stage end by others. */
+    void join(int stage, Stage.Join join, int who) {
+        accept(join(core().address, waitingWords, stage, join.wanted, join.of, join.cancels, who));
     }
 
     void setDeadline(int stage, Stage.Limit limit) {
@@ -754,7 +754,7 @@ final class Machine {
 
     native int gather(long core, int waiting, int form, short[] sources, int who);
 
-    native int join(long core, int waiting, int stage, int wanted, short[] sources, int who);
+    native int join(long core, int waiting, int stage, int wanted, short[] sources, boolean cancels, int who);
 
     native int link(long core, int waiting, long word, int relay, int stage, int who);
 

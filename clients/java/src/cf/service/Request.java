@@ -9,9 +9,11 @@ import cf.internal.Watch;
 import cf.internal.Words;
 import cf.service.Faults.Fault;
 import cf.service.Waits.Alarm;
+import java.time.Duration;
 import java.util.ArrayList;
 import java.util.Arrays;
 import java.util.BitSet;
+import java.util.Collection;
 import java.util.Collections;
 import java.util.List;
 import java.util.Objects;
@@ -23,10 +25,11 @@ import java.util.concurrent.TimeUnit;
 import java.util.concurrent.atomic.AtomicInteger;
 import java.util.function.Supplier;
 import java.util.stream.Collectors;
+import java.util.stream.IntStream;
 
 /**
- * Stages that belong together, of which one history is kept. Its methods have the names of the static ones of {@link CompletableFuture}. Any thread
- * may use it; calls on one request wait for one another at its lock, under which no function, callback or executor is called.
+ * Stages that belong together, of which one history is kept. Any thread may use it; calls on one request wait for one another at its lock, under
+ * which no function, callback or executor is called.
  *
  * <p>It is in the memory of its process. It keeps its values, exceptions and history as long as it, or one of its stages, can be reached, so use one
  * for a thing that happens, and not for a cache. {@link #close} says what becomes of its memory outside the heap.
@@ -37,7 +40,7 @@ import java.util.stream.Collectors;
  *
  * <p>{@code Thread.stop}, which Java has up to version 19, may leave the request unusable that it strikes; others go on.
  */
-public final class Request implements AutoCloseable {
+public final class Request extends StageFactory implements AutoCloseable {
     /*
      * Overview.
      *
@@ -111,6 +114,13 @@ public final class Request implements AutoCloseable {
      * before that, so it comes after the one before it, and isn't delayed by these functions. Once no open stage has a
      * deadline, the clock forgets the request.
      *
+     * Scopes. A scope is a source, and a stage is put into it by a join that cancels, in the same hold of the lock as its attach, before
+     * anybody can claim it (`putIn`). So the machine alone ends what is in a scope. Stage.Extras has the scope, which stages that are attached
+     * behind inherit, and these joins with the others (`setJoin`).
+     *
+     * Interrupts. Where the service interrupts, a function that begins is a Running of its stage (`enterFunction`). Whoever settles the stage
+     * otherwise stops it once the lock is free.
+     *
      * Room. A request has at most 4,096 stages, and of a flow's, two edges are set aside for each stage that is attached.
      * `hasPlace` is asked under the lock, before anything is attached. Where there is none, the request throws, or hands the
      * call on to `next`, if it is continued there. The machine makes more room itself.
@@ -146,6 +156,7 @@ public final class Request implements AutoCloseable {
     private static final Link[] NO_LINKS = {};
     private static final Object[] NO_VALUES = {};
     private static final long[] NO_MOMENTS = {};
+    private static final int[] NO_NUMBERS = {};
 
     final Service service;
     /** The test that runs it, or null. */
@@ -160,6 +171,8 @@ public final class Request implements AutoCloseable {
     final Describe describe;
     /** The contexts of the place where it was opened, or null. */
     private final Executor context;
+    /** The scope of all stages, which ends at the request's limit, or null. */
+    private Scope whole;
 
     /** The open stages; of a flow, those that were asked for. */
     private Stage<?>[] stages;
@@ -251,6 +264,23 @@ public final class Request implements AutoCloseable {
         return stage;
     }
 
+    @Override
+    public Request request() {
+        return this;
+    }
+
+    @Override
+    Scope within() {
+        return whole;
+    }
+
+    /** From now on all stages are of a scope that ends then. */
+    Request limited(Duration limit) {
+        whole = new Scope(this, null).named("limit");
+        whole.setLimit(limit);
+        return this;
+    }
+
     /** The task that an executor gets. */
     private static final class StageTask implements Runnable, CompletableFuture.AsynchronousCompletionTask, Watch.ReadyStage {
         private final Stage<?> stage;
@@ -278,31 +308,6 @@ public final class Request implements AutoCloseable {
     // Stages.
 
     /**
-     * Attaches a stage whose function the service's executor calls.
-     *
-     * @throws RequestFullException there is no room for the stage; so do all methods that attach one
-     * @throws java.util.concurrent.RejectedExecutionException the executor refuses
-     */
-    public <U> Stage<U> supplyAsync(Supplier<U> supplier) {
-        return supplyAsync(supplier, service.executor());
-    }
-
-    /** Attaches a stage whose function this executor calls. */
-    public <U> Stage<U> supplyAsync(Supplier<U> supplier, Executor executor) {
-        return attachStarted(Form.SUPPLY, Objects.requireNonNull(supplier), Objects.requireNonNull(executor));
-    }
-
-    /** Attaches a stage without a value, whose function the service's executor calls. */
-    public Stage<Void> runAsync(Runnable runnable) {
-        return runAsync(runnable, service.executor());
-    }
-
-    /** Attaches a stage without a value, whose function this executor calls. */
-    public Stage<Void> runAsync(Runnable runnable, Executor executor) {
-        return attachStarted(Form.RUN_ASYNC, Objects.requireNonNull(runnable), Objects.requireNonNull(executor));
-    }
-
-    /**
      * An executor that hands each task to the service's executor after a time: for a later start, or a pause before a further try.
      *
      * <pre>{@code stage.exceptionallyCompose(error -> request.supplyAsync(ask, request.delayedExecutor(1, TimeUnit.SECONDS)))}</pre>
@@ -317,113 +322,8 @@ public final class Request implements AutoCloseable {
                 : act -> watch.runLater(unit.toNanos(delay), () -> execute(executor, act));
     }
 
-    /** Attaches a stage without a function, which somebody settles: it stands for {@code new CompletableFuture<>()}. */
-    public <U> Stage<U> promise() {
-        return attach(Form.SOURCE, null, null, null, null, false);
-    }
-
-    /** Attaches a stage that is completed with this value. */
-    public <U> Stage<U> completedFuture(U value) {
-        return completeNew(this.<U>promise(), value);
-    }
-
-    /** Attaches a stage that has failed with this exception. */
-    public <U> Stage<U> failedFuture(Throwable error) {
-        Objects.requireNonNull(error);
-        return failNew(this.<U>promise(), error);
-    }
-
-    /** Attaches a stage that is completed with this value, and that has the methods of {@link CompletionStage} alone. */
-    public <U> CompletionStage<U> completedStage(U value) {
-        return completeNew(this.<U>attachMinimal(), value);
-    }
-
-    /** Attaches a stage that has failed with this exception, and that has the methods of {@link CompletionStage} alone. */
-    public <U> CompletionStage<U> failedStage(Throwable error) {
-        Objects.requireNonNull(error);
-        return failNew(this.<U>attachMinimal(), error);
-    }
-
-    private <U> Stage<U> attachMinimal() {
-        return attach(Form.SOURCE, null, null, null, null, true);
-    }
-
-    private static <U> Stage<U> completeNew(Stage<U> stage, U value) {
-        stage.request.complete(stage.number, value);
-        return stage;
-    }
-
-    private static <U> Stage<U> failNew(Stage<U> stage, Throwable error) {
-        stage.request.fail(stage.number, error);
-        return stage;
-    }
-
-    /**
-     * As {@link CompletableFuture#allOf}: it waits until all are settled, even if one has failed. If several have, it fails with the exception of the
-     * first one in the order of the arguments. Of n stages it takes n - 1 of this request, attached in one call; of stages of other requests also a
-     * relay each.
-     */
-    public Stage<Void> allOf(CompletionStage<?>... of) {
-        return gather(Form.ALL_OF, of);
-    }
-
-    /**
-     * As {@link CompletableFuture#anyOf}: it ends as the first that is settled, be it by an exception. If several are settled by one event, it takes
-     * the first argument. Of n stages it takes n - 1 of this request, attached in one call; of stages of other requests also a relay each.
-     */
-    public Stage<Object> anyOf(CompletionStage<?>... of) {
-        return gather(Form.ANY_OF, of);
-    }
-
-    /**
-     * Waits for the first of these that succeeds; the others go on. Of stages of this request it takes two, of others also a relay each.
-     *
-     * <pre>{@code Stage<String> quote = request.first(request.supplyAsync(here), request.supplyAsync(there));}</pre>
-     *
-     * @return a stage with the value that is there first. Once all have failed, it fails with the exception of the last, which has those of the
-     *         others as suppressed ones
-     * @throws IllegalArgumentException there is no stage
-     */
-    @SafeVarargs
-    @SuppressWarnings({"unchecked", "varargs"})
-    public final <U> Stage<U> first(CompletionStage<? extends U>... of) {
-        Joined join = attachJoin(1, of.clone());
-        return ((Stage<U>) join.stage).whenComplete((value, error) -> join.addFailuresTo(error)).named("first");
-    }
-
-    /**
-     * Waits for all of these to succeed, and fails as soon as one does; the others go on. Of stages of this request it takes two, of others also a
-     * relay each.
-     *
-     * @return a stage with the values, in this order; or it fails with the exception that comes first
-     */
-    @SafeVarargs
-    @SuppressWarnings("varargs")
-    public final <U> Stage<List<U>> all(CompletionStage<? extends U>... of) {
-        if (of.length == 0) {
-            return allOf().thenApply(none -> Collections.emptyList());
-        }
-        Joined join = attachJoin(of.length, of.clone());
-        return join.stage.thenApply(none -> join.<U>values()).named("all");
-    }
-
-    /**
-     * Waits until so many of these have succeeded; the others go on. A stage that is given twice counts twice. Of stages of this request it takes
-     * two, of others also a relay each.
-     *
-     * @return a stage with the values that are there then, as many as are wanted at least, in this order. Once too many have failed, it fails with the
-     *         exception of the last
-     * @throws IllegalArgumentException none is wanted, or more than there are
-     */
-    @SafeVarargs
-    @SuppressWarnings("varargs")
-    public final <U> Stage<List<U>> quorum(int wanted, CompletionStage<? extends U>... of) {
-        Joined join = attachJoin(wanted, of.clone());
-        return join.stage.thenApply(none -> join.<U>values()).named("quorum");
-    }
-
     /** A stage that ends by others. */
-    private static final class Joined {
+    static final class Joined {
         final Stage<?> stage;
         private final Stage<?>[] of;
 
@@ -447,45 +347,44 @@ public final class Request implements AutoCloseable {
 
         /** Gives the exception of the one that failed last, if they have failed, those of the others. */
         void addFailuresTo(Throwable last) {
-            for (Stage<?> each : last == null ? NO_STAGES : of) {
+            if (last == null) {
+                return;
+            }
+            List<Throwable> others = new ArrayList<>();
+            for (Stage<?> each : of) {
                 Object told = each.readOutcome();
-                Throwable error = told instanceof Fault ? ((Fault) told).rawError() : null;
-                if (error != null && error != last && !Arrays.asList(last.getSuppressed()).contains(error)) {
-                    last.addSuppressed(error);
+                if (told instanceof Fault) {
+                    others.add(((Fault) told).rawError());
                 }
+            }
+            addSuppressed(last, others);
+        }
+    }
+
+    /** Gives an exception those others that it hasn't. */
+    static void addSuppressed(Throwable last, Collection<Throwable> others) {
+        for (Throwable error : others) {
+            if (error != last && !Arrays.asList(last.getSuppressed()).contains(error)) {
+                last.addSuppressed(error);
             }
         }
     }
 
-    /**
-     * Attaches a relay: a stage of this request that ends as that stage does, be it of another request, another future, or any other
-     * {@link CompletionStage}. A stage of this request is given back itself. Methods that take a second stage, or whose function gives one, make a
-     * relay by themselves.
-     *
-     * <p>The other stage holds the relay, and so keeps this request reachable, until the relay ends: cancel it if the other stage lives on. A
-     * relay that a method made is let go when the stage ends that needs it. If the relay is cancelled or times out, the other stage goes on; if the
-     * other stage times out, so does the relay. A stage that is no {@code CompletableFuture} is asked by its {@code whenComplete}, and keeps a small
-     * callback.
-     *
-     * <p>A stage behind one that timed out ends with a {@code CompletionException} around the {@code TimeoutException}. Its relay is told as timed
-     * out in the history, if it was made for a stage that wraps each exception, as one of {@code thenCombine} or {@code thenCompose}; a relay of this
-     * method is told as failed, with that {@code CompletionException}. If somebody failed the other stage with a {@code TimeoutException} by hand,
-     * the relay has failed with that.
-     */
     @SuppressWarnings("unchecked")
-    public <U> Stage<U> adopt(CompletionStage<U> of) {
-        if (!isForeign(Objects.requireNonNull(of))) {
+    <U> Stage<U> attachAdopted(Scope scope, CompletionStage<U> of) {
+        if (!isForeign(of)) {
             return (Stage<U>) of;
         }
         Link[] link = new Link[1];
-        Stage<U> relay = attachRelay(of, link, 0, false);
+        Stage<U> relay = attachRelay(scope, of, link, 0, false);
         link[0].removeOnceSettled(relay);
         return relay;
     }
 
+
     /** A relay, and its link in this place of a row; see {@link Link#wraps}. */
-    private <U> Stage<U> attachRelay(CompletionStage<U> of, Link[] links, int at, boolean wraps) {
-        Stage<U> relay = promise();
+    private <U> Stage<U> attachRelay(Scope scope, CompletionStage<U> of, Link[] links, int at, boolean wraps) {
+        Stage<U> relay = attach(scope, Form.SOURCE, null, null, null, null, false);
         relay.request.setName(relay.number, "relay");
         links[at] = new Link(relay, null, wraps);
         if (watch != null) {
@@ -606,6 +505,9 @@ public final class Request implements AutoCloseable {
      */
     @Override
     public void close() {
+        if (whole != null) {
+            endIfIdle(whole);
+        }
         if (service.tellsEnds()) {
             tellEndOnceSettled();
         }
@@ -613,6 +515,18 @@ public final class Request implements AutoCloseable {
             isClosed = unwritten > 0;
             machine.giveBackCore(isClosed ? this::restoreUnwritten : null);
         }
+    }
+
+    /** Ends a scope whose stages are all settled, so that its limit needn't come. */
+    private void endIfIdle(Scope scope) {
+        FollowUps followUps = new FollowUps(watch);
+        synchronized (lock()) {
+            if (scope.stage.outcome == null && openStages(scope).isEmpty()) {
+                int who = callerNumber();
+                applyWord(Words.complete(who, scope.stage.number, Words.NIL), who, followUps);
+            }
+        }
+        tell(followUps);
     }
 
     /** The stage of a request of one stage is settled: that is its end, unless there are more stages by now. */
@@ -631,8 +545,8 @@ public final class Request implements AutoCloseable {
         synchronized (lock()) {
             machine.flush();
             for (int k = 0; k < machine.stages() && !isEndTold; k++) {
-                // A relay that the stage above it doesn't need stays open for good.
-                if (isOpen(k) && !sources().isRelay(k)) {
+                // A relay that the stage above it doesn't need stays open for good, and a scope until somebody ends it.
+                if (isOpen(k) && !sources().isRelay(k) && !stageAt(k).isAside()) {
                     open.add(stageAt(k));
                 }
             }
@@ -653,6 +567,13 @@ public final class Request implements AutoCloseable {
             return number < stages.length && stages[number] != null;
         }
         return !machine.isOver() && !machine.isSettled(number);
+    }
+
+    /** Whether a stage of the flow is settled. */
+    boolean isSettled(int number) {
+        synchronized (lock()) {
+            return machine.isOver() || machine.isSettled(number);
+        }
     }
 
     /** The same, also of a stage that only the machine knows, as many of those that wait for all. The lock is held. */
@@ -720,20 +641,21 @@ public final class Request implements AutoCloseable {
     // Attaching.
 
     /** A stage without sources. Its word waits for the claim by the executor's thread. */
-    private <U> Stage<U> attachStarted(Form form, Object function, Executor executor) {
-        if (next != null) {
-            return lastRequest().attachStarted(form, function, executor);
+    <U> Stage<U> attachStarted(Scope scope, Form form, Object function, Executor executor) {
+        if (next != null && scope == null) {
+            return lastRequest().attachStarted(null, form, function, executor);
         }
         checkDepth();
         Object carried = service.withContext(function);
         Stage<U> stage = null;
         synchronized (lock()) {
+            requireOpen(scope);
             if (machine.hasPlace(1)) {
-                stage = attachHere(form, null, null, carried, executor, false, null);
+                stage = attachHere(scope, form, null, null, carried, executor, false, null);
             }
         }
         if (stage == null) {
-            return openFurther().attachStarted(form, carried, executor);
+            return openFurther(scope).attachStarted(null, form, carried, executor);
         }
         handStarted(stage);
         return stage;
@@ -761,22 +683,22 @@ public final class Request implements AutoCloseable {
     }
 
     /** A stage that waits for all of those, or for one of them, which are of any request. */
-    private <U> Stage<U> gather(Form form, CompletionStage<?>[] of) {
+    <U> Stage<U> gather(Scope scope, Form form, CompletionStage<?>[] of) {
         for (CompletionStage<?> each : of) {
             Objects.requireNonNull(each);
         }
-        return attachGathering(form, of.clone());
+        return attachGathering(scope, form, of.clone());
     }
 
     /** Of up to two it is one stage; of more as many as the machine needs, in one call. */
-    private <U> Stage<U> attachGathering(Form form, CompletionStage<?>[] of) {
+    private <U> Stage<U> attachGathering(Scope scope, Form form, CompletionStage<?>[] of) {
         if (of.length < 3) {
-            return attach(form, of.length > 0 ? of[0] : null, of.length > 1 ? of[1] : null, null, null, false);
+            return attach(scope, form, of.length > 0 ? of[0] : null, of.length > 1 ? of[1] : null, null, null, false);
         }
-        if (next != null) {
-            return lastRequest().attachGathering(form, of);
+        if (next != null && scope == null) {
+            return lastRequest().attachGathering(null, form, of);
         }
-        if (isContinued && of.length > MOST_GATHERED) {
+        if (isContinued && of.length > MOST_GATHERED && scope == null) {
             return gatherInParts(form, of);
         }
         checkDepth();
@@ -785,16 +707,17 @@ public final class Request implements AutoCloseable {
         Link[] links = new Link[countForeign(of)];
         if (hasPlace(of.length - 1 + links.length)) {
             Stage<?>[] row = new Stage<?>[of.length];
-            boolean isWhole = adoptAll(of, row, links);
+            boolean isWhole = adoptAll(scope, of, row, links);
             synchronized (lock()) {
+                requireOpen(scope);
                 if (isWhole && machine.hasPlace(of.length - 1)) {
-                    root = attachGathered(form, row, followUps);
+                    root = attachGathered(scope, form, row, followUps);
                 }
             }
         }
         removeOnceSettled(links, root);
         if (root == null) {
-            return openFurther().attachGathering(form, of);
+            return openFurther(scope).attachGathering(null, form, of);
         }
         tell(followUps);
         return root;
@@ -809,22 +732,22 @@ public final class Request implements AutoCloseable {
     }
 
     /** Fills a row with those that are stages of this request, and relays of the others, which nobody needs once what they are made for is settled. */
-    private boolean adoptAll(CompletionStage<?>[] of, Stage<?>[] row, Link[] links) {
+    private boolean adoptAll(Scope scope, CompletionStage<?>[] of, Stage<?>[] row, Link[] links) {
         boolean isWhole = true;
         for (int k = 0, made = 0; k < row.length; k++) {
-            row[k] = isForeign(of[k]) ? attachRelay(of[k], links, made++, true) : (Stage<?>) of[k];
+            row[k] = isForeign(of[k]) ? attachRelay(scope, of[k], links, made++, true) : (Stage<?>) of[k];
             isWhole &= row[k].request == this;
         }
         return isWhole;
     }
 
     /** A stage that ends once so many of those, which are of any request, have values, or too few can have them still. */
-    private Joined attachJoin(int wanted, CompletionStage<?>[] of) {
+    Joined attachJoin(Scope scope, int wanted, CompletionStage<?>[] of) {
         if (wanted < 1 || wanted > of.length) {
             throw new IllegalArgumentException(wanted + " of " + of.length + " stages can't be wanted");
         }
-        if (next != null) {
-            return lastRequest().attachJoin(wanted, of);
+        if (next != null && scope == null) {
+            return lastRequest().attachJoin(null, wanted, of);
         }
         checkDepth();
         Stage<?> join = null;
@@ -832,40 +755,122 @@ public final class Request implements AutoCloseable {
         Link[] links = new Link[countForeign(of)];
         Stage<?>[] row = new Stage<?>[of.length];
         if (of.length <= Machine.MOST_STAGES && hasPlace(1 + links.length)) {
-            boolean isWhole = adoptAll(of, row, links);
+            boolean isWhole = adoptAll(scope, of, row, links);
             synchronized (lock()) {
+                requireOpen(scope);
                 if (isWhole && machine.hasPlace(1)) {
-                    join = attachJoined(wanted, row, followUps);
+                    join = attachJoined(scope, wanted, row, followUps);
                 }
             }
         }
         removeOnceSettled(links, join);
         if (join == null) {
-            return openFurther().attachJoin(wanted, of);
+            return openFurther(scope).attachJoin(null, wanted, of);
         }
         tell(followUps);
         return new Joined(join, row);
     }
 
-    private Stage<?> attachJoined(int wanted, Stage<?>[] of, FollowUps followUps) {
+    private Stage<?> attachJoined(Scope scope, int wanted, Stage<?>[] of, FollowUps followUps) {
         int who = callerNumber();
-        Stage<?> join = attachHere(Form.SOURCE, null, null, null, null, false, null);
-        short[] numbers = numbersOf(of);
+        Stage<?> join = attachHere(scope, Form.SOURCE, null, null, null, null, false, null);
         setName(join.number, wanted + " of " + of.length);
-        machine.join(join.number, wanted, numbers, who);
-        join.extras().joined = numbers;
-        join.extras().wanted = wanted;
-        countUnwritten(join); // Also where the machine has just settled it, which is yet to be told.
+        setJoin(join, new Stage.Join(wanted, numbersOf(of), false), who);
         joins = joins == null ? new BitSet() : joins;
         joins.set(join.number);
         for (Stage<?> each : of) {
             each.dependents++;
-            if (watch != null) {
-                watch.stageFollows(this, join.number, each.number);
-            }
         }
         publish(followUps, who);
         return join;
+    }
+
+    /** Sets a join of this stage, which the caller publishes. The lock is held. */
+    private void setJoin(Stage<?> stage, Stage.Join join, int who) {
+        machine.join(stage.number, join, who);
+        Stage.Extras more = stage.extras();
+        more.joins = more.joins != null ? more.joins : new ArrayList<>(1);
+        more.joins.add(join);
+        countUnwritten(stage); // Also where the machine has just settled it, which is yet to be told.
+        for (int k = 0; watch != null && k < join.of.length; k++) {
+            watch.stageFollows(this, stage.number, join.of[k]);
+        }
+    }
+
+    // Scopes.
+
+    /** Attaches a source that stands for a scope, within this one if there is one. */
+    Stage<Void> attachScope(Scope outer) {
+        if (next != null && outer == null) {
+            return lastRequest().attachScope(null);
+        }
+        checkDepth();
+        Stage<Void> stage = null;
+        synchronized (lock()) {
+            requireOpen(outer);
+            if (machine.hasPlace(1)) {
+                stage = attachHere(outer, Form.SOURCE, null, null, null, null, false, null);
+                stage.extras().isAside = true;
+            }
+        }
+        if (stage == null) {
+            return openFurther(outer).attachScope(null);
+        }
+        if (watch != null) {
+            watch.eventTold();
+        }
+        return stage.named("scope");
+    }
+
+    /** Throws where nothing can be attached in a scope any more. The lock is held. */
+    private void requireOpen(Scope scope) {
+        if (scope != null && scope.stage.outcome != null) {
+            if (watch != null) {
+                watch.settlingTried(this, scope.stage.number, false);
+            }
+            throw new ScopeEndedException(name, scope.name());
+        }
+    }
+
+    /** Puts a stage, and the relay that it may have, into an open scope, and claims what is ready then, unless it can't be. The lock is held. */
+    private void putIn(Scope scope, Stage<?> relay, Stage<?> stage, int who, FollowUps followUps) {
+        stage.extras().scope = scope;
+        if (stage.outcome == null) {
+            setJoin(stage, new Stage.Join(1, new short[] {scope.stage.number}, true), relay == null && followUps != null ? who : Machine.NOBODY);
+        }
+        if (relay != null) { // It comes second: where the scope ends, the stage is cancelled itself, and not since its relay is.
+            relay.extras().isAside = true;
+            putIn(scope, null, relay, who, followUps);
+        } else if (followUps != null && stage.outcome == null) {
+            publish(followUps, who);
+        }
+    }
+
+    /** Lets a scope end with a stage of this request. */
+    void endWith(Scope scope, Stage<?> stage) {
+        checkDepth();
+        FollowUps followUps = new FollowUps(watch);
+        synchronized (lock()) {
+            if (scope.stage.outcome == null) {
+                int who = callerNumber();
+                setJoin(scope.stage, new Stage.Join(1, new short[] {stage.number}, true), who);
+                publish(followUps, who);
+            } else if (watch != null) {
+                watch.settlingTried(this, scope.stage.number, false);
+            }
+        }
+        tell(followUps);
+    }
+
+    /** The open stages of a scope and of those within it. The lock is held. */
+    List<Stage<?>> openStages(Scope scope) {
+        List<Stage<?>> open = new ArrayList<>();
+        for (Stage<?> stage : stages) {
+            if (stage != null && !stage.isAside() && scope.holds(stage)) {
+                open.add(stage);
+            }
+        }
+        return open;
     }
 
     private static short[] numbersOf(Stage<?>[] of) {
@@ -880,9 +885,9 @@ public final class Request implements AutoCloseable {
     private <U> Stage<U> gatherInParts(Form form, CompletionStage<?>[] of) {
         Stage<?>[] parts = new Stage<?>[(of.length - 1) / MOST_GATHERED + 1];
         for (int k = 0, from = 0; k < parts.length; k++, from += MOST_GATHERED) {
-            parts[k] = attachGathering(form, Arrays.copyOfRange(of, from, Math.min(of.length, from + MOST_GATHERED)));
+            parts[k] = attachGathering(null, form, Arrays.copyOfRange(of, from, Math.min(of.length, from + MOST_GATHERED)));
         }
-        Stage<U> root = attachGathering(form, parts);
+        Stage<U> root = attachGathering(null, form, parts);
         for (Stage<?> part : parts) {
             // Nobody needs a part then, and the relays of one that ends are let go.
             root.observe(() -> {
@@ -894,12 +899,12 @@ public final class Request implements AutoCloseable {
         return root;
     }
 
-    /** Attaches one stage less than there are sources, and gives the last one. The others have an object only for a watch or a recording. */
-    private <U> Stage<U> attachGathered(Form form, Stage<?>[] of, FollowUps followUps) {
+    /** Attaches one stage less than there are sources, and gives the last one. The others have an object only for a scope, a watch or a recording. */
+    private <U> Stage<U> attachGathered(Scope scope, Form form, Stage<?>[] of, FollowUps followUps) {
         int who = callerNumber(), first = machine.stages(), count = of.length - 1;
         short[] numbers = numbersOf(of);
         Stage<?>[] made = new Stage<?>[count];
-        for (int k = watch != null || Recorder.hasStages() ? 0 : count - 1; k < count; k++) {
+        for (int k = scope != null || watch != null || Recorder.hasStages() ? 0 : count - 1; k < count; k++) {
             made[k] = new Stage<>(this, first + k, form, null, null);
         }
         growStages(first + count);
@@ -912,6 +917,9 @@ public final class Request implements AutoCloseable {
             noteAttached(made[k], k == 0 ? of[0] : made[k - 1], of[k + 1]);
         }
         publish(followUps, who);
+        for (int k = 0; scope != null && k < count; k++) {
+            putIn(scope, null, made[k], who, followUps);
+        }
         @SuppressWarnings("unchecked")
         Stage<U> root = (Stage<U>) made[count - 1];
         return root;
@@ -929,9 +937,10 @@ public final class Request implements AutoCloseable {
     }
 
     /** Attaches a stage behind those, which are of any request. What it takes of them, it takes at once. */
-    <U> Stage<U> attach(Form form, CompletionStage<?> first, CompletionStage<?> second, Object function, Executor executor, boolean minimal) {
-        if (next != null) {
-            return lastRequest().attach(form, first, second, function, executor, minimal);
+    <U> Stage<U> attach(Scope scope, Form form, CompletionStage<?> first, CompletionStage<?> second, Object function, Executor executor,
+            boolean minimal) {
+        if (next != null && scope == null) {
+            return lastRequest().attach(null, form, first, second, function, executor, minimal);
         }
         int foreign = (isForeign(first) ? 1 : 0) + (isForeign(second) ? 1 : 0);
         if (foreign > 0) {
@@ -942,23 +951,24 @@ public final class Request implements AutoCloseable {
         FollowUps followUps = null;
         Link[] links = foreign == 0 ? NO_LINKS : new Link[2];
         if (foreign == 0 || hasPlace(1 + foreign + (form.composes ? 1 : 0))) {
-            Stage<?> a = stageOrRelay(form, first, links, 0), b = stageOrRelay(form, second, links, 1);
+            Stage<?> a = stageOrRelay(scope, form, first, links, 0), b = stageOrRelay(scope, form, second, links, 1);
             // What went to a further request is of no use here.
             if ((a == null || a.request == this) && (b == null || b.request == this)) {
                 synchronized (lock()) {
+                    requireOpen(scope);
                     if (machine.hasPlace(form.composes ? 2 : 1)) {
                         if (!mayWait(form, a, b)) {
                             checkDepth();
                             followUps = new FollowUps(watch);
                         }
-                        stage = attachHere(form, a, b, carried, executor, minimal, followUps);
+                        stage = attachHere(scope, form, a, b, carried, executor, minimal, followUps);
                     }
                 }
             }
         }
         removeOnceSettled(links, stage);
         if (stage == null) {
-            return openFurther().attach(form, first, second, carried, executor, minimal);
+            return openFurther(scope).attach(null, form, first, second, carried, executor, minimal);
         }
         if (followUps != null) {
             tell(followUps);
@@ -969,8 +979,8 @@ public final class Request implements AutoCloseable {
     }
 
     /** That stage, or a relay of it for a stage of this form, whose link is in this place then. */
-    private Stage<?> stageOrRelay(Form form, CompletionStage<?> of, Link[] links, int at) {
-        return isForeign(of) ? attachRelay(of, links, at, !form.handles) : (Stage<?>) of;
+    private Stage<?> stageOrRelay(Scope scope, Form form, CompletionStage<?> of, Link[] links, int at) {
+        return isForeign(of) ? attachRelay(scope, of, links, at, !form.handles) : (Stage<?>) of;
     }
 
     private boolean isForeign(CompletionStage<?> of) {
@@ -997,9 +1007,10 @@ public final class Request implements AutoCloseable {
         return at;
     }
 
-    private Request openFurther() {
+    /** The request to which stages of no scope go where there is no place here: a scope stays in one request. */
+    private Request openFurther(Scope scope) {
         synchronized (lock()) {
-            if (!isContinued) {
+            if (!isContinued || scope != null) {
                 throw new RequestFullException(new Full(name));
             }
             if (next == null) {
@@ -1009,10 +1020,12 @@ public final class Request implements AutoCloseable {
         }
     }
 
-    private <U> Stage<U> attachHere(Form form, Stage<?> a, Stage<?> b, Object function, Executor executor, boolean minimal, FollowUps followUps) {
+    private <U> Stage<U> attachHere(Scope scope, Form form, Stage<?> a, Stage<?> b, Object function, Executor executor, boolean minimal,
+            FollowUps followUps) {
         int who = callerNumber();
+        Stage<?> relay = null;
         if (form.composes) {
-            Stage<?> relay = new Stage<>(this, machine.stages(), Form.SOURCE, null, null);
+            relay = new Stage<>(this, machine.stages(), Form.SOURCE, null, null);
             putStage(relay);
             reserve(who);
             if (watch != null) {
@@ -1029,7 +1042,7 @@ public final class Request implements AutoCloseable {
         if (followUps == null) {
             machine.attachLater(word, lane);
         } else {
-            machine.attach(word, lane, who);
+            machine.attach(word, lane, scope == null ? who : Machine.NOBODY); // In a scope it can be claimed once it has been put in.
         }
         if (a != null) {
             a.dependents++;
@@ -1041,7 +1054,10 @@ public final class Request implements AutoCloseable {
             noteAttached(stage, a, b);
         }
         if (followUps != null) {
-            publish(followUps, who);
+            publish(followUps, scope == null ? who : Machine.NOBODY);
+        }
+        if (scope != null) {
+            putIn(scope, relay, stage, who, followUps);
         }
         return stage;
     }
@@ -1084,7 +1100,7 @@ public final class Request implements AutoCloseable {
     }
 
     Request nextOrFurther() {
-        return next != null ? next : openFurther();
+        return next != null ? next : openFurther(null);
     }
 
     /** The stage of a number, which is made now where it is a flow's. */
@@ -1136,7 +1152,8 @@ public final class Request implements AutoCloseable {
 
     /**
      * Cancels all stages that aren't settled, the last one first, so no function behind them is called. A function that runs goes on; its answer
-     * comes too late. Stages can still be attached. It takes one event for each such stage; stages of {@link #next} aren't cancelled.
+     * comes too late. All scopes end. Stages can still be attached to the request. It takes one event for each such stage; stages of {@link #next}
+     * aren't cancelled.
      */
     public void cancelAll() {
         checkDepth();
@@ -1176,7 +1193,7 @@ public final class Request implements AutoCloseable {
 
     /** Cancels what is open, but what stands behind this stage and what that needs. The lock is held. */
     private void cancelRest(Stage<?> stage, int who, FollowUps followUps) {
-        cancelAllBut(sources().needed(stage.number, this::isPending, this::followedStages), who, followUps);
+        cancelAllBut(sources().needed(stage.number, this::isPending, this::followedStages, this::holdingStages), who, followUps);
     }
 
     /** Cancels what is open but these, the last stage first. The lock is held. */
@@ -1185,7 +1202,7 @@ public final class Request implements AutoCloseable {
             watch.historyRead(this);
         }
         for (int k = machine.stages() - 1; k >= 0; k--) {
-            if (isOpen(k) && !but.get(k)) {
+            if (isOpen(k) && !but.get(k) && (whole == null || whole.stage.number != k)) {
                 applyWord(Words.cancel(who, k), who, followUps);
             }
         }
@@ -1291,8 +1308,8 @@ public final class Request implements AutoCloseable {
                 if (stage.extras.followedStage >= 0) {
                     machine.follow(stage.number, stage.extras.followedStage);
                 }
-                if (stage.extras.joined != null) {
-                    machine.join(stage.number, stage.extras.wanted, stage.extras.joined, Machine.NOBODY);
+                if (stage.extras.joins != null) {
+                    stage.extras.joins.forEach(join -> machine.join(stage.number, join, Machine.NOBODY));
                 }
             }
         }
@@ -1514,6 +1531,10 @@ public final class Request implements AutoCloseable {
             if (stage.hasUnwritten()) {
                 unwritten -= stage.extras.unwritten;
                 stage.extras.limits = null;
+                stage.extras.joins = null;
+            }
+            if (told instanceof Fault && stage.scope() != null && !stage.hasJavaDependents()) {
+                stage.scope().addFailed(stage, (Fault) told);
             }
             stage.setOutcome(told);
             followUps.addSettled(stage);
@@ -1540,13 +1561,20 @@ public final class Request implements AutoCloseable {
 
     /** The stages of this request that a relay follows, or that a join waits for, while it is open. */
     private int[] followedStages(int number) {
+        int followed = followedStage(number);
+        return followed >= 0 ? new int[] {followed} : joinedStages(number, false);
+    }
+
+    /** The stages with which an open one is cancelled. */
+    private int[] holdingStages(int number) {
+        return joinedStages(number, true);
+    }
+
+    private int[] joinedStages(int number, boolean cancels) {
         Stage<?> stage = number < stages.length ? stages[number] : null;
-        short[] joined = stage == null || stage.extras == null ? null : stage.extras.joined;
-        int[] some = new int[joined != null ? joined.length : followedStage(number) >= 0 ? 1 : 0];
-        for (int k = 0; k < some.length; k++) {
-            some[k] = joined != null ? joined[k] : followedStage(number);
-        }
-        return some;
+        List<Stage.Join> joins = stage == null || stage.extras == null ? null : stage.extras.joins;
+        return joins == null ? NO_NUMBERS
+                : joins.stream().filter(join -> join.cancels == cancels).flatMapToInt(join -> IntStream.range(0, join.of.length).map(k -> join.of[k])).toArray();
     }
 
     /** The exception of a stage's failed source. It may have to be made: no lock is held. */
@@ -1661,6 +1689,10 @@ public final class Request implements AutoCloseable {
             if (stage.extras != null && stage.extras.outsideLinks != null) {
                 followUps.setRelayed(stage.request.takeOutsideLinks(stage), stage.outcome);
             }
+            Running running = stage.extras == null ? null : stage.extras.running;
+            if (running != null) {
+                running.stop();
+            }
             if (followUps.watch != null && stage.hasJavaDependents()) {
                 followUps.watch.callUserCode(stage::wakeWaiters);
             } else {
@@ -1724,18 +1756,36 @@ public final class Request implements AutoCloseable {
     /** Calls a function, unless its stage was settled since it was claimed, and finishes the stage in any case, so that no claim stays open. */
     private void callFunction(ClaimedCall call, FollowUps followUps) {
         int number = call.number;
-        boolean isSettled = call.stage != null && call.stage.outcome != null;
+        Stage<?> stage = call.stage;
+        boolean isSettled = stage != null && stage.outcome != null;
         Form form = call.form;
         Object function = call.function, first = call.first, second = null, given = null;
         Throwable thrown = null;
+        Running running = null;
         try {
             second = isSettled ? null : call.secondArgument();
             followUps.recycle(call);
-            given = isSettled ? null : ContextFunction.call(form, function, first, second);
+            if (service.interrupts() && !isSettled) {
+                running = enterFunction(number);
+                isSettled = running == null;
+            }
+            given = isSettled ? null : followUps.call(this, number, stage, form, function, first, second);
         } catch (Throwable error) {
             thrown = error;
         }
+        if (running != null) {
+            running.leave();
+        }
         finish(number, form, second, isSettled, given, thrown, followUps);
+    }
+
+    /** From now on whoever settles this stage interrupts this thread, until it leaves; null where the stage is settled. */
+    private Running enterFunction(int number) {
+        synchronized (lock()) {
+            boolean isKnown = number < stages.length && stages[number] != null;
+            Stage<?> stage = stageAt(number);
+            return stage == null || !isKnown && showIfSettled(stage) ? null : new Running(stage);
+        }
     }
 
     /** Finishes a stage with what its function has returned or thrown, or too late where it was settled before. */
@@ -1770,6 +1820,9 @@ public final class Request implements AutoCloseable {
     /** Links a stage to the stage that its function gave, or to the relay below it; the relay's link, where something outside settles it. */
     private Link link(int number, CompletionStage<?> to, int who) {
         Stage<?> own = to instanceof Stage<?> && ((Stage<?>) to).request == this ? (Stage<?>) to : null;
+        if (own != null) {
+            own.noteTaken();
+        }
         if (own != null && own.number < number) {
             machine.link(Words.finishLinking(who, number, own.number), -1, 0, who);
             noteFinishLinking(number, own.number);

@@ -3,6 +3,7 @@ package cf.service;
 import cf.internal.Ends;
 import cf.internal.Watch;
 import cf.internal.WatchedServices;
+import java.time.Duration;
 import java.util.Objects;
 import java.util.concurrent.CompletableFuture;
 import java.util.concurrent.Executor;
@@ -33,11 +34,13 @@ public final class Service {
     private final AtomicLong requests;
     /** Whether its requests go on in further ones. */
     private final boolean isContinued;
+    /** Whether functions are interrupted. */
+    private final boolean interrupts;
     /** The test that runs it, or null. */
     final Watch watch;
 
     static {
-        WatchedServices.setMaker((executor, watch) -> new Service(executor, Describe.ALL, null, null, null, new AtomicLong(), false, watch));
+        WatchedServices.setMaker((executor, watch) -> new Service(executor, Describe.ALL, null, null, null, new AtomicLong(), false, false, watch));
     }
 
     /** With the executor that {@link CompletableFuture} uses if none is given: the common pool, or a thread for each task if that has one thread. */
@@ -52,11 +55,11 @@ public final class Service {
      *        {@link java.util.concurrent.RejectedExecutionException}, and a stage that becomes ready later fails with that
      */
     public Service(Executor executor) {
-        this(Objects.requireNonNull(executor), Describe.ALL, null, null, null, new AtomicLong(), false, null);
+        this(Objects.requireNonNull(executor), Describe.ALL, null, null, null, new AtomicLong(), false, false, null);
     }
 
     private Service(Executor executor, Describe describe, Contexts contexts, Ends<History> ends, Meter meter, AtomicLong requests,
-            boolean goesOn, Watch watch) {
+            boolean goesOn, boolean interrupts, Watch watch) {
         this.executor = executor;
         this.describe = describe;
         this.contexts = contexts;
@@ -64,12 +67,13 @@ public final class Service {
         this.meter = meter;
         this.requests = requests;
         this.isContinued = goesOn;
+        this.interrupts = interrupts;
         this.watch = watch;
     }
 
     /** A service with the same executor, whose histories, texts and recordings show values and exceptions as this makes texts of them. */
     public Service withDescribe(Describe describe) {
-        return new Service(executor, Objects.requireNonNull(describe), contexts, ends, meter, requests, isContinued, watch);
+        return new Service(executor, Objects.requireNonNull(describe), contexts, ends, meter, requests, isContinued, interrupts, watch);
     }
 
     /**
@@ -77,7 +81,7 @@ public final class Service {
      * called within that of the place where its request was opened.
      */
     public Service withContexts(Contexts contexts) {
-        return new Service(executor, describe, Objects.requireNonNull(contexts), ends, meter, requests, isContinued, watch);
+        return new Service(executor, describe, Objects.requireNonNull(contexts), ends, meter, requests, isContinued, interrupts, watch);
     }
 
     /**
@@ -91,17 +95,26 @@ public final class Service {
      */
     public Service onEnd(Consumer<? super History> hook) {
         Ends<History> told = new Ends<>(Objects.requireNonNull(hook), "cf.service");
-        return new Service(executor, describe, contexts, told, meter, requests, isContinued, watch);
+        return new Service(executor, describe, contexts, told, meter, requests, isContinued, interrupts, watch);
     }
 
     /** A service with the same executor. The meter tells which of its requests are open, and counts what happened in those that are over. */
     public Service withMeter(Meter meter) {
-        return new Service(executor, describe, contexts, ends, Objects.requireNonNull(meter), requests, isContinued, watch);
+        return new Service(executor, describe, contexts, ends, Objects.requireNonNull(meter), requests, isContinued, interrupts, watch);
     }
 
     /** A service with the same executor, each of whose requests {@link Request#continueInNext continues in a next one} if it is full. */
     public Service withNextRequests() {
-        return new Service(executor, describe, contexts, ends, meter, requests, true, watch);
+        return new Service(executor, describe, contexts, ends, meter, requests, true, interrupts, watch);
+    }
+
+    /**
+     * A service with the same executor, which interrupts the thread of a function once its stage is settled otherwise, as by a cancellation, a limit or the
+     * end of a {@link Scope}. A thread that has gone on to another function isn't interrupted, and one that comes back to its executor isn't left
+     * interrupted. Each call of a function takes the request's lock once more.
+     */
+    public Service withInterrupts() {
+        return new Service(executor, describe, contexts, ends, meter, requests, isContinued, true, watch);
     }
 
     /**
@@ -116,6 +129,14 @@ public final class Service {
     /** Opens a request that tells its values and exceptions by this function. */
     public Request request(String name, Describe describe) {
         return continued(new Request(this, Objects.requireNonNull(name), null, ROOM, Objects.requireNonNull(describe)));
+    }
+
+    /**
+     * Opens a request whose stages are all of a scope that ends once this time has passed: what is open then is cancelled, and nothing can be attached
+     * any more. It takes one stage. Close the request once its stages are settled, so that the limit needn't come.
+     */
+    public Request request(String name, Duration limit) {
+        return request(name).limited(Objects.requireNonNull(limit));
     }
 
     /** Opens a request that is named by a number, as {@code request 17}. */
@@ -152,6 +173,10 @@ public final class Service {
         Objects.requireNonNull(unit);
         Objects.requireNonNull(executor);
         return act -> Clock.runAfter(delay, unit, () -> Request.execute(executor, act));
+    }
+
+    boolean interrupts() {
+        return interrupts;
     }
 
     Executor executor() {

@@ -12,6 +12,8 @@ import java.util.function.IntPredicate;
  * read that came since the last time. The request's lock guards it.
  */
 final class Sources {
+    private static final int[] NONE = {};
+
     private final Flow flow;
     private final Machine machine;
     /** Of each stage that was attached; behind a finish that links, of any stage, with the one that its function gave as the last. */
@@ -72,10 +74,10 @@ final class Sources {
     }
 
     /**
-     * The stages behind this one, and those that these still wait for. What a stage follows isn't in the words, as the relay of one that composes
-     * does, or a join: that is asked for.
+     * The stages behind this one, those that these still wait for, and the scopes that hold them. What a stage follows isn't in the words, as the
+     * relay of one that composes does, or a join, nor with which others it is cancelled: that is asked for.
      */
-    BitSet needed(int first, IntPredicate isOpen, IntFunction<int[]> follows) {
+    BitSet needed(int first, IntPredicate isOpen, IntFunction<int[]> follows, IntFunction<int[]> holds) {
         read();
         BitSet needed = new BitSet();
         needed.set(first);
@@ -87,8 +89,13 @@ final class Sources {
         }
         for (int before = 0; before < needed.cardinality();) {
             before = needed.cardinality();
-            for (int each : needed.stream().filter(k -> needsSources(k, isOpen)).flatMap(k -> Arrays.stream(awaitedStages(k, follows))).toArray()) {
-                needed.set(each);
+            for (int k : needed.stream().filter(isOpen).toArray()) {
+                for (int each : needsSources(k, isOpen) ? awaitedStages(k, follows) : NONE) {
+                    needed.set(each);
+                }
+                for (int each : holds.apply(k)) {
+                    needed.set(each);
+                }
             }
         }
         return needed;
@@ -102,8 +109,8 @@ final class Sources {
         return all;
     }
 
-    /** Whether a stage may need its sources: one that needs one alone doesn't once it has that. */
+    /** Whether an open stage may need its sources: one that needs one alone doesn't once it has that. */
     private boolean needsSources(int stage, IntPredicate isOpen) {
-        return isOpen.test(stage) && (!forms[stage].isEither || Arrays.stream(allSources(stage)).allMatch(isOpen));
+        return !forms[stage].isEither || Arrays.stream(allSources(stage)).allMatch(isOpen);
     }
 }

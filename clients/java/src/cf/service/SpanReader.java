@@ -5,6 +5,7 @@ import cf.internal.Layout;
 import cf.internal.Words;
 import java.util.ArrayList;
 import java.util.Arrays;
+import java.util.BitSet;
 import java.util.Collections;
 import java.util.LinkedHashMap;
 import java.util.List;
@@ -23,8 +24,10 @@ final class SpanReader {
     private final int[] claims, finishes;
     /** How many functions each caller has claimed and not finished. */
     private final int[] running = new int[Request.OTHER_THREADS + 1];
-    /** Stages for which another one waits, or that a function attached. */
+    /** Stages for which another one waits, that a function attached, or that a scope ended. */
     private final boolean[] inner;
+    /** Stages that the end of a scope has cancelled, and those that failed since they stand behind them. */
+    private final BitSet ended = new BitSet();
 
     SpanReader(History history) {
         this.history = history;
@@ -46,6 +49,11 @@ final class SpanReader {
         }
         for (int k = 0; k < history.events(); k++) {
             read(k, history.word(k));
+        }
+        for (int k = 0; k < of.length; k++) {
+            boolean isBehind = history.kind(k) == Layout.CANCELLED && Arrays.stream(of[k]).anyMatch(ended::get);
+            ended.set(k, ended.get(k) || isBehind);
+            inner[k] |= ended.get(k);
         }
     }
 
@@ -89,6 +97,9 @@ final class SpanReader {
             case Words.ATTACH:
                 inner[history.number(k)] |= running[who] > 0;
                 break;
+            case Words.CANCEL:
+                ended.set(stage, ended.get(stage) || who == Request.CLOCK);
+                break;
             case Words.CLAIM:
                 if (history.answer(k) == Layout.GRANTED) {
                     claims[stage] = k;
@@ -108,7 +119,7 @@ final class SpanReader {
         }
     }
 
-    /** The span of the request, which has failed where a stage has that nothing waits for. */
+    /** The span of the request, which has failed where a stage has that nothing waits for and no scope has cancelled. */
     private Span wholeSpan() {
         Span.Status status = Span.Status.OK;
         String message = "";

@@ -27,8 +27,10 @@ import java.util.function.Supplier;
  * <p>A function without {@code Async} is called by the thread that settles the stage's source, once all else is settled that follows from that
  * event; if several are ready, that of the lowest stage comes first. If the source is settled, the attaching call calls it. Behind a stage that timed
  * out it is called on a daemon thread named {@code cf-timeout}. A function whose stage is settled before its turn isn't called. No lock is held
- * while a function is called. A function that runs is never stopped: if its stage is settled meanwhile, its answer comes too late, and the history
- * says so.
+ * while a function is called. A function that runs goes on if its stage is settled meanwhile: its answer comes too late, and the history says so. It
+ * can ask {@link #isStopping}, and {@link Service#withInterrupts} interrupts its thread.
+ *
+ * <p>A stage that a method of this one attaches is of the {@link Scope} of this one, if there is one.
  *
  * <p>Exceptions, their wrapping, interrupts and cancellation are as in {@code CompletableFuture}. A stage that is cancelled or times out has an
  * exception of its own, and so has each stage right behind one that failed, which costs what an exception costs. A call that finds its stack
@@ -83,10 +85,31 @@ public class Stage<T> extends Waits<T> {
         Observer observers;
         /** How many relays, joins and deadlines of it the machine has. */
         int unwritten;
-        /** What isn't in the words: deadlines, in the order in which they were set, the stage that it follows, or -1, and those that it joins. */
+        /** What isn't in the words: deadlines and joins, in the order in which they were set, and the stage that it follows, or -1. */
         List<Limit> limits;
-        int followedStage = -1, wanted;
-        short[] joined;
+        List<Join> joins;
+        int followedStage = -1;
+        /** The scope that it is of, or null. */
+        Scope scope;
+        /** Whether it stands for a scope, or for what a function gives: nobody waits for its end. */
+        boolean isAside;
+        /** Whether somebody has got its exception. */
+        volatile boolean isTaken;
+        /** Its function, while that can be interrupted. */
+        Running running;
+    }
+
+    /** It ends once so many of these have values, or too few can have them still; or it is cancelled then. */
+    static final class Join {
+        final int wanted;
+        final short[] of;
+        final boolean cancels;
+
+        Join(int wanted, short[] of, boolean cancels) {
+            this.wanted = wanted;
+            this.of = of;
+            this.cancels = cancels;
+        }
     }
 
     /** A deadline: with a value's number, or as timed out, with a code. */
@@ -134,6 +157,25 @@ public class Stage<T> extends Waits<T> {
     final boolean hasUnwritten() {
         Extras it = extras;
         return it != null && it.unwritten > 0;
+    }
+
+    /** The scope that it is of, or null. Stages behind it are of it, too. */
+    final Scope scope() {
+        Extras it = extras;
+        return it == null ? null : it.scope;
+    }
+
+    final boolean isAside() {
+        Extras it = extras;
+        return it != null && it.isAside;
+    }
+
+    /** Somebody has got its outcome: if it is an exception, nobody else has to be told of that. */
+    final void noteTaken() {
+        Extras it = extras;
+        if (it != null && it.scope != null && outcome != null) {
+            it.isTaken = true;
+        }
     }
 
     /** Settles the stage, and drops its function. */
@@ -377,12 +419,12 @@ public class Stage<T> extends Waits<T> {
     }
 
     private <U> Stage<U> attachBehind(Form form, Object function, Executor executor) {
-        return request.attach(form, this, null, Objects.requireNonNull(function), executor, isMinimal());
+        return request.attach(scope(), form, this, null, Objects.requireNonNull(function), executor, isMinimal());
     }
 
     private <U> Stage<U> attachBehind(Form form, CompletionStage<?> other, Object function, Executor executor) {
         Objects.requireNonNull(function);
-        return request.attach(form, this, Objects.requireNonNull(other), function, executor, isMinimal());
+        return request.attach(scope(), form, this, Objects.requireNonNull(other), function, executor, isMinimal());
     }
 
     @Override
@@ -396,7 +438,7 @@ public class Stage<T> extends Waits<T> {
     }
 
     Stage<T> copy(boolean minimal) {
-        return request.attach(Form.ANY_OF, this, null, null, null, minimal);
+        return request.attach(scope(), Form.ANY_OF, this, null, null, null, minimal);
     }
 
     boolean isMinimal() {
@@ -509,19 +551,28 @@ public class Stage<T> extends Waits<T> {
     @Override
     public T join() {
         Object told = readOutcome(true);
-        return told != null || request.watch != null ? valueForJoin(awaitOutcome(told, -1)) : super.join();
+        try {
+            return told != null || request.watch != null ? valueForJoin(awaitOutcome(told, -1)) : super.join();
+        } finally {
+            noteTaken();
+        }
     }
 
     @Override
     public T getNow(T valueIfAbsent) {
         Object told = readOutcome();
+        noteTaken();
         return told != null ? valueForJoin(told) : valueIfAbsent;
     }
 
     @Override
     public T get() throws InterruptedException, ExecutionException {
         Object told = readOutcome(true);
-        return told != null || request.watch != null ? valueForGet(awaitOutcome(told, -1)) : super.get();
+        try {
+            return told != null || request.watch != null ? valueForGet(awaitOutcome(told, -1)) : super.get();
+        } finally {
+            noteTaken();
+        }
     }
 
     @Override
@@ -534,7 +585,11 @@ public class Stage<T> extends Waits<T> {
                 throw new TimeoutException();
             }
         }
-        return told != null ? valueForGet(told) : super.get(timeout, unit);
+        try {
+            return told != null ? valueForGet(told) : super.get(timeout, unit);
+        } finally {
+            noteTaken();
+        }
     }
 
     /** The outcome, for which a watch waits, unless it is given. */
@@ -559,12 +614,21 @@ public class Stage<T> extends Waits<T> {
         if (!isCompletedExceptionally() || isCancelled()) {
             throw new IllegalStateException(outcome == null ? "the stage isn't settled" : "the stage hasn't failed");
         }
+        noteTaken();
         return cause(((Fault) outcome).error());
     }
 
     @Override
     public int getNumberOfDependents() {
         return outcome != null ? 0 : dependents;
+    }
+
+    /**
+     * Whether the function that this thread calls is to stop, since its stage was settled otherwise: its answer comes too late. False where this thread
+     * calls no stage's function. It takes no lock as a rule, so a loop may ask at each turn.
+     */
+    public static boolean isStopping() {
+        return FollowUps.isStopping();
     }
 
     /** Its request, number and name, and what it ended as, or what it waits for. */

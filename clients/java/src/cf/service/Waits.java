@@ -1,11 +1,13 @@
 package cf.service;
 
 import cf.service.Faults.Fault;
+import java.util.List;
 import java.util.concurrent.CompletableFuture;
 import java.util.concurrent.ExecutionException;
 import java.util.concurrent.Future;
 import java.util.concurrent.TimeUnit;
 import java.util.concurrent.TimeoutException;
+import java.util.concurrent.atomic.AtomicInteger;
 import java.util.concurrent.atomic.AtomicReferenceFieldUpdater;
 import java.util.function.BooleanSupplier;
 
@@ -115,6 +117,28 @@ abstract class Waits<T> extends CompletableFuture<T> {
         }
         if (first != null) {
             Request.<RuntimeException>rethrow(first);
+        }
+    }
+
+    /** Waits until all of these are settled, or until this holds at the end of one of them. */
+    static void awaitAll(List<Stage<?>> stages, BooleanSupplier orElse) throws InterruptedException {
+        CompletableFuture<Void> over = new CompletableFuture<>();
+        AtomicInteger left = new AtomicInteger(stages.size());
+        for (Stage<?> each : stages) {
+            ((Waits<?>) each).observe(() -> {
+                if (left.decrementAndGet() == 0 || orElse.getAsBoolean()) {
+                    over.complete(null);
+                }
+            });
+        }
+        Leader by = leader();
+        if (by != null) {
+            by.waitUntil(over::isDone, true);
+        }
+        try {
+            over.get();
+        } catch (ExecutionException none) {
+            throw new AssertionError(none);
         }
     }
 

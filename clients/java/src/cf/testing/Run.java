@@ -914,6 +914,16 @@ final class Run implements Watch, Executor {
         }
     }
 
+    @Override
+    public boolean awaitScope(Request request, BooleanSupplier isSettled) {
+        historyRead(request);
+        if (isSettled.getAsBoolean()) {
+            return false;
+        }
+        waitFor("the stages of a scope", null, isSettled, -1, null);
+        return true;
+    }
+
     /** Lets others go on until a condition holds, or one of several ways is chosen, which it gives. */
     Object waitFor(String name, Long place, BooleanSupplier isOver, long nanos, Object[] ways) {
         return waitFor(new Flight.Wait(name, place, isOver, ways), nanos);

@@ -105,7 +105,7 @@ final class DescribeTest {
         is(last.request().history().toString().contains("bearer"), false);
         is(types.request().name().equals(nothing.request().name()), false);
         thrown(NullPointerException.class, () -> INLINE.withDescribe(null));
-        thrown(NullPointerException.class, () -> INLINE.request("null", null));
+        thrown(NullPointerException.class, () -> INLINE.request("null", (Describe) null));
     }
 
     private static History held(List<WeakReference<Object>> held) {
