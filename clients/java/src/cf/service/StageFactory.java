@@ -5,6 +5,7 @@ import java.time.Duration;
 import java.util.Collections;
 import java.util.List;
 import java.util.Objects;
+import java.util.concurrent.Callable;
 import java.util.concurrent.CompletableFuture;
 import java.util.concurrent.CompletionStage;
 import java.util.concurrent.Executor;
@@ -172,6 +173,24 @@ public abstract class StageFactory {
      */
     public <U> Stage<U> adopt(CompletionStage<U> of) {
         return request().attachAdopted(within(), Objects.requireNonNull(of));
+    }
+
+    /**
+     * Tries this on the service's executor until it gives a value, or has failed too often. No thread waits during a pause.
+     *
+     * <pre>{@code Stage<String> rate = request.retry(Retry.of(3).delay(Duration.ofMillis(100)).on(IOException.class), () -> ask());}</pre>
+     *
+     * @return one stage with the value, or with the exception of the last try, which has those of the earlier ones as suppressed ones. Once it is
+     *         settled otherwise, as by a cancellation, its try and its pause are cancelled. Beside it the first try takes three stages, and each
+     *         further one three at most
+     */
+    public <U> Stage<U> retry(Retry retry, Callable<? extends U> action) {
+        return retry(retry, action, request().service.executor());
+    }
+
+    /** The same, on this executor. */
+    public <U> Stage<U> retry(Retry retry, Callable<? extends U> action, Executor executor) {
+        return new Tries<U>(this, Objects.requireNonNull(retry), Objects.requireNonNull(action), Objects.requireNonNull(executor)).begin();
     }
 
     /** Opens a scope, within this one if this is one. It takes one stage. */

@@ -79,6 +79,10 @@ public final class AllTests {
         test("functions that are interrupted", ScopesTest::interrupts);
         test("threads that have gone on", ScopesTest::interruptsInThreads);
         test("scopes in threads", ScopesTest::inThreads);
+        test("tries", RetriesTest::times);
+        test("what is tried again", RetriesTest::kinds);
+        test("pauses between tries", RetriesTest::pauses);
+        test("tries that are given up", RetriesTest::ends);
         test("structured: two subtasks", StructuredTest::handles);
         test("structured: all", StructuredTest::invokesAll);
         test("structured: a race", StructuredTest::races);
@@ -200,6 +204,7 @@ public final class AllTests {
         test("what a failing order tells", OrdersTest::stories);
         test("scopes in every order", ScopedOrdersTest::first);
         test("who waits for a scope in every order", ScopedOrdersTest::joins);
+        test("tries in every order", ScopedOrdersTest::retries);
         test("who attaches beside an end in every order", ScopedOrdersTest::attaches);
         test("failing orders made smaller", OrdersTest::smaller);
         test("orders as assertions", OrdersTest::assertions);

@@ -58,7 +58,7 @@ final class ScopesTest {
         Checks.has(thrown(ScopeEndedException.class, scope::promise).getMessage(), "\"the scope\" of \"scopes\"");
         List<Checks.Test> tries = Arrays.asList(() -> scope.supplyAsync(() -> 1), () -> inner.runAsync(() -> { }), () -> own.thenApply(value -> 1),
                 () -> own.handle((value, error) -> 1), () -> finished.thenCompose(value -> outside), () -> scope.allOf(outside, outside, outside),
-                () -> scope.first(outside), scope::scope, () -> scope.adopt(other), own::copy,
+                () -> scope.first(outside), scope::scope, () -> scope.adopt(other), () -> scope.retry(Retry.of(1), () -> 1), own::copy,
                 () -> finished.thenCombine(other, Integer::sum), () -> scope.scope(Duration.ofSeconds(1)));
         for (Checks.Test each : tries) {
             thrown(ScopeEndedException.class, each);

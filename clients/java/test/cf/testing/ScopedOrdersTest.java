@@ -4,6 +4,7 @@ import static cf.service.Checks.has;
 import static cf.service.Checks.is;
 
 import cf.service.Request;
+import cf.service.Retry;
 import cf.service.Scope;
 import cf.service.ScopeEndedException;
 import cf.service.Stage;
@@ -80,6 +81,26 @@ public final class ScopedOrdersTest {
             });
             world.settles(told);
             world.atEnd(() -> Arrays.asList("all", "gone", "late").contains(told.join()), "told as it is");
+        });
+    }
+
+    /** Tries in each order with a cancellation and a limit: none is begun once the answer is there. */
+    public static void retries() {
+        isSound(world -> {
+            Request request = world.service().request("retried", Duration.ofSeconds(3));
+            AtomicInteger asked = new AtomicInteger(), late = new AtomicInteger();
+            Stage<?>[] answer = new Stage<?>[1];
+            answer[0] = request.retry(Retry.of(3).delay(Duration.ofSeconds(2)).jitter(true), () -> {
+                late.addAndGet(answer[0] != null && answer[0].isDone() ? 1 : 0);
+                if (asked.incrementAndGet() < 3) {
+                    throw new IllegalStateException("away");
+                }
+                return 7;
+            });
+            world.calls("a client who hangs up", () -> answer[0].cancel(false));
+            world.settles(answer[0]);
+            world.check(() -> late.get() == 0, "nothing is asked once it is over");
+            world.atEnd(() -> answer[0].isCancelled() && asked.get() <= 2, "the limit comes before the third try");
         });
     }
 
