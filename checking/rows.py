@@ -306,6 +306,7 @@ def rows_of_java(tools: Tools, made: Path) -> List[Row]:
             ("clients/java", "curl"),
         ),
         Row("the listings of Java's guide", needs, [[*java, "Guide"]]),
+        Row("Java's handler of eight backends", needs, [[*java, "EightBackends"]], ("clients/java/example", "EightBackends")),
         Row("Java's spans", needs, [[*java, "Traced"]], ("clients/java/example", "Traced")),
         Row("Java's meter, as a bean", needs, [[*java, "Metered"]], ("clients/java/example", "Metered")),
         Row(

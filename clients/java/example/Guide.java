@@ -1,33 +1,19 @@
 import cf.service.Describe;
 import cf.service.Flow;
 import cf.service.Request;
+import cf.service.Retry;
 import cf.service.Service;
 import cf.service.Stage;
+import java.io.IOException;
+import java.time.Duration;
 import java.util.Arrays;
 import java.util.concurrent.ExecutionException;
-import java.util.concurrent.Executor;
 import java.util.concurrent.TimeUnit;
 import java.util.concurrent.atomic.AtomicInteger;
-import java.util.function.Supplier;
 
 /** The listings of GUIDE.md, and a run of each. */
 public class Guide {
-    static Stage<String> tried(Request request, Supplier<String> ask, int... waits) {
-        Stage<String> answer = request.supplyAsync(ask);
-        for (int wait : waits) {
-            Executor later = request.delayedExecutor(wait, TimeUnit.MILLISECONDS);
-            answer = answer.exceptionallyCompose(error -> request.supplyAsync(ask, later));
-        }
-        return answer;
-    }
-
-    static String quote(Service service, Supplier<String> here, Supplier<String> there) {
-        try (Request request = service.request("quote")) {
-            Stage<String> quote = request.first(request.supplyAsync(here), request.supplyAsync(there)).orTimeout(2, TimeUnit.SECONDS);
-            request.cancelRestAfter(quote);
-            return quote.join();
-        }
-    }
+    static final Retry THRICE = Retry.of(3).delay(Duration.ofMillis(100)).factor(2).jitter(true).on(IOException.class);
 
     static final Flow QUOTE = new Flow("quote");
     static final Flow.Step<Integer> PIECES = QUOTE.promise();
@@ -42,6 +28,13 @@ public class Guide {
     }
 
     static final Describe SAFE = value -> value instanceof Throwable ? Describe.ALL.describe(value) : Describe.TYPES.describe(value);
+
+    private static int twice(AtomicInteger asked) throws IOException {
+        if (asked.incrementAndGet() < 3) {
+            throw new IOException("away");
+        }
+        return asked.get();
+    }
 
     private static void holds(boolean it) {
         if (!it) {
@@ -66,18 +59,16 @@ public class Guide {
         Service service = new Service().withDescribe(SAFE);
         try (Request request = service.request("guide")) {
             AtomicInteger asked = new AtomicInteger();
-            Supplier<String> ask = () -> "try " + 1 / Math.max(0, asked.incrementAndGet() - 2); // throws twice
-            holds(gives(tried(request, ask, 1, 1), "try 1") && asked.get() == 3);
+            holds(gives(request.retry(THRICE, () -> "try " + twice(asked)), "try 3") && fails(request.retry(THRICE, () -> Integer.parseInt("x")), NumberFormatException.class));
             Stage<Integer> open = request.promise(), seven = request.completedFuture(7);
             holds(gives(request.all(seven, open.completeOnTimeout(4, 0, TimeUnit.SECONDS)), Arrays.asList(7, 4)));
             Stage<Integer> failed = request.failedFuture(new IllegalStateException("away"));
             holds(fails(request.all(request.promise(), failed), IllegalStateException.class) && gives(request.first(failed, seven), 7));
             holds(gives(request.quorum(2, failed, seven, open), Arrays.asList(7, 4)) && fails(request.first(failed), IllegalStateException.class));
             String told = request.history().toString();
-            holds(told.contains("0 supply ends: java.lang.ArithmeticException: / by zero") && told.contains("which gave java.lang.String of 5"));
+            holds(told.contains("2 try 1 ends: java.io.IOException: away") && told.contains("which gave java.lang.String of 5"));
         }
         holds(quote(service, 2) == 10300);
-        holds(quote(service, () -> Integer.toString(Integer.parseInt("away")), () -> "49").equals("49"));
         System.out.println("all that the guide shows holds");
     }
 }
