@@ -390,7 +390,32 @@ impl Request {
     /// # }
     /// ```
     pub fn join(&mut self, stage: u16, wanted: u16, sources: &[u16]) -> Result<(), Refused> {
-        let step = sys::cf_request_joining { stage, wanted, cancels: 0 };
+        self.join_by(sys::cf_request_joining { stage, wanted, cancels: 0 }, sources)
+    }
+
+    /// From now on a stage is cancelled as soon as another one is settled, unless it is settled before. So a source is a scope, and the stages that
+    /// it cancels are of this scope: docs/C.md. `NO_STAGE`, `NO_MEMORY`.
+    ///
+    /// ```
+    /// use cf_graph::{Call, Cause, Event, Form, Of, Outcome, PlanBuilder, Request, RequestSizes};
+    /// # fn main() -> Result<(), cf_graph::Refused> {
+    /// let sizes = RequestSizes { room: 2, lanes: 1, own: 63 };
+    /// let mut request = Request::new(&mut PlanBuilder::new()?.build()?, sizes, &[])?;
+    /// for _ in 0..2 {
+    ///     request.apply(Event { who: 0, call: Call::Attach(Form::Source, Of::None, None) }.word()?, 0)?;
+    /// }
+    /// request.cancel_with(1, 0)?;
+    /// request.apply(Event { who: 0, call: Call::Cancel(0) }.word()?, 0)?;
+    /// let cancelled = Outcome::Fault { cause: Cause::Cancelled, wrapped: false };
+    /// assert!(request.todo().settled().map(|told| (told.stage, told.outcome)).eq([0, 1].map(|stage| (stage, cancelled))));
+    /// # Ok(())
+    /// # }
+    /// ```
+    pub fn cancel_with(&mut self, stage: u16, of: u16) -> Result<(), Refused> {
+        self.join_by(sys::cf_request_joining { stage, wanted: 1, cancels: 1 }, &[of])
+    }
+
+    fn join_by(&mut self, step: sys::cf_request_joining, sources: &[u16]) -> Result<(), Refused> {
         let (first, many) = (sources.as_ptr(), sources.len());
         // SAFETY: alone, pointers: `h` and what is told to are this call's, and `first` and `told` point to as many elements as said.
         self.call(|h, told, room, todo| unsafe { sys::cf_request_join(h, &step, first, many, told, room, todo) })

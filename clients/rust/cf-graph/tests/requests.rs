@@ -100,6 +100,23 @@ fn relays_end_as_what_they_follow() {
     assert_eq!(Event::from_word(last), Ok(Event { who: OWN, call: Call::FailAs(5, Failure::BadAnswer(7)) }));
 }
 
+/// A scope's end cancels what is of it, also a scope within it, and ends with a stage in whatever way that is settled.
+#[test]
+fn stages_are_cancelled_with_others() {
+    let (mut request, cancelled) = (sources(6), fault(Cause::Cancelled, false));
+    for (stage, of) in [(1, 0), (2, 1), (3, 0), (0, 4)] {
+        request.cancel_with(stage, of).unwrap();
+        assert!(settled(&request).is_empty());
+    }
+    request.apply(word(Call::Complete(3, Value::Int(5))), 0).unwrap();
+    assert_eq!(settled(&request), [(3, int(5))]);
+    request.apply(word(Call::Complete(4, Value::Int(6))), 0).unwrap();
+    assert_eq!(settled(&request), [(4, int(6)), (0, cancelled), (1, cancelled), (2, cancelled)]);
+    request.cancel_with(5, 0).unwrap();
+    assert_eq!(settled(&request), [(5, cancelled)], "the scope has ended");
+    assert_eq!((request.cancel_with(6, 0), request.cancel_with(5, 6)), (Err(Refused::NO_STAGE), Err(Refused::NO_STAGE)));
+}
+
 /// A row of stages is attached, each of which joins one more, or none is.
 #[test]
 fn any_number_of_stages_is_gathered() {
