@@ -9,7 +9,7 @@ async fn price(order: u32) -> Result<u32, Error> {
 }
 
 async fn handle(order: u32) -> (u16, String) {
-    let request = Request::new(&format!("order {order}"), Tasks::new(Handle::current(), 8)).cancel_on_drop();
+    let request = Request::new(&format!("order {order}"), Tasks::new(Handle::current(), 8)).scope();
     let price = request.spawn(price(order)).named("price");
     let stock = request.supply(|| 3).named("stock");
     let answer = price.combine(&stock, |cents, left| format!("{cents} cents, {left} left"));

@@ -1,5 +1,5 @@
 //! An order whose bank is away twice: it is asked again, after longer and longer waits.
-use cf::{Pool, Request, Stage};
+use cf::{Pool, Request, Retry};
 use std::sync::atomic::{AtomicU32, Ordering};
 use std::time::Duration;
 
@@ -12,20 +12,12 @@ fn charge(order: u32) -> Result<u32, String> {
     }
 }
 
-fn charged(request: Request, order: u32, left: u32, wait: Duration) -> Stage<u32> {
-    let tried = request.try_supply(move || charge(order)).named("charge");
-    if left == 0 {
-        return tried;
-    }
-    tried.recover_compose(move |error| {
-        println!("{error}: again in {wait:?}");
-        let waited = request.promise().complete_on_timeout((), wait);
-        waited.compose(move |()| charged(request, order, left - 1, 2 * wait))
-    })
-}
-
 fn main() {
     let request = Request::new("order 17", Pool::new(2));
-    let paid = charged(request, 17, 4, Duration::from_millis(50));
+    let retry = Retry::times(5).delay(Duration::from_millis(50)).on(|error| {
+        println!("{error}");
+        true
+    });
+    let paid = request.retry(retry, || charge(17)).or_timeout(Duration::from_secs(60));
     println!("charged for order {}", paid.wait().unwrap());
 }

@@ -18,7 +18,7 @@ async fn handle(path: String, meter: Meter, ends: Ends) -> Result<Response<Body>
     let (status, text) = match path.rsplit('/').next().map(str::parse) {
         Some(Ok(order)) => {
             let request = Request::new(&format!("order {order}"), Tasks::new(Handle::current(), 8)).metered(&meter).on_end(&ends);
-            let scope = request.cancel_on_drop();
+            let scope = request.scope();
             match scope.spawn(price(order)).named("price").or_timeout(Duration::from_secs(60)).await {
                 Ok(cents) => (200, format!("{cents} cents")),
                 Err(error) => (504, error.to_string()),

@@ -8,10 +8,9 @@ use crate::history::History;
 use crate::inner::{content_of, After, AskedAlarm, Feed, Hands, Inner, Link, Notices, Remains, StageOf, WeakStageOf};
 use crate::ledger::Ledger;
 use crate::name::Made;
-use crate::slot::Held;
 use crate::spawn::{
-    as_worker, catch_panic, do_in_turn, is_inline_free, mark_running, run_in_drop, run_inline, swallow_panic, worker_number, Job, JobKind, Payload,
-    Spawn, TurnQueue, CLOCK, RELAY,
+    as_worker, catch_panic, do_in_turn, is_inline_free, mark_running, run_in_drop, run_inline, set_called, swallow_panic, worker_number, Job,
+    JobKind, Payload, Spawn, TurnQueue, CLOCK, RELAY,
 };
 use crate::task::{Polling, StageFuture};
 use crate::value::{CallArgs, Returned, StageFn, Val};
@@ -231,37 +230,37 @@ impl Core {
     // Changes by callers.
 
     #[inline]
-    pub(crate) fn attach(self: &Arc<Core>, who: u8, form: WordForm, of: &[u16], call: Option<StageFn>, made: Made) -> Result<u16, Refusal> {
+    pub(crate) fn attach(self: &Arc<Core>, who: u8, within: Option<u16>, form: WordForm, call: Option<StageFn>, made: Made) -> Result<u16, Refusal> {
         let call = call.map(carry_context);
-        self.change(|inner, after| inner.attach(who, form, of, call, made, after))
+        self.change(|inner, after| inner.attach((who, within), form, &[], call, made, after))
+    }
+
+    /// Attaches a stage behind others, in the scope of the first.
+    #[inline]
+    pub(crate) fn attach_behind(self: &Arc<Core>, who: u8, form: WordForm, of: &[u16], call: StageFn, made: Made) -> Result<u16, Refusal> {
+        let call = carry_context(call);
+        self.change(|inner, after| {
+            let within = inner.scopes.scope_of(of[0]);
+            inner.attach((who, within), form, of, Some(call), made, after)
+        })
     }
 
     /// Attaches a stage that waits for all of these, or for one of them.
-    pub(crate) fn gather(self: &Arc<Core>, who: u8, form: cf_graph::Form, of: &[u16], made: Made) -> Result<u16, Refusal> {
-        self.change(|inner, after| inner.gather(who, form, of, made, after))
+    pub(crate) fn gather(self: &Arc<Core>, by: (u8, Option<u16>), form: cf_graph::Form, of: &[u16], made: Made) -> Result<u16, Refusal> {
+        self.change(|inner, after| inner.gather(by, form, of, made, after))
     }
 
     /// Attaches a stage that ends once so many of these have values, or too few can have them still.
-    pub(crate) fn join(self: &Arc<Core>, who: u8, wanted: u16, of: &[u16], made: Made) -> Result<u16, Refusal> {
-        self.change(|inner, after| inner.join(who, wanted, of, made, after))
+    pub(crate) fn join(self: &Arc<Core>, by: (u8, Option<u16>), wanted: u16, of: &[u16], made: Made) -> Result<u16, Refusal> {
+        self.change(|inner, after| inner.join(by, wanted, of, made, after))
     }
 
-    /// Attaches a composing stage, and right below it a relay. A stage can only link to lower ones, and the stage that its function makes is higher
-    /// or another request's. The relay stands in for that.
+    /// Attaches a composing stage behind another one, in the scope of that.
     pub(crate) fn attach_composing(self: &Arc<Core>, who: u8, form: WordForm, of: u16, call: StageFn, made: Made) -> Result<u16, Refusal> {
         let call = carry_context(call);
         self.change(|inner, after| {
-            if inner.ledger.room_left() < 2 {
-                after.notices().dropped.push(Held::Call(call));
-                return Err(Refusal::Full);
-            }
-            match inner.attach(who, WordForm::Source, &[], None, Made::without_function(|| "relay"), after) {
-                Ok(_) => inner.attach(who, form, &[of], Some(call), made, after),
-                Err(why) => {
-                    after.notices().dropped.push(Held::Call(call));
-                    Err(why)
-                }
-            }
+            let within = inner.scopes.scope_of(of);
+            inner.attach_composing((who, within), form, of, call, made, after)
         })
     }
 
@@ -293,6 +292,7 @@ impl Core {
             }
             None => {
                 own.extra(stage).feeds.push(StageOf { core: Arc::clone(&to), stage: relay });
+                own.scopes.note_asked(stage);
                 drop(own);
                 if !to.stand_for(relay, self, stage) {
                     self.unhang_relay(stage, &to, relay);
@@ -398,6 +398,7 @@ impl Core {
         // A waker is cloned and dropped by code of others.
         let waker = waker.clone();
         let mut guard = self.lock();
+        guard.scopes.note_asked(stage);
         if let Some(told) = guard.end_of(stage) {
             drop(guard);
             return (Poll::Ready(told), None);
@@ -420,8 +421,16 @@ impl Core {
         drop(old);
     }
 
+    pub(crate) fn is_settled(&self, stage: u16) -> bool {
+        #[cfg(feature = "testing")]
+        self.tell_watch(|watch| watch.note_read(stage));
+        self.lock().slot(stage).is_settled()
+    }
+
     pub(crate) fn peek(&self, stage: u16) -> Option<Result<Val, Error>> {
-        self.lock().end_of(stage)
+        let mut inner = self.lock();
+        inner.scopes.note_asked(stage);
+        inner.end_of(stage)
     }
 
     /// The values of these stages, or the error of the first that has one.
@@ -461,7 +470,10 @@ impl Core {
             let WorkerHold { mut inner, now, gives_way } = match next {
                 Some(call) => {
                     left -= 1;
-                    match catch_unwind(AssertUnwindSafe(|| call(&hands.given))) {
+                    set_called(hands.task.stage());
+                    let gave = catch_unwind(AssertUnwindSafe(|| call(&hands.given)));
+                    set_called(None);
+                    match gave {
                         Ok(Returned::Value(value)) => hands.keep_value(value),
                         gave => self.take_returned(who, hands, gave, &mut panicked),
                     }
@@ -552,7 +564,9 @@ impl Core {
             Ok(Begun::Function(stage, call, given)) => {
                 let _running = mark_running(self, false);
                 as_worker(|who| {
+                    set_called(Some(stage));
                     let gave = catch_unwind(AssertUnwindSafe(|| call(&given)));
+                    set_called(None);
                     if let Some(gave) = self.begin_future(who, stage, gave, &mut panicked) {
                         self.finish(who, stage, gave);
                     }

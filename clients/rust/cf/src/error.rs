@@ -58,6 +58,8 @@ pub enum Error {
 pub enum Refusal {
     /// A request has at most 4,096 stages.
     Full,
+    /// The scope in which it was to be attached has ended.
+    ScopeEnded,
     /// Whoever runs the functions takes no more of them.
     Closed,
     /// The library refused memory, or isn't the one that this crate was written for.
@@ -213,6 +215,7 @@ impl fmt::Display for Refusal {
     fn fmt(&self, f: &mut fmt::Formatter<'_>) -> fmt::Result {
         f.write_str(match self {
             Refusal::Full => "a request has at most 4,096 stages",
+            Refusal::ScopeEnded => "the scope has ended",
             Refusal::Closed => "no more functions are run",
             Refusal::NoLedger => "the library gave no ledger",
             Refusal::NoClock => "its clock dropped the timeout",

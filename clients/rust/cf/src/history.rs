@@ -9,7 +9,7 @@ use crate::ledger::{is_replayed, new_tale, replay, Followed, Joined, Replayed};
 use crate::record::EventTimes;
 use crate::spawn::{CALLER, CLOCK, FIRST_WORKER, RELAY};
 use crate::value::Val;
-use crate::word::{self, ATTACH, COMPLETE, FAIL, FAIL_AS, FINISH, SOME, THROWS};
+use crate::word::{self, ATTACH, CANCEL, COMPLETE, FAIL, FAIL_AS, FINISH, SOME, THROWS};
 use cf_graph::{Cause, Finished, Label, Outcome, Refused, Reply, TaleFormat};
 use std::ffi::OsStr;
 use std::fmt;
@@ -44,6 +44,8 @@ pub struct History {
     errors: Vec<Option<KeptEnd<Error>>>,
     relays: Vec<Followed>,
     joins: Vec<Joined>,
+    /// The stages that are scopes.
+    scopes: Vec<u16>,
     /// When the request began.
     since: SystemTime,
 }
@@ -90,14 +92,14 @@ impl History {
         let (of, kept): (Vec<u16>, Vec<_>) = slots.map(|slot| (slot.made, (slot.value().cloned(), slot.error().cloned()))).unzip();
         let made = inner.made.clone();
         let (given, relays, describe) = (inner.names.clone(), inner.ledger.relays.clone(), inner.describe.clone());
-        let joins = inner.ledger.joins.clone();
+        let (joins, scopes) = (inner.ledger.waiting_joins().cloned().collect(), inner.scopes.all().collect());
         drop(inner);
         let mut names: Vec<String> = of.into_iter().map(|of| made[usize::from(of)].to_string()).collect();
         given.into_iter().for_each(|(stage, name)| names[usize::from(stage)] = name.into_owned());
         let (values, errors) = kept.into_iter().unzip();
         let (values, mut errors) = (KeptEnd::keep_all(values), KeptEnd::keep_all(errors));
         errors.insert(0, None);
-        (History { name: core.name.to_string(), words, record, outcomes, names, values, errors, relays, joins, since }, describe)
+        (History { name: core.name.to_string(), words, record, outcomes, names, values, errors, relays, joins, scopes, since }, describe)
     }
 
     /// The same, which keeps what is told of values and errors alone, where that isn't all.
@@ -132,6 +134,11 @@ impl History {
     /// The stages that end by others.
     pub(crate) fn joining_stages(&self) -> impl Iterator<Item = u16> + '_ {
         self.joins.iter().map(|joined| joined.stage)
+    }
+
+    /// The stages that are scopes.
+    pub(crate) fn scopes(&self) -> &[u16] {
+        &self.scopes
     }
 
     /// What is told of a cause.
@@ -308,8 +315,8 @@ impl History {
     }
 
     /// The words, of which those that came too late name no value and no error of a stage, since nobody keeps theirs: the number in them is the one
-    /// behind those of all stages, or 0 for a time-out and a bad answer. What settles a relay or a join of this request is a relay's, though the
-    /// machine does it as the clock.
+    /// behind those of all stages, or 0 for a time-out and a bad answer. What settles a relay or a join of this request is a relay's, and so is what a
+    /// scope cancels, though the machine does it as the clock.
     fn words_without_late(&self) -> Result<Vec<u64>, Refused> {
         let lost = self.names.len() as u64;
         let apart = |Replayed { word, reply, .. }| {
@@ -327,7 +334,7 @@ impl History {
         self.relays.iter().map(|followed| followed.relay).chain(self.joining_stages()).for_each(|stage| is_relay[usize::from(stage)] = true);
         let by_relay = |word| {
             let parts = word::decode(word);
-            let is_relays = parts.who == CLOCK && parts.kind != ATTACH && is_relay[usize::from(parts.stage)];
+            let is_relays = parts.who == CLOCK && parts.kind != ATTACH && (parts.kind == CANCEL || is_relay[usize::from(parts.stage)]);
             if is_relays {
                 word::with_caller(RELAY, word)
             } else {

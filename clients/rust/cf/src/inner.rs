@@ -11,6 +11,7 @@ use crate::error::{Error, Refusal};
 use crate::ledger::{Dependencies, Ledger};
 use crate::meter::Metered;
 use crate::name::Made;
+use crate::scopes::Scopes;
 use crate::slot::{code_of_error, stage_of_error, Held, Slot};
 use crate::spawn::{CLOCK, RELAY};
 use crate::task::StageFuture;
@@ -58,6 +59,9 @@ pub(crate) struct Inner {
     /// The limits of stages, by stage. Those of settled stages are dropped once no other is left.
     limits: Vec<StageLimit>,
     pub(crate) awaited: AwaitedAlarm,
+    pub(crate) scopes: Scopes,
+    /// The stage that a word cancels now. What else is cancelled by the same call has an event of its own.
+    cancels: Option<u16>,
 }
 
 /// The last alarm for which the clock was asked.
@@ -256,6 +260,8 @@ impl Inner {
             letting: Vec::new(),
             limits: Vec::new(),
             awaited: AwaitedAlarm::default(),
+            scopes: Scopes::default(),
+            cancels: None,
         }
     }
 
@@ -311,10 +317,11 @@ impl Inner {
 
     // Changes.
 
+    /// Attaches a stage, in a scope or in none.
     #[inline(always)]
     pub(crate) fn attach(
         &mut self,
-        who: u8,
+        (who, within): (u8, Option<u16>),
         form: WordForm,
         of: &[u16],
         call: Option<StageFn>,
@@ -326,12 +333,16 @@ impl Inner {
             [] => call.is_none(),
             of => !of.iter().any(|source| self.slots[usize::from(*source)].is_settled()),
         };
-        match self.ledger.attach(who, form, of, call.is_some()) {
+        let attached = self.is_open(within).and_then(|()| self.ledger.attach(who, form, of, call.is_some()));
+        match attached {
             Ok(stage) => {
                 let made = self.place_of_name(made);
                 self.slots.push(Slot::new(made, call));
                 self.is_more |= !waits;
                 self.show_settled(after);
+                if let Some(scope) = within {
+                    self.put_in(stage, scope, after)?;
+                }
                 Ok(stage)
             }
             Err(why) => {
@@ -360,22 +371,65 @@ impl Inner {
     }
 
     /// Attaches a tree of stages, and gives its root. Each is attached by one event, which settles no other stage.
-    pub(crate) fn gather(&mut self, who: u8, form: cf_graph::Form, of: &[u16], made: Made, after: &mut After) -> Result<u16, Refusal> {
+    pub(crate) fn gather(
+        &mut self,
+        (who, within): (u8, Option<u16>),
+        form: cf_graph::Form,
+        of: &[u16],
+        made: Made,
+        after: &mut After,
+    ) -> Result<u16, Refusal> {
+        self.is_open(within)?;
+        let first = self.ledger.stages;
         let root = self.ledger.gather(who, form, of)?;
         let made = self.place_of_name(made);
         self.slots.resize_with(usize::from(root) + 1, || Slot::new(made, None));
         self.show_settled(after);
+        if let Some(scope) = within {
+            (first..=root).try_for_each(|stage| self.put_in(stage, scope, after))?;
+        }
         Ok(root)
     }
 
     /// Attaches a stage that ends once so many of these have values, or too few can have them still.
-    pub(crate) fn join(&mut self, who: u8, wanted: u16, of: &[u16], made: Made, after: &mut After) -> Result<u16, Refusal> {
-        let stage = self.attach(who, WordForm::Source, &[], None, made, after)?;
+    pub(crate) fn join(&mut self, by: (u8, Option<u16>), wanted: u16, of: &[u16], made: Made, after: &mut After) -> Result<u16, Refusal> {
+        let stage = self.attach(by, WordForm::Source, &[], None, made, after)?;
         self.slot(stage).follows = true;
         match self.ledger.join(stage, wanted, of) {
             Ok(()) => self.show_settled(after),
             Err(Refused::NO_MEMORY) => return Err(Refusal::NoLedger), // nobody has it
             Err(why) => unreachable!("{why}, of so many stages that are there"),
+        }
+        Ok(stage)
+    }
+
+    /// Attaches a composing stage, and right below it a relay. A stage can only link to lower ones, and the stage that its function makes is higher
+    /// or another request's. The relay stands in for that.
+    pub(crate) fn attach_composing(
+        &mut self,
+        by: (u8, Option<u16>),
+        form: WordForm,
+        of: u16,
+        call: StageFn,
+        made: Made,
+        after: &mut After,
+    ) -> Result<u16, Refusal> {
+        let relay = if self.ledger.room_left() < 2 {
+            Err(Refusal::Full)
+        } else {
+            self.attach(by, WordForm::Source, &[], None, Made::without_function(|| "relay"), after)
+        };
+        let relay = match relay {
+            Ok(relay) => relay,
+            Err(why) => {
+                after.notices().dropped.push(Held::Call(call));
+                return Err(why);
+            }
+        };
+        let stage = self.attach(by, form, &[of], Some(call), made, after)?;
+        if by.1.is_some() {
+            // A scope that is joined waits for all of its stages.
+            self.cancel_relays_with(Some(stage), vec![relay]);
         }
         Ok(stage)
     }
@@ -400,7 +454,9 @@ impl Inner {
         match self.ledger.act(word::encode(kind, who, stage, tail)) {
             Ok(Reply::Flag(true)) => {
                 self.keep_content(stage, holds, after);
+                self.cancels = Some(stage);
                 self.show_settled(after);
+                self.cancels = None;
                 return Ok(());
             }
             Ok(_) => {}
@@ -427,7 +483,7 @@ impl Inner {
     }
 
     #[inline]
-    fn drop_later(held: Held, after: &mut After) {
+    pub(crate) fn drop_later(held: Held, after: &mut After) {
         match held {
             // To drop it would take a call.
             Held::Nothing => forget(held),
@@ -437,7 +493,7 @@ impl Inner {
 
     /// Writes the stages that the last call settled to their slots.
     #[inline]
-    fn show_settled(&mut self, after: &mut After) {
+    pub(crate) fn show_settled(&mut self, after: &mut After) {
         if self.ledger.settled_count() > 0 {
             self.show_each_out_of_line(after);
         }
@@ -463,14 +519,14 @@ impl Inner {
         }
     }
 
-    /// Writes the settled stages to their slots, from the one at `first` on. Counts an event for each relay, and for each stage with `has_event`: it
-    /// is the lowest one that its event settled.
+    /// Writes the settled stages to their slots, from the one at `first` on. Counts an event for each relay, for each stage that a scope cancels, and
+    /// for each stage with `has_event`: it is the lowest one that its event settled.
     #[cold]
     fn show_from(&mut self, first: usize, after: &mut After, has_event: impl Fn(&mut Inner, SettledStage, &mut After) -> bool) {
         for at in first..self.ledger.settled_count() {
             let told = self.ledger.settled_at(at);
             let follows = self.slots[usize::from(told.stage)].follows;
-            if has_event(self, told, after) || follows {
+            if has_event(self, told, after) || follows || self.is_cancelled_by_scope(told) {
                 self.ledger.record.note_events(1);
             }
             self.mark_settled(told, after);
@@ -513,6 +569,12 @@ impl Inner {
         for relay in extra.feeds {
             after.notices().feeds.push(Feed { relay, told: self.end_of(stage).expect("the stage is settled") });
         }
+    }
+
+    /// Whether a stage was cancelled by an event of its own, since its scope has ended.
+    fn is_cancelled_by_scope(&self, told: SettledStage) -> bool {
+        let is_cancelled = told.outcome == Outcome::Fault { cause: Cause::Cancelled, wrapped: false };
+        is_cancelled && self.cancels != Some(told.stage) && self.scopes.knows(told.stage)
     }
 
     /// Cancels relays that nobody needs any more.
@@ -708,7 +770,7 @@ impl Inner {
         let hangs = self.ledger.dependencies();
         let (mut row, mut seen) = (vec![stage], vec![false; self.slots.len()]);
         let mut follow: BTreeMap<u16, Vec<u16>> = self.ledger.relays.iter().map(|followed| (followed.relay, vec![followed.stage])).collect();
-        follow.extend(self.ledger.joins.iter().map(|joined| (joined.stage, joined.of.clone())));
+        follow.extend(self.ledger.waiting_joins().map(|joined| (joined.stage, joined.of.clone())));
         while let Some(stage) = row.pop() {
             if self.slot(stage).is_settled() || replace(&mut seen[usize::from(stage)], true) {
                 continue;
@@ -845,7 +907,7 @@ impl Inner {
 /// Panics, since the machine was refused memory for an event. It has changed nothing, and the caller holds nothing of a user's. The panic goes on
 /// once the lock is free.
 #[cold]
-fn panic_refused(why: Refused) -> ! {
+pub(crate) fn panic_refused(why: Refused) -> ! {
     panic!("no memory for an event: {why}")
 }
 

@@ -49,11 +49,12 @@ pub(crate) struct Followed {
     pub(crate) stage: u16,
 }
 
-/// A stage that ends by others of the same request.
+/// A stage that ends by others of the same request, or that is cancelled once these are settled.
 #[derive(Clone, Debug)]
 pub(crate) struct Joined {
     pub(crate) stage: u16,
     pub(crate) of: Vec<u16>,
+    pub(crate) cancels: bool,
 }
 
 /// A word that was done again, what it was answered, which stages it made ready, and what it settled.
@@ -229,8 +230,20 @@ impl Ledger {
     /// Lets a stage end once so many of these have values, or too few can have them still.
     pub(crate) fn join(&mut self, stage: u16, wanted: u16, of: &[u16]) -> Result<(), Refused> {
         self.machine()?.join(stage, wanted, of)?;
-        self.joins.push(Joined { stage, of: of.into() });
+        self.joins.push(Joined { stage, of: of.into(), cancels: false });
         Ok(())
+    }
+
+    /// Lets a stage be cancelled once another one is settled.
+    pub(crate) fn cancel_with(&mut self, stage: u16, of: u16) -> Result<(), Refused> {
+        self.machine()?.cancel_with(stage, of)?;
+        self.joins.push(Joined { stage, of: vec![of], cancels: true });
+        Ok(())
+    }
+
+    /// The stages of this request that end by others, with these.
+    pub(crate) fn waiting_joins(&self) -> impl Iterator<Item = &Joined> {
+        self.joins.iter().filter(|it| !it.cancels)
     }
 
     /// Sets a deadline of a stage, at which that gets the value of its own number, or times out with the code of its error.

@@ -28,10 +28,11 @@
 //!
 //! | | |
 //! |---|---|
-//! | a request | [`new`](Request::new), [`with_clock`](Request::with_clock), [`try_new`](Request::try_new); [`described`](Request::described), [`on_end`](Request::on_end), [`metered`](Request::metered), [`history`](Request::history) |
-//! | its first stages | [`supply`](Request::supply), [`try_supply`](Request::try_supply), [`spawn`](Request::spawn), [`promise`](Request::promise), [`adopt`](Request::adopt), [`all_of`](Request::all_of), [`first_of`](Request::first_of), [`gather`](Request::gather), [`first`](Request::first), [`all`](Request::all), [`quorum`](Request::quorum) |
+//! | a request | [`new`](Request::new), [`with_clock`](Request::with_clock), [`try_new`](Request::try_new); [`described`](Request::described), [`on_end`](Request::on_end), [`metered`](Request::metered), [`deadline`](Request::deadline), [`history`](Request::history) |
+//! | its first stages | [`supply`](Request::supply), [`try_supply`](Request::try_supply), [`spawn`](Request::spawn), [`promise`](Request::promise), [`adopt`](Request::adopt), [`all_of`](Request::all_of), [`first_of`](Request::first_of), [`gather`](Request::gather), [`first`](Request::first), [`all`](Request::all), [`quorum`](Request::quorum), [`retry`](Request::retry), [`retry_async`](Request::retry_async) |
+//! | stages that end together | [`scope`](Request::scope); [`deadline`](Scope::deadline), [`ends_with`](Scope::ends_with), [`end`](Scope::end), [`join`](Scope::join), [`ended`](Scope::ended); [`is_stopping`] |
 //! | attach a stage behind one | [`then`](Stage::then), [`and_then`](Stage::and_then), [`then_async`](Stage::then_async), [`compose`](Stage::compose), [`combine`](Stage::combine), [`either`](Stage::either), [`handle`](Stage::handle), [`inspect`](Stage::inspect), [`recover`](Stage::recover), [`recover_compose`](Stage::recover_compose) |
-//! | settle it, unless it is settled | [`complete`](Stage::complete), [`fail`](Stage::fail), [`cancel`](Stage::cancel), [`cancel_on_drop`](Stage::cancel_on_drop); all of a request [`cancel_all`](Request::cancel_all), [`Request::cancel_on_drop`] |
+//! | settle it, unless it is settled | [`complete`](Stage::complete), [`fail`](Stage::fail), [`cancel`](Stage::cancel), [`cancel_on_drop`](Stage::cancel_on_drop); all of a request [`cancel_all`](Request::cancel_all) |
 //! | settle it by the clock | [`or_timeout`](Stage::or_timeout), [`complete_on_timeout`](Stage::complete_on_timeout) |
 //! | what it ended with | `await`, [`wait`](Stage::wait), [`wait_timeout`](Stage::wait_timeout), [`peek`](Stage::peek); for values that aren't `Clone` [`arc`](Stage::arc), [`wait_arc`](Stage::wait_arc), [`peek_arc`](Stage::peek_arc) |
 //!
@@ -129,8 +130,11 @@ mod name;
 mod programs;
 mod record;
 mod request;
+mod retry;
 #[cfg(feature = "tokio")]
 mod runtime;
+mod scope;
+mod scopes;
 #[cfg(test)]
 mod search;
 mod slot;
@@ -154,9 +158,11 @@ pub use ends::Ends;
 pub use error::{BoxError, Error, Panic, Refusal};
 pub use history::History;
 pub use meter::{Meter, OpenRequest};
-pub use request::{Request, Scope};
+pub use request::Request;
+pub use retry::Retry;
 #[cfg(feature = "tokio")]
 pub use runtime::{Blocking, Tasks, TokioClock};
+pub use scope::{Join, Scope};
 pub use spans::{CalledFunction, Span, SpanFile, Status};
-pub use spawn::{Inline, Job, Pool, Spawn};
+pub use spawn::{is_stopping, Inline, Job, Pool, Spawn};
 pub use stage::{AnyStage, ArcOf, CancelOnDrop, Stage};

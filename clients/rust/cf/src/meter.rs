@@ -146,7 +146,7 @@ impl Meter {
         // No handle is dropped under the lock: the drop of a last one takes it.
         let open: Vec<Arc<Core>> = lock(&self.0.open).requests.values().filter_map(Weak::upgrade).collect();
         let mut look = Look::default();
-        open.into_iter().for_each(|core| look.at(Request(core)));
+        open.into_iter().for_each(|core| look.at(Request(core, Ok(None))));
         look
     }
 }
@@ -220,7 +220,7 @@ impl Marks {
             }
             done.settled.iter().for_each(|(stage, _)| marks[usize::from(*stage)].settled = Some(place));
         }
-        history.joining_stages().for_each(|stage| marks[usize::from(stage)].promised = None); // (others settle it)
+        history.joining_stages().chain(history.scopes().iter().copied()).for_each(|stage| marks[usize::from(stage)].promised = None); // (others settle it)
         marks
     }
 }

@@ -8,14 +8,15 @@ use crate::error::{BoxError, Error, Refusal};
 use crate::history::History;
 use crate::meter::Meter;
 use crate::name::Made;
-use crate::spawn::{caller_number, run_in_drop, Spawn};
+use crate::scope::Scope;
+use crate::spawn::{caller_number, Spawn};
 use crate::stage::{sealed::Adopted, sealed::Sealed, AnyStage, Stage};
 use crate::value::{self, Returned, StageFn};
 use crate::word::WordForm;
 use std::fmt;
 use std::future::Future;
-use std::ops::Deref;
 use std::sync::Arc;
+use std::time::Duration;
 
 /// Stages that belong together, of which one history is kept. It is a handle: clones are the same request, and stages keep it alive.
 ///
@@ -29,7 +30,10 @@ use std::sync::Arc;
 /// assert_eq!(user.combine(&price, |user, price| format!("{user} pays {price}")).wait().unwrap(), "Ada pays 49");
 /// ```
 #[derive(Clone)]
-pub struct Request(pub(crate) Arc<Core>);
+pub struct Request(pub(crate) Arc<Core>, pub(crate) Within);
+
+/// The scope in which a handle of a request attaches stages, if it is one's. A scope that was refused refuses them.
+pub(crate) type Within = Result<Option<u16>, Refusal>;
 
 impl Request {
     /// Opens a request without stages, with an executor: by a [`Pool`](crate::Pool), by [`Inline`](crate::Inline), by an `Arc` of any
@@ -81,7 +85,7 @@ impl Request {
     /// # Ok::<_, cf::Refusal>(())
     /// ```
     pub fn try_new(name: &str, spawn: Arc<dyn Spawn>, clock: Arc<dyn Clock>, room: u16) -> Result<Request, Refusal> {
-        Core::new(name.into(), spawn, clock, room).map(Request)
+        Core::new(name.into(), spawn, clock, room).map(|core| Request(core, Ok(None)))
     }
 
     /// The request's name.
@@ -146,6 +150,42 @@ impl Request {
         self
     }
 
+    /// A handle of the request by which stages are attached in a scope that ends after `wait` by the request's clock: all of them that are open are
+    /// cancelled then, and more of them are refused, as those of a [`Scope`] are. It takes one stage.
+    ///
+    /// ```
+    /// use std::time::Duration;
+    /// let basket = cf::Request::new("basket 3", cf::Inline).deadline(Duration::from_millis(1));
+    /// assert!(basket.promise::<u32>().then(|cents| cents * 2).wait().unwrap_err().is_cancelled());
+    /// ```
+    #[must_use = "stages that are attached by other handles have no deadline"]
+    pub fn deadline(self, wait: Duration) -> Request {
+        let scope = self.open_scope(|| "deadline");
+        if let Ok(scope) = scope {
+            self.0.set_limit(scope, wait, None);
+        }
+        Request(self.0, scope.map(Some))
+    }
+
+    /// Opens a scope: what is attached by it ends with it. It takes one stage, and a call of the library for each stage in it.
+    ///
+    /// ```
+    /// let basket = cf::Request::new("basket 3", cf::Inline);
+    /// let scope = basket.scope();
+    /// let price = scope.promise::<u32>();
+    /// let stock = basket.promise::<u32>();
+    /// drop(scope);
+    /// assert!(price.is_settled() && !stock.is_settled());
+    /// ```
+    pub fn scope(&self) -> Scope {
+        Scope::new(Request(Arc::clone(&self.0), self.open_scope(|| "scope").map(Some)))
+    }
+
+    /// Opens a scope within that of this handle.
+    pub(crate) fn open_scope(&self, name: fn() -> &'static str) -> Result<u16, Refusal> {
+        self.0.open_scope(caller_number(), self.1?, Made::without_function(name))
+    }
+
     /// Attaches a stage that calls the function.
     ///
     /// ```
@@ -158,7 +198,7 @@ impl Request {
         F: FnOnce() -> U + Send + 'static,
         U: Send + Sync + 'static,
     {
-        self.attach(WordForm::Supply, &[], Some(Box::new(move |_| Returned::from_value(f()))), Made::of_function::<F>())
+        self.attach(WordForm::Supply, Some(Box::new(move |_| Returned::from_value(f()))), Made::of_function::<F>())
     }
 
     /// Attaches a stage that calls the function, which may fail.
@@ -175,7 +215,7 @@ impl Request {
         E: Into<BoxError>,
     {
         let call: StageFn = Box::new(move |_| Returned::from_result(f().map_err(|error| Error::from_boxed(error.into()))));
-        self.attach(WordForm::Supply, &[], Some(call), Made::of_function::<F>())
+        self.attach(WordForm::Supply, Some(call), Made::of_function::<F>())
     }
 
     /// Attaches a stage that polls the future. It is polled where functions run; a stage that is cancelled or times out drops it.
@@ -191,7 +231,7 @@ impl Request {
         U: Send + Sync + 'static,
         E: Into<BoxError>,
     {
-        self.attach(WordForm::Supply, &[], Some(Box::new(move |_| await_future(future))), Made::of_function::<F>())
+        self.attach(WordForm::Supply, Some(Box::new(move |_| await_future(future))), Made::of_function::<F>())
     }
 
     /// Attaches a stage without a function, for any handle of it to complete.
@@ -204,7 +244,7 @@ impl Request {
     /// assert_eq!(price.wait().unwrap(), 49);
     /// ```
     pub fn promise<T: Send + Sync + 'static>(&self) -> Stage<T> {
-        self.attach(WordForm::Source, &[], None, Made::without_function(|| "promise"))
+        self.attach(WordForm::Source, None, Made::without_function(|| "promise"))
     }
 
     /// A stage of this request that ends as the given one does, whose request may be another. A stage of this request is given back itself.
@@ -347,20 +387,6 @@ impl Request {
         self.0.cancel_all(caller_number());
     }
 
-    /// Cancels all that is open when this is dropped, as [`cancel_all`](Request::cancel_all) does: a scope that nothing of the request outlives, also
-    /// where it is left by `?` or by a panic. It is used as the request is.
-    ///
-    /// ```
-    /// let scope = cf::Request::new("basket 3", cf::Inline).cancel_on_drop();
-    /// let price = scope.promise::<u32>();
-    /// drop(scope);
-    /// assert!(price.wait().unwrap_err().is_cancelled());
-    /// ```
-    #[must_use = "it cancels all at once where nobody keeps it"]
-    pub fn cancel_on_drop(self) -> Scope {
-        Scope(self)
-    }
-
     /// All that happened until now. It takes some 20 ns an event, and telling it 1 µs.
     ///
     /// ```
@@ -391,7 +417,7 @@ impl Request {
     fn attach_root(&self, form: cf_graph::Form, row: &[Adopted], made: Made) -> (Vec<u16>, Result<u16, Refusal>) {
         match numbers_of(row) {
             Ok(numbers) => {
-                let root = self.0.gather(caller_number(), form, &numbers, made);
+                let root = self.1.and_then(|within| self.0.gather((caller_number(), within), form, &numbers, made));
                 (numbers, root)
             }
             Err(why) => (Vec::new(), Err(why)),
@@ -432,35 +458,12 @@ impl Request {
     fn attach_join(&self, wanted: usize, row: &[Adopted], made: Made) -> Result<(Vec<u16>, u16), Refusal> {
         let numbers = numbers_of(row)?;
         let wanted = u16::try_from(wanted).map_err(|_| Refusal::Full)?;
-        let join = self.0.join(caller_number(), wanted, &numbers, made)?;
+        let join = self.0.join((caller_number(), self.1?), wanted, &numbers, made)?;
         Ok((numbers, join))
     }
 
-    fn attach<U>(&self, form: WordForm, of: &[u16], call: Option<StageFn>, made: Made) -> Stage<U> {
-        Stage::new(&self.0, self.0.attach(caller_number(), form, of, call, made))
-    }
-}
-
-/// A request that cancels all that is open when this handle of it is dropped: what [`Request::cancel_on_drop`] gives.
-///
-/// ```
-/// let scope: cf::Scope = cf::Request::new("basket 3", cf::Inline).cancel_on_drop();
-/// assert_eq!(scope.supply(|| 49).wait().unwrap(), 49);
-/// ```
-#[derive(Debug)]
-pub struct Scope(Request);
-
-impl Deref for Scope {
-    type Target = Request;
-
-    fn deref(&self) -> &Request {
-        &self.0
-    }
-}
-
-impl Drop for Scope {
-    fn drop(&mut self) {
-        run_in_drop(|| self.0.cancel_all());
+    pub(crate) fn attach<U>(&self, form: WordForm, call: Option<StageFn>, made: Made) -> Stage<U> {
+        Stage::new(&self.0, self.1.and_then(|within| self.0.attach(caller_number(), within, form, call, made)))
     }
 }
 

@@ -201,6 +201,8 @@ thread_local! {
     static HERE: Cell<u8> = const { Cell::new(CALLER) };
     /// The requests whose functions this thread runs, the innermost last, and whether each runs in a counted job.
     static RUNNING: RefCell<Vec<(Arc<Core>, bool)>> = const { RefCell::new(Vec::new()) };
+    /// The stage of the innermost request whose function or future this thread runs.
+    static CALLED: Cell<Option<u16>> = const { Cell::new(None) };
     /// The stand-in for the thread while it waits.
     static STANDS_IN: RefCell<StandIn> = const { RefCell::new(StandIn::Nobody) };
 }
@@ -329,13 +331,40 @@ pub(crate) fn as_caller<T>(who: u8, act: impl FnOnce() -> T) -> T {
 /// Notes that this thread runs functions of a request, in a counted job or not, until the guard is dropped.
 pub(crate) fn mark_running(core: &Arc<Core>, is_job: bool) -> Running {
     let _ = RUNNING.try_with(|running| running.borrow_mut().push((Arc::clone(core), is_job)));
-    Running
+    Running { outer: CALLED.with(Cell::take) }
 }
 
-pub(crate) struct Running;
+/// Notes whose function or future this thread runs from now on, of the request for which it runs functions.
+#[inline]
+pub(crate) fn set_called(stage: Option<u16>) {
+    CALLED.with(|called| called.set(stage));
+}
+
+/// Whether the function that asks is to stop: its stage is settled, as by the end of its [`Scope`](crate::Scope), by a limit or by
+/// [`Stage::cancel`](crate::Stage::cancel), and what it gives comes too late. False where no stage's function or future runs. It takes 20 ns.
+///
+/// ```
+/// let import = cf::Request::new("import 5", cf::Pool::new(2));
+/// let scope = import.scope();
+/// let rows = scope.supply(|| (0_u64..).take_while(|_| !cf::is_stopping()).count());
+/// drop(scope);
+/// assert!(rows.wait().unwrap_err().is_cancelled());
+/// ```
+#[must_use]
+pub fn is_stopping() -> bool {
+    let called = CALLED.try_with(Cell::get).ok().flatten();
+    let core = RUNNING.try_with(|running| running.borrow().last().map(|it| Arc::clone(&it.0))).ok().flatten();
+    called.zip(core).map_or(false, |(stage, core)| core.is_settled(stage))
+}
+
+pub(crate) struct Running {
+    /// The stage of the function that called what runs here.
+    outer: Option<u16>,
+}
 
 impl Drop for Running {
     fn drop(&mut self) {
+        set_called(self.outer);
         // This may drop the request, so the list isn't borrowed then.
         drop(RUNNING.try_with(|running| running.borrow_mut().pop()));
     }

@@ -170,7 +170,12 @@ impl<T> Stage<T> {
     /// assert_eq!(request.supply(|| 1).request().name(), "order 17");
     /// ```
     pub fn request(&self) -> Request {
-        Request(Arc::clone(&self.core))
+        Request(Arc::clone(&self.core), Ok(None))
+    }
+
+    /// The same, which attaches stages in the scope of this one.
+    fn request_within(&self) -> Request {
+        Request(Arc::clone(&self.core), self.at.map(|number| self.core.lock().scopes.scope_of(number)))
     }
 
     /// Names the stage in histories, and gives the stage back.
@@ -194,8 +199,7 @@ impl<T> Stage<T> {
     /// assert!(!request.promise::<u32>().is_settled());
     /// ```
     pub fn is_settled(&self) -> bool {
-        self.tell_watch_of_read();
-        self.at.map_or(true, |number| self.core.lock().slot(number).is_settled())
+        self.at.map_or(true, |number| self.core.is_settled(number))
     }
 
     /// Tells a test's observer that the stage is read.
@@ -205,7 +209,7 @@ impl<T> Stage<T> {
         self.at.into_iter().for_each(|number| self.core.tell_watch(|watch| watch.note_read(number)));
     }
 
-    fn end_if_settled(&self) -> Option<Result<Val, Error>> {
+    pub(crate) fn end_if_settled(&self) -> Option<Result<Val, Error>> {
         self.tell_watch_of_read();
         match self.at {
             Ok(number) => self.core.peek(number),
@@ -294,7 +298,7 @@ impl<T> Stage<T> {
         polled
     }
 
-    fn wait_value(&self, wait: Option<Duration>) -> Option<Result<Val, Error>> {
+    pub(crate) fn wait_value(&self, wait: Option<Duration>) -> Option<Result<Val, Error>> {
         // A function may wait, and somebody else goes on with its runtime if that can be.
         #[cfg(feature = "tokio")]
         if caller_number() == CALLER && wait != Some(Duration::ZERO) {
@@ -352,9 +356,10 @@ impl<T> Stage<T> {
     }
 
     fn attach_behind_both<O: Send + Sync + 'static, U>(&self, form: WordForm, other: &Stage<O>, call: StageFn, made: Made) -> Stage<U> {
-        let other = self.at.map(|_| other.adopt_into(&self.request()));
+        let is_own = Arc::ptr_eq(&self.core, &other.core);
+        let other = self.at.map(|_| other.adopt_into(&if is_own { self.request() } else { self.request_within() }));
         let both = self.at.and_then(|first| Ok([first, other?.at?]));
-        let at = both.and_then(|of| self.core.attach(caller_number(), form, &of, Some(call), made));
+        let at = both.and_then(|of| self.core.attach_behind(caller_number(), form, &of, call, made));
         let relay = other.ok().filter(|other| other.is_relay).and_then(|other| other.at.ok());
         self.core.cancel_relays_with(at, relay.into_iter().collect());
         Stage::new(&self.core, at)
@@ -367,7 +372,7 @@ impl<T> Stage<T> {
 
 /// Attaches a stage of this form behind one.
 fn attach_behind(core: &Arc<Core>, at: Result<u16, Refusal>, form: WordForm, call: StageFn, made: Made) -> Result<u16, Refusal> {
-    core.attach(caller_number(), form, &[at?], Some(call), made)
+    core.attach_behind(caller_number(), form, &[at?], call, made)
 }
 
 /// The waker of a waiting thread.

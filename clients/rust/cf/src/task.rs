@@ -1,7 +1,7 @@
 //! Futures that stages' functions gave, and their wakers.
 use crate::core::Core;
 use crate::error::{Error, Panic, Refusal};
-use crate::spawn::{mark_running, swallow_panic, Job, JobKind, CLOCK};
+use crate::spawn::{mark_running, set_called, swallow_panic, Job, JobKind, CLOCK};
 use crate::value::{Returned, StageResultFuture};
 use std::panic::{catch_unwind, resume_unwind, AssertUnwindSafe};
 use std::sync::atomic::{AtomicBool, AtomicU8, Ordering};
@@ -60,6 +60,7 @@ impl Polling {
             return;
         }
         let _running = mark_running(core, false);
+        set_called(Some(task.stage));
         let waker = Waker::from(Arc::clone(&self));
         let mut held = task.future.lock().unwrap_or_else(PoisonError::into_inner);
         let polled = match held.as_mut() {

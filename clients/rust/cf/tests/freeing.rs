@@ -64,7 +64,8 @@ fn requests_that_await_each_other_go_with_what_ends_their_futures() {
             drop(freed);
             clock.turn(Duration::from_secs(1));
         } else {
-            drop(freed.map(Request::cancel_on_drop));
+            freed.iter().for_each(Request::cancel_all);
+            drop(freed);
         }
         assert_eq!(Arc::strong_count(&alive), 1, "limited: {is_limited}");
     }

@@ -1,5 +1,5 @@
 //! What GUIDE.md says to write: a delayed start, further tries, the first of two backends, a deadline for a whole request.
-use cf::{Error, HandClock, Inline, Request, Stage};
+use cf::{Error, HandClock, Inline, Request, Retry};
 use std::sync::atomic::{AtomicU32, Ordering::SeqCst};
 use std::sync::Arc;
 use std::time::Duration;
@@ -22,26 +22,15 @@ fn a_delayed_start() {
     assert_eq!(later.wait().unwrap(), 49);
 }
 
-fn again(request: Request, ask: Arc<AtomicU32>, left: u32, wait: Duration) -> Stage<u32> {
-    let asks = Arc::clone(&ask);
-    let told = request.try_supply(move || match asks.fetch_add(1, SeqCst) {
-        2 => Ok(49),
-        _ => Err("away"),
-    });
-    if left == 0 {
-        return told;
-    }
-    told.recover_compose(move |_| {
-        let waited = request.promise().complete_on_timeout((), wait);
-        waited.compose(move |()| again(request, ask, left - 1, 2 * wait))
-    })
-}
-
 #[test]
 fn tries_with_longer_and_longer_waits() {
-    for (tries, wanted) in [(2, "49"), (1, "away")] {
+    for (times, wanted) in [(3, "49"), (2, "away")] {
         let ((request, clock), asked) = (request(), Arc::new(AtomicU32::new(0)));
-        let told = again(request, Arc::clone(&asked), tries, SECOND);
+        let asks = Arc::clone(&asked);
+        let told = request.retry(Retry::times(times).delay(SECOND).jitter(false), move || match asks.fetch_add(1, SeqCst) {
+            2 => Ok(49),
+            _ => Err("away"),
+        });
         assert_eq!(asked.load(SeqCst), 1);
         clock.turn(SECOND);
         assert_eq!(asked.load(SeqCst), 2);
@@ -53,7 +42,7 @@ fn tries_with_longer_and_longer_waits() {
 }
 
 async fn quote(request: Request, backends: [fn() -> Result<u32, &'static str>; 2]) -> Result<u32, Error> {
-    let scope = request.cancel_on_drop();
+    let scope = request.scope();
     let quotes = backends.map(|backend| scope.try_supply(backend));
     scope.first(&quotes).or_timeout(Duration::from_secs(2)).await
 }
@@ -68,12 +57,9 @@ fn the_first_of_two_backends() {
 #[test]
 fn a_deadline_for_a_whole_request() {
     let clock = HandClock::new();
-    let request = Request::with_clock("order 17", Arc::new(Inline), Arc::new(clock.clone()));
-    let scope = request.cancel_on_drop();
-    let backend = scope.promise::<u32>();
-    let answer = backend.clone().then(|cents| cents * 2).or_timeout(Duration::from_secs(60));
+    let request = Request::with_clock("order 17", Arc::new(Inline), Arc::new(clock.clone())).deadline(Duration::from_secs(60));
+    let backend = request.promise::<u32>();
+    let answer = backend.clone().then(|cents| cents * 2);
     clock.turn(Duration::from_secs(60));
-    assert!(answer.wait().unwrap_err().is_timeout());
-    drop(scope);
-    assert!(backend.wait().unwrap_err().is_cancelled());
+    assert!([answer, backend].iter().all(|stage| stage.wait().unwrap_err().is_cancelled()));
 }

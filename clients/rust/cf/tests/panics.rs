@@ -1,7 +1,7 @@
 //! What panics: wakers, executors, clocks, values and futures as they are dropped, payloads. All else is told, and goes on.
 mod common;
 
-use cf::{Alarm, Clock, Error, Inline, Job, Pool, Request, Spawn, Stage};
+use cf::{Alarm, Clock, Error, Inline, Job, Pool, Request, Scope, Spawn, Stage};
 use common::{comes_back, poll, Counts, Drops, Keeps, Panics, Throws, LONG};
 use std::any::Any;
 use std::panic::{catch_unwind, panic_any, AssertUnwindSafe};
@@ -201,13 +201,13 @@ fn a_thread_that_unwinds_tells_all() {
             self.0.lock().unwrap().push(alarm);
         }
     }
-    type Way = fn(&Stage<i32>, &Keeps, &Mutex<Vec<Alarm>>) -> Box<dyn Any>;
+    type Way = fn(&Stage<i32>, &mut Option<Scope>, &Keeps, &Mutex<Vec<Alarm>>) -> Box<dyn Any>;
     let ways: [Way; 5] = [
-        |stage, _, _| Box::new(stage.request().cancel_on_drop()),
-        |stage, _, _| Box::new(stage.clone().cancel_on_drop()),
-        |_, jobs, _| Box::new(std::mem::take(&mut *jobs.0.lock().unwrap())),
-        |_, _, alarms| Box::new(std::mem::take(&mut *alarms.lock().unwrap())),
-        |_, _, _| {
+        |_, scope, _, _| Box::new(scope.take()),
+        |stage, _, _, _| Box::new(stage.clone().cancel_on_drop()),
+        |_, _, jobs, _| Box::new(std::mem::take(&mut *jobs.0.lock().unwrap())),
+        |_, _, _, alarms| Box::new(std::mem::take(&mut *alarms.lock().unwrap())),
+        |_, _, _, _| {
             let last = Request::new("last", Inline);
             assert!(last.supply(|| Drops).is_settled());
             Box::new(last)
@@ -217,11 +217,12 @@ fn a_thread_that_unwinds_tells_all() {
         for (at, way) in ways.into_iter().enumerate() {
             let (jobs, alarms, counts) = (Keeps::default(), Arc::default(), Arc::new(Counts::default()));
             let panicking = Request::with_clock("unwinds", Arc::new(jobs.clone()), Arc::new(Holds(Arc::clone(&alarms))));
-            let panicking_stage = panicking.supply(|| 1).or_timeout(LONG);
+            let mut scope = Some(panicking.scope());
+            let panicking_stage = scope.as_ref().map(|scope| scope.supply(|| 1).or_timeout(LONG)).expect("it is open");
             let [mut waits, mut other] = [(); 2].map(|()| panicking_stage.clone());
             assert!(!counts.polls(&mut waits) && !poll(&mut other, &Waker::from(Arc::new(Panics))));
             let payload = catch_unwind(AssertUnwindSafe(|| {
-                let _left = way(&panicking_stage, &jobs, &alarms);
+                let _left = way(&panicking_stage, &mut scope, &jobs, &alarms);
                 panic_any("the first");
             }));
             assert_eq!(payload.unwrap_err().downcast_ref(), Some(&"the first"));

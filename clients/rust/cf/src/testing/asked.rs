@@ -171,7 +171,7 @@ impl Asked {
             _ => None,
         };
         if let Some(form) = many {
-            let at = self.core.gather(caller_number(), form, &of, Made::without_function(|| "asked"));
+            let at = self.core.gather((caller_number(), None), form, &of, Made::without_function(|| "asked"));
             return self.stages.lock().unwrap().push(at.expect("there is room"));
         }
         let (form, is_nil) = match said.form.as_str() {
@@ -199,9 +199,10 @@ impl Asked {
         };
         let made = Made::without_function(|| "asked");
         let at = match form {
-            WordForm::Source => self.core.attach(caller_number(), form, &[], None, made),
+            WordForm::Source => self.core.attach(caller_number(), None, form, None, made),
+            WordForm::Supply => self.core.attach(caller_number(), None, form, Some(call), made),
             WordForm::Compose | WordForm::ExceptionallyCompose => self.core.attach_composing(caller_number(), form, of[0], call, made),
-            _ => self.core.attach(caller_number(), form, &of, Some(call), made),
+            _ => self.core.attach_behind(caller_number(), form, &of, call, made),
         };
         self.stages.lock().unwrap().push(at.expect("there is room"));
     }

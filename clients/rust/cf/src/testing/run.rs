@@ -14,7 +14,7 @@ use crate::core::Core;
 use crate::describe::escape_text;
 use crate::error::{Error, Panic};
 use crate::history::History;
-use crate::spawn::{as_caller, swallow_panic, Payload, CALLER, FIRST_WORKER};
+use crate::spawn::{as_caller, mark_running, set_called, swallow_panic, Payload, CALLER, FIRST_WORKER};
 use crate::task::Polling;
 use crate::value::{CallArgs, Returned};
 use std::collections::BTreeSet;
@@ -188,7 +188,11 @@ impl Run {
 
     /// Calls a function of a stage, and keeps what it gives.
     fn call_function(&self, core: &Arc<Core>, place: Place, number: u8, call: impl FnOnce() -> Returned) {
-        match catch_unwind(AssertUnwindSafe(call)) {
+        let running = mark_running(core, false);
+        set_called(Some(place.stage));
+        let gave = catch_unwind(AssertUnwindSafe(call));
+        drop(running);
+        match gave {
             Ok(Returned::Later(future)) => Polling::poll_first(core, number, place.stage, future),
             Ok(gave) => self.take_returned(place, gave),
             Err(payload) => self.take_returned(place, Returned::Error(Error::Panicked(Panic::new(payload)))),

@@ -2,7 +2,8 @@
 use super::{ends, is_sound, SECOND};
 use crate::services::{GivesWay, Shared};
 use cf::testing::orders;
-use cf::{Describe, Error};
+use cf::{Describe, Error, Retry};
+use std::sync::Arc;
 
 fn told<T: ToString>(outcome: Result<T, Error>) -> String {
     outcome.map_or_else(|error| error.to_string(), |value| value.to_string())
@@ -129,16 +130,65 @@ fn a_future_goes_with_its_stage() {
 #[test]
 fn a_scope_leaves_nothing_open() {
     let ends = ends(|world| {
-        let request = world.request("scope");
-        let price = world.arrives(request.promise(), 49);
+        let scope = world.request("scope").scope();
+        let price = world.arrives(scope.promise(), 49);
         let doubled = price.clone().then(|price| price * 2);
-        let scope = request.cancel_on_drop();
         world.calls("leaves", move || drop(scope));
         let outcomes = (price.clone(), doubled.clone());
         world.end_is(move || format!("{} {}", told(outcomes.0.wait()), told(outcomes.1.wait())));
         (price, doubled)
     });
     assert_eq!(ends, ["49 98", "49 cancelled", "cancelled cancelled"]);
+}
+
+/// A handler asks two backends, takes the first success or else what it knows, and has a deadline; somebody may leave. Behind the end of its scope nothing
+/// of it is open, and no function of it begins.
+#[test]
+fn nothing_outlives_a_scope() {
+    const CLAIM: u64 = 4;
+    let ends = ends(|world| {
+        let request = world.request("handler");
+        let scope = Arc::new(request.scope().deadline(SECOND));
+        let quotes = [world.arrives_or_fails(scope.promise(), 49, "away"), scope.try_supply(|| Err("no stock"))];
+        let inner = scope.scope();
+        let within = inner.promise::<i32>();
+        let best = scope.ends_with(scope.first(&quotes).recover(|_| 52));
+        let leaves = Arc::clone(&scope);
+        world.calls("leaves", move || leaves.end());
+        let (ended, all) = (Arc::clone(&scope), [&quotes[0], &quotes[1], &best, &within].map(Clone::clone));
+        world.check("nothing of the scope is open", move || {
+            ended.ended().is_none() || (inner.ended().is_some() && all.iter().all(|it| it.is_settled()))
+        });
+        world.at_end("no function begins behind the end of the scope", move || {
+            let words: Vec<(u64, u64)> = request.history().words().iter().map(|word| (word >> 56, word >> 36 & 4095)).collect();
+            let end = words.iter().position(|(kind, stage)| *stage == 0 && matches!(kind, 3 | 8)).unwrap_or(words.len());
+            words[end..].iter().all(|(kind, _)| *kind != CLAIM)
+        });
+        let outcome = best.clone();
+        world.end_is(move || format!("{} {}", told(outcome.wait()), scope.ended().map_or_else(String::new, |error| error.to_string())));
+        best
+    });
+    assert_eq!(ends, ["49 cancelled", "52 cancelled", "cancelled cancelled", "cancelled timed out after 1s"]);
+}
+
+/// Tries and their pauses, one of which is cut off by whoever cancels them.
+#[test]
+fn tries_end_with_their_stage() {
+    let ends = ends(|world| {
+        let (request, asked) = (world.request("tries"), Shared::new(0));
+        let asks = asked.clone();
+        let tried = request.retry(Retry::times(2).delay(SECOND), move || {
+            *asks.get() += 1;
+            Err::<i32, _>("away")
+        });
+        let stage = tried.clone();
+        world.calls("cancels", move || stage.cancel());
+        let (outcome, settled) = (tried.clone(), request.clone());
+        world.at_end("nothing is open", move || settled.history().line().ends_with("; 0 open"));
+        world.end_is(move || format!("{} {}", asked.get(), told(outcome.wait())));
+        tried
+    });
+    assert_eq!(ends, ["0 cancelled", "1 cancelled", "2 away", "2 cancelled"]);
 }
 
 /// A history that is taken between any two moves comes again, and goes on where the one before ended.
