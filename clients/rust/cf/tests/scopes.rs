@@ -97,10 +97,10 @@ fn nothing_of_a_scope_is_left_open() {
     let far = Request::new("far", Inline).promise::<u32>();
     drop(attach_all(&scope, &scope.promise(), &far));
     drop(scope);
-    let meter = Meter::new();
-    let told = request.clone().metered(&meter).history();
-    assert_eq!(meter.open_requests().len(), 0, "{told}");
+    let (meter, told) = (Meter::new(), request.history());
     assert!(told.line().ends_with("; 0 open"), "{}", told.line());
+    let _scope = request.clone().metered(&meter).scope();
+    assert_eq!(meter.open_requests().len(), 0, "an open scope alone: nobody has to settle it");
 }
 
 #[test]
