@@ -194,7 +194,7 @@ def rows_of_rust(tools: Tools, made: Path) -> List[Row]:
     features += [f"cf-store/{it}" for it in ["etcd", "postgres", "sqlite", "testing"]]  # (all but `dynamic` of cf-sys)
     over_debian, with_all = [python, offline, "--debian"], ["-q", "--workspace", "--features", ",".join(features)]
     stored, order, orders = [*needs, DEBIANS], made / "cargo/debian/debug/examples/order", made / "rust-orders.db"
-    run = ["handler", "hangs_up", "killed", "keyed", "served"]
+    run = ["eight_backends", "handler", "hangs_up", "killed", "keyed", "served"]
     built = [*over_debian, "build", *with_all, *(word for name in run for word in ("--example", name))]
     every = ["--workspace", "--all-features"]
     lints = [*every, "--all-targets", "--", "-D", "warnings"]
@@ -253,6 +253,7 @@ def rows_of_rust(tools: Tools, made: Path) -> List[Row]:
             [[python, "conformance/clients/rust-orders", "short", "0", "100", tools["cf_look"]]],
         ),
         example("Rust's order whose bank is away", "retry", "clients/rust/GUIDE.md", "-p", "cf"),
+        over_all("Rust's server of hyper's that asks eight backends", "eight_backends", "clients/rust/cf/examples"),
         over_all("Rust's server of hyper's, whose client hangs up", "served", "clients/rust/cf/examples"),
         over_all("Rust's server over a store, whose client hangs up", "hangs_up", "clients/rust/cf-store/examples"),
         example("Rust's spans", "traced", "clients/rust/cf/examples", "-p", "cf"),

@@ -74,6 +74,6 @@ async fn main() {
         while ASKED.load(Ordering::SeqCst) > 0 {
             sleep(Duration::from_millis(1)).await;
         }
-        println!("{lamp}: {told}, and no backend is asked any more");
+        println!("{lamp}: {told}, {} open", ASKED.load(Ordering::SeqCst));
     }
 }

@@ -1,5 +1,5 @@
-//! What GUIDE.md says to write: a delayed start, further tries, the first of two backends, a deadline for a whole request.
-use cf::{Error, HandClock, Inline, Request, Retry};
+//! What GUIDE.md says to write: a delayed start, further tries, a deadline for a whole request.
+use cf::{HandClock, Inline, Request, Retry};
 use std::sync::atomic::{AtomicU32, Ordering::SeqCst};
 use std::sync::Arc;
 use std::time::Duration;
@@ -41,25 +41,12 @@ fn tries_with_longer_and_longer_waits() {
     }
 }
 
-async fn quote(request: Request, backends: [fn() -> Result<u32, &'static str>; 2]) -> Result<u32, Error> {
-    let scope = request.scope();
-    let quotes = backends.map(|backend| scope.try_supply(backend));
-    scope.first(&quotes).or_timeout(Duration::from_secs(2)).await
-}
-
-#[test]
-fn the_first_of_two_backends() {
-    let (server, request) = (Request::new("server", Inline), Request::new("quote", Inline));
-    assert_eq!(server.spawn(quote(request, [|| Err("away"), || Ok(49)])).wait().unwrap(), 49);
-}
-
 /// What the answer waits for is cancelled with it.
 #[test]
 fn a_deadline_for_a_whole_request() {
     let clock = HandClock::new();
     let request = Request::with_clock("order 17", Arc::new(Inline), Arc::new(clock.clone())).deadline(Duration::from_secs(60));
-    let backend = request.promise::<u32>();
-    let answer = backend.clone().then(|cents| cents * 2);
+    let answer = request.promise::<u32>().then(|cents| cents * 2);
     clock.turn(Duration::from_secs(60));
-    assert!([answer, backend].iter().all(|stage| stage.wait().unwrap_err().is_cancelled()));
+    assert!(answer.wait().unwrap_err().is_cancelled());
 }
