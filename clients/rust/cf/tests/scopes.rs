@@ -205,6 +205,7 @@ fn who_joins_waits_for_all() {
                 move || value
             })
         }));
+        drop(scope.supply(|| 2).recover_compose(|_| unreachable!("it doesn't fail"))); // its relay is needed by nobody
         let open = deep.promise::<u32>();
         let settles = open.clone();
         let thread = thread::spawn(move || {
