@@ -35,7 +35,7 @@ fn ask(address: SocketAddr, path: &str, hangs_up: bool) -> String {
     let (mut stream, mut answer) = (TcpStream::connect(address).unwrap(), String::new());
     write!(stream, "GET {path} HTTP/1.1\r\nHost: localhost\r\nConnection: close\r\n\r\n").unwrap();
     if hangs_up {
-        while !ask(address, "/open", false).contains(": 0 price has run for ") {}
+        while !ask(address, "/open", false).contains(" price has run for ") {}
         return answer;
     }
     stream.read_to_string(&mut answer).unwrap();

@@ -226,7 +226,7 @@ struct Reading<'a> {
     ends: BTreeMap<u16, Outcome>,
     /// What functions failed with.
     failed: BTreeMap<u16, String>,
-    /// Of each stage whether another one waits for it, or a function attached it.
+    /// Of each stage whether another one waits for it, or a function attached it, or it is a scope.
     inner: Vec<bool>,
 }
 
@@ -241,8 +241,9 @@ impl<'a> Reading<'a> {
             it.read(place, word::decode(done.word), done.reply, &mut running);
             it.ends.extend(done.settled);
         }
-        let waited: Vec<u16> = it.shapes.iter().flat_map(|(_, of)| of.clone()).chain(history.relayed_stages()).collect();
-        waited.into_iter().for_each(|stage| it.inner[usize::from(stage)] = true);
+        let waited = it.shapes.iter().flat_map(|(_, of)| of.clone()).chain(history.relayed_stages());
+        let inner: Vec<u16> = waited.chain(history.scopes().iter().copied()).collect();
+        inner.into_iter().for_each(|stage| it.inner[usize::from(stage)] = true);
         it
     }
 

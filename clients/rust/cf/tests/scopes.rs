@@ -1,6 +1,6 @@
 //! Scopes: what ends with one, who ends it, and who waits for it.
 mod common;
-use cf::{is_stopping, AnyStage, Error, HandClock, Inline, Join, Meter, Pool, Refusal, Request, Retry, Scope, Stage};
+use cf::{is_stopping, AnyStage, Error, HandClock, Inline, Join, Meter, Pool, Refusal, Request, Retry, Scope, Stage, Status};
 use common::{comes_back, Counts, LONG};
 use std::future::{pending, Future};
 use std::iter::successors;
@@ -101,6 +101,20 @@ fn nothing_of_a_scope_is_left_open() {
     assert!(told.line().ends_with("; 0 open"), "{}", told.line());
     let _scope = request.clone().metered(&meter).scope();
     assert_eq!(meter.open_requests().len(), 0, "an open scope alone: nobody has to settle it");
+}
+
+/// A scope always ends by a cancellation or a time-out. What has failed is told by its stages.
+#[test]
+fn the_end_of_a_scope_is_no_failure() {
+    let request = Request::new("spans", Inline);
+    let scope = request.scope();
+    assert_eq!(scope.supply(|| 49).wait().unwrap(), 49);
+    scope.end();
+    assert_eq!(request.history().spans()[0].status, Status::Ok);
+    let scope = request.scope();
+    drop(scope.promise::<u32>());
+    drop(scope);
+    assert_eq!(request.history().spans()[0].status, Status::Error("cancelled".into()));
 }
 
 #[test]
