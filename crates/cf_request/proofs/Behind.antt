@@ -63,7 +63,7 @@ marks_one xs i old flags new l is h = subst (λ (now : List Bool). MarksAll (xs 
 
 -- ---- what is behind
 
-tests : (b : Bool) → (b ≡ true) ⊎ (b ≡ false)
+pub tests : (b : Bool) → (b ≡ true) ⊎ (b ≡ false)
 tests true = inl refl
 tests false = inr refl
 

@@ -56,7 +56,9 @@ use Rattle.cf_request.specs.Telling.{AreSettled, IsApart, Teller, Tells, is_sett
 use Rattle.cf_request.specs.declared.composing.Composed.{Composed}
 use Rattle.cf_request.specs.declared.joins.Join.{Join}
 use Rattle.cf_request.specs.declared.settling.Due.{Due}
+use Rattle.cf_request.proofs.Behind.{tests}
 use Rattle.cf_request.proofs.Decided.{decided_one, none_is, source_decides}
+use Rattle.cf_request.proofs.Ends.{some_of}
 use Rattle.cf_request.proofs.Later.{later_free, later_grown, later_then, later_word, state_later}
 use Rattle.cf_request.proofs.Linked.{Becomes, IsLinkedNow, IsLinkedTo, after_stages, becomes, both_open, get_there, linked_now}
 use Rattle.cf_request.proofs.Lists.{apart_append, contains_cases, contains_filter, contains_head, contains_tail}
@@ -197,10 +199,6 @@ linked_still stage other a b h link = record {
 outcome_since : (old new : Ledger) (i : ℕ) (o : Outcome) → IsLater old new → outcome_in (state_of old).stages i ≡ Some o → outcome_in (state_of new).stages i ≡ Some o
 outcome_since old new i o h is = ap (λ (s : State). outcome_in s.stages i) (state_later old new h) ∙ keeps_outcomes (roomier h.grown (state_of old)) h.more i o is
 
-some_of : (o : Option Outcome) → is_some o ≡ true → (x : Outcome) × (o ≡ Some x)
-some_of None h = cc
-some_of (Some x) h = (x, refl)
-
 settled_since : (old new : Ledger) (i : ℕ) → IsLater old new → is_settled_in (state_of old).stages i ≡ true → is_settled_in (state_of new).stages i ≡ true
 settled_since old new i h is = let was = some_of (outcome_in (state_of old).stages i) is in ap is_some (outcome_since old new i was.0 h was.1)
 
@@ -292,10 +290,6 @@ walk_more K follows more j a b h = record {
   fate = λ k o. elim (h.fate k o) [ inl still ↦ inl still | inr e ↦ inr (ended_more follows more j a b e) ];
   linked = h.linked;
 }
-
-tests : (b : Bool) → (b ≡ true) ⊎ (b ≡ false)
-tests true = inl refl
-tests false = inr refl
 
 -- this word settled it
 ended_now : (follows : List Join) (j : Join) (a b : Teller) (word : ℕ) (reply : Reply) → (t : Tells word a reply b) → is_settled_in (state_of a.ledger).stages j.stage ≡ false → is_settled_in (state_of b.ledger).stages j.stage ≡ true →

@@ -46,7 +46,7 @@ use Rattle.cf_request.proofs.Turns.{cancels_by, dues_none, keeps_dues}
 
 -- ---- none outlives its scope
 
-some_of : (o : Option Outcome) → is_some o ≡ true → (x : Outcome) × (o ≡ Some x)
+pub some_of : (o : Option Outcome) → is_some o ≡ true → (x : Outcome) × (o ≡ Some x)
 some_of None h = cc
 some_of (Some x) h = (x, refl)
 

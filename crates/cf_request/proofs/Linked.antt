@@ -36,6 +36,8 @@ use Rattle.cf_model.proofs.OpenClaims.{claim_before_close, claim_before_push, cl
 use Rattle.cf_model.proofs.StateLemmas.{after-unsettled, new_states-at, outcome_in-take, slice_get-set_other}
 use Rattle.cf_request.specs.Linked.{AreBothOpen, HasTaken, IsTick}
 use Rattle.cf_request.specs.Telling.{is_settled_in}
+use Rattle.cf_request.proofs.Ends.{some_of}
+use Rattle.cf_request.proofs.Turns.{set_at}
 
 -- a stage is linked to a lower one, and nobody has a claim of it
 pub record IsLinkedTo (stage other : ℕ) (s : State) : Type 0 where
@@ -109,11 +111,6 @@ after_other stage other s t d o e differs there h is unclaimed =
     let new = linked_new stage other s.plan.stages xs h.lower there (slice_get-set_other s.stages d stage (Settled o) differs ∙ h.link) in
     linked_by stage other t e (outcome_in t.stages other) h.lower refl
     (ap (λ (l : List Stage). slice_get l stage) is ∙ new ∙ ap (λ (l : List Stage). Some (linked_state other (outcome_in l other))) (sym is)) unclaimed
-
-set_at : (xs : List Stage) (i : ℕ) (y : Stage) → i < length xs → slice_get (set xs i y) i ≡ Some y
-set_at [] i y l = absurd (omega (arith, l))
-set_at (x ∷ xs) zero y l = refl
-set_at (x ∷ xs) (suc i) y l = set_at xs i y (omega (arith, l))
 
 -- itself
 after_itself : (stage other : ℕ) (s t : State) (o : Outcome) (e : Event) → IsClosed s → stage < length s.plan.stages → IsLinkedTo stage other s → t.stages ≡ new_states [] s.plan.stages (set s.stages stage (Settled o)) → Becomes stage other t e
@@ -200,10 +197,6 @@ settled_on None s d o i is on =
     let was = some_of (outcome_in s.stages i) on in
     ap (λ (l : List Stage). is_settled_in l i) (after_stages s d o is)
     ∙ ap is_some (new_states-settled [] s.plan.stages (set s.stages d (Settled o)) i was.0 (set-settled s.stages d i (Settled o) was.0 is was.1))
-  where
-    some_of : (o : Option Outcome) → is_some o ≡ true → (x : Outcome) × (o ≡ Some x)
-    some_of None h = cc
-    some_of (Some x) h = (x, refl)
 
 firing_on : (limits : List Limit) (count : ℕ) (s : State) (i : ℕ) → is_settled_in s.stages i ≡ true → is_settled_in ((firing count s limits).1.stages) i ≡ true
 firing_on [] count s i on = on

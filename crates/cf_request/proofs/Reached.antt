@@ -22,7 +22,8 @@ use Rattle.cf_request.specs.Endings.IsReached.{by_source, by_link}
 use Rattle.cf_request.specs.Joins.{IsUndecided, failures_by, has_failed, has_value, sources_of, values_by}
 use Rattle.cf_request.specs.Telling.{is_settled_in}
 use Rattle.cf_request.specs.declared.joins.Join.{Join}
-use Rattle.cf_request.proofs.Decided.{count_cons}
+use Rattle.cf_request.proofs.Behind.{tests}
+use Rattle.cf_request.proofs.Decided.{count_cons, none_is}
 use Rattle.cf_request.proofs.Linked.{get_some, get_there}
 use Rattle.cf_request.proofs.Lists.{contains_head, contains_tail}
 use Rattle.cf_request.proofs.Telling.{settled_within}
@@ -208,14 +209,6 @@ new_linked plan xs i k size e =
     let x = get_some xs i (omega (arith, there, len)) in
     let p = get_some plan i (omega (arith, there, len, size)) in
     new_linked_at plan xs i k p.0 x.0 p.1 x.1 e
-
-tests : (b : Bool) → (b ≡ true) ⊎ (b ≡ false)
-tests true = inl refl
-tests false = inr refl
-
-none_is : (o : Option Outcome) → is_some o ≡ false → o ≡ None
-none_is None h = refl
-none_is (Some o) h = cc
 
 -- one more stage that is reached is settled
 pub reaches_more : (follows : List Join) (scope : ℕ) (old now next : State) (d : ℕ) (o : Outcome) → Reaches follows scope old now → length now.stages ≡ length now.plan.stages → new_states [] now.plan.stages now.stages ≡ now.stages → outcome_in now.stages d ≡ None →

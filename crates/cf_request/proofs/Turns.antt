@@ -36,7 +36,7 @@ pub none_of : (o : Option Outcome) → is_some o ≡ false → o ≡ None
 none_of None h = refl
 none_of (Some o) h = cc
 
-set_at : (xs : List Stage) (i : ℕ) (y : Stage) → i < length xs → slice_get (set xs i y) i ≡ Some y
+pub set_at : (xs : List Stage) (i : ℕ) (y : Stage) → i < length xs → slice_get (set xs i y) i ≡ Some y
 set_at [] i y l = absurd (omega (arith, l))
 set_at (x ∷ xs) zero y l = refl
 set_at (x ∷ xs) (suc i) y l = set_at xs i y (omega (arith, l))
