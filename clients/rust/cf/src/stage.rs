@@ -71,6 +71,11 @@
 //! below it. Its finish links to the stage that its function gave, where that is a lower one of the request, and else to the
 //! relay.
 //!
+//! **Scopes.** A scope is a source. What is attached in it is joined to it under the same hold, before anybody can claim it, so that the machine
+//! cancels it once the scope is settled (`Inner::put_in`). `Scopes` (scopes.rs) notes which stages are of which scope, for what is attached behind
+//! them and for `Scope::join`. That waits for one stage after another, each of which the machine settles once all that is left has values or
+//! one of them has failed (`Core::left_of_scope`). A composing stage in a scope lets its relay go, so that nothing is left that nobody needs.
+//!
 //! **Deadlines.** The machine keeps them, by moments in nanoseconds since the request began, settles by the caller `CLOCK` what is
 //! due, and tells the next moment. A `StageLimit` says what its stage gets then: a value, or an error with the while that it had. The
 //! request asks its clock for one `Alarm` at a time, at the next moment (`AwaitedAlarm`). `Core::ring_alarm` lets time pass up to the
