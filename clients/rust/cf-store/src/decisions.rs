@@ -639,10 +639,13 @@ fn told_line(kind: &str, said: &str) -> String {
     }
 }
 
-/// The rows, where they are at hand: `CF_DECISIONS` names them, or they stand where this crate's sources come from.
+/// The rows: `CF_DECISIONS` names them, or they stand where this crate's sources come from. None where neither is so, as in a package.
 fn rows() -> String {
     let beside = Path::new(env!("CARGO_MANIFEST_DIR")).join("../../../conformance/stores/decisions.rows");
-    std::fs::read_to_string(std::env::var_os("CF_DECISIONS").map_or(beside, Into::into)).unwrap_or_default()
+    match std::env::var_os("CF_DECISIONS") {
+        Some(named) => std::fs::read_to_string(named).expect("CF_DECISIONS names the rows"),
+        None => std::fs::read_to_string(beside).unwrap_or_default(),
+    }
 }
 
 #[test]
