@@ -1,17 +1,17 @@
 -- What a turn does to what lies under the lock.
-use Rattle.std.proofs.Common.{◌≡◌, ℕ, ◌+◌, ◌-◌, ◌≤◌, ◌<◌, inl, inr, Option, Some, None, List, [], ◌∷◌, ◌++◌, map, refl, sym, ap, ◌∙◌, subst, arith}
+use Rattle.std.proofs.Common.{◌≡◌, ℕ, ◌+◌, ◌≤◌, ◌<◌, inl, inr, Option, Some, None, List, [], ◌∷◌, ◌++◌, map, refl, sym, ap, ◌∙◌, subst, arith}
 use Rattle.std.specs.Prelude.{Err, IfErr, IfNone, IfOk, Ok, OnErr, Result}
 use Rattle.cf_ledger.specs.declared.faults.StepFault.{StepFault}
 use Rattle.cf_ledger.specs.declared.step.Held.{Held}
 use Rattle.cf_ledger.specs.declared.step.Taken.{Taken}
 use Rattle.cf_request.specs.Lanes.{NothingIsReady}
 use Rattle.cf_request.specs.Machines.{IsNoNext, Machine, OnlyFinds}
-use Rattle.cf_request.specs.Rows.{AddsBehind, AreCalls, IsCall, Job, Out, RunsOnce, all_jobs, job_of, nothing, stage_of}
+use Rattle.cf_request.specs.Rows.{AddsBehind, AreCalls, IsCall, Out, RunsOnce, all_jobs, job_of, nothing, stage_of}
 use Rattle.cf_request.specs.Rows.IsCall.{goes_on, is_refused}
 use Rattle.cf_request.specs.Telling.{IsApart}
 use Rattle.cf_threads.specs.Desks.{IsKept, IsQuiet}
 use Rattle.cf_threads.specs.Slips.{AreAmong, IsFair, IsKeeper, IsSlip, all_parts, keeper, slip, with_slip}
-use Rattle.cf_threads.specs.Turns.{AreTurns, GoesOnWith, Holds, Steps, begun, ended, held_in, jobs_of, jobs_told, one, refused, refused_by, stage_taken, weigh, weigh_held, weigh_told}
+use Rattle.cf_threads.specs.Turns.{AreTurns, GoesOnWith, Holds, Steps, begun, ended, jobs_of, jobs_told, one, refused, stage_taken, weigh, weigh_held, weigh_told}
 use Rattle.cf_threads.specs.declared.place.Place.{Place}
 use Rattle.cf_threads.specs.declared.slips.View.{View}
 use Rattle.cf_threads.specs.declared.turn.Turn.{Turn}
@@ -122,11 +122,6 @@ fair_noted v w u turn keeps is joined holds =
 pub fair_cut : (v w u x : View) (turn : Turn) → IsKeeper v → u ≡ with_slip v w → x.mine ≡ u.mine ++ turn ∷ [] → Holds turn.held w.mine → IsFair 1 x.mine
 fair_cut v w u x turn keeps joined taken holds =
     subst (IsFair 1) (sym (taken ∙ ap (λ (l : List Turn). l ++ turn ∷ []) (mine_noted v w u keeps joined))) (fair_turn turn.held turn.next w.mine holds)
-
-pub among_noted : (v w u : View) (turn : Turn) → IsKeeper v → u ≡ with_slip v w → AreAmong (u.mine ++ turn ∷ []) (u.all ++ turn ∷ []) → AreAmong (w.mine ++ turn ∷ []) (v.all ++ turn ∷ [])
-among_noted v w u turn keeps joined among =
-    subst (λ (l : List Turn). AreAmong (l ++ turn ∷ []) (v.all ++ turn ∷ [])) (mine_noted v w u keeps joined)
-    (subst (λ (l : List Turn). AreAmong (u.mine ++ turn ∷ []) (l ++ turn ∷ [])) (ap (λ (x : View). x.all) joined) among)
 
 -- what a turn tells, and what is told and held after it
 pub record AfterTurn (held : Option Held) (next : Result (Option Taken) StepFault) (all : List Turn) : Type 0 where

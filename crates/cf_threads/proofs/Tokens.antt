@@ -1,12 +1,12 @@
 -- Each step of a slip keeps what all slips share.
-use Rattle.std.proofs.Common.{◌≡◌, ◌≢◌, ◌⊎◌, ℕ, zero, suc, ◌+◌, ◌-◌, ◌≤◌, ◌<◌, List, [], ◌∷◌, ◌++◌, set, true, false, true≢false, refl, sym, ap, ◌∙◌, subst, ⊎_elim, arith}
+use Rattle.std.proofs.Common.{◌≡◌, ◌≢◌, ◌⊎◌, ℕ, zero, suc, ◌+◌, ◌≤◌, ◌<◌, List, [], ◌∷◌, ◌++◌, set, true, false, true≢false, refl, sym, ap, ◌∙◌, subst, ⊎_elim, arith}
 use mathlib.Core.Option.{some, some-ne-none, some-injective}
 use lib.ListN.{get_elem?}
 use Rattle.crossbeam_utils.specs.Register.{Turns, Forks, Merges}
 use Rattle.atomic_table.proofs.Lists.{at_set, at_snoc, set_again}
 use Rattle.cf_threads.specs.declared.slips.View.{View}
 use Rattle.cf_threads.specs.declared.turn.Turn.{Turn}
-use Rattle.cf_threads.specs.Slips.{AreAmong, IsCompared, IsFair, IsIn, IsShared, TakesTurn, all_parts, keeper, slip, spent, with_slip, without_slip}
+use Rattle.cf_threads.specs.Slips.{IsCompared, IsFair, IsIn, IsShared, TakesTurn, all_parts, keeper, slip, spent, with_slip, without_slip}
 use Rattle.cf_threads.specs.Turns.{begun, ended, one, weigh}
 use Rattle.cf_threads.proofs.Sums.{gap_in_sum, less_in_sum, one_of_sum, weigh_append, weigh_both, weigh_push, weigh_set}
 

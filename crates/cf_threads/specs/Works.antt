@@ -1,5 +1,5 @@
 -- What one thread does between its turns.
-use Rattle.std.specs.Prelude.{◌≡◌, ℕ, Option, Some, None, Result, Ok, Err, List, [], ◌∷◌, ◌++◌, unwrap_or}
+use Rattle.std.specs.Prelude.{◌≡◌, Option, Some, None, Result, Ok, Err, List, [], ◌∷◌, ◌++◌, unwrap_or}
 use Rattle.cf_forms.specs.declared.forms.Answer.{Answer}
 use Rattle.cf_model.specs.Calling.{CallsOf}
 use Rattle.cf_ledger.specs.declared.faults.StepFault.{StepFault}

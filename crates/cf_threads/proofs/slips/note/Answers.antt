@@ -1,7 +1,7 @@
 use Rattle.std.proofs.Common.{ap, ◌∙◌, rules}
 use Rattle.crossbeam_utils.specs.Seq.{cell_view}
 use Rattle.cf_threads.specs.declared.slips.View.{View}
-use Rattle.cf_threads.proofs.Kept.{among_noted, fair_cut, fair_noted}
+use Rattle.cf_threads.proofs.Kept.{fair_cut, fair_noted}
 use Rattle.cf_threads.proofs.Tokens.{cuts, joins}
 use Rattle.cf_threads.proofs.slips.note.Goals as goal
 

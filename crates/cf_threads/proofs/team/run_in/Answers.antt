@@ -2,7 +2,6 @@ use Rattle.std.proofs.Common.{◌≡◌, ℕ, sym, ap, ◌∙◌, subst, rules}
 use Rattle.std.specs.List.{All, AllZip}
 use Rattle.atomic_table.specs.Seated.{TableId}
 use Rattle.cf_request.specs.Machines.{Machine}
-use Rattle.crossbeam_utils.specs.Seq.{cell_view}
 use Rattle.cf_request.specs.Lanes.{NothingIsReady}
 use Rattle.cf_threads.specs.Teams.{HasEnded, IsBack, IsDealt, turns_of}
 use Rattle.cf_threads.specs.Turns.{AreTurns, weigh}
