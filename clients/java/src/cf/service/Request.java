@@ -705,17 +705,20 @@ public final class Request extends StageFactory implements AutoCloseable {
         Stage<U> root = null;
         FollowUps followUps = new FollowUps(watch);
         Link[] links = new Link[countForeign(of)];
-        if (hasPlace(of.length - 1 + links.length)) {
-            Stage<?>[] row = new Stage<?>[of.length];
-            boolean isWhole = adoptAll(scope, of, row, links);
-            synchronized (lock()) {
-                requireOpen(scope);
-                if (isWhole && machine.hasPlace(of.length - 1)) {
-                    root = attachGathered(scope, form, row, followUps);
+        try {
+            if (hasPlace(of.length - 1 + links.length)) {
+                Stage<?>[] row = new Stage<?>[of.length];
+                boolean isWhole = adoptAll(scope, of, row, links);
+                synchronized (lock()) {
+                    requireOpen(scope);
+                    if (isWhole && machine.hasPlace(of.length - 1)) {
+                        root = attachGathered(scope, form, row, followUps);
+                    }
                 }
             }
+        } finally {
+            removeOnceSettled(links, root);
         }
-        removeOnceSettled(links, root);
         if (root == null) {
             return openFurther(scope).attachGathering(null, form, of);
         }
@@ -754,16 +757,19 @@ public final class Request extends StageFactory implements AutoCloseable {
         FollowUps followUps = new FollowUps(watch);
         Link[] links = new Link[countForeign(of)];
         Stage<?>[] row = new Stage<?>[of.length];
-        if (of.length <= Machine.MOST_STAGES && hasPlace(1 + links.length)) {
-            boolean isWhole = adoptAll(scope, of, row, links);
-            synchronized (lock()) {
-                requireOpen(scope);
-                if (isWhole && machine.hasPlace(1)) {
-                    join = attachJoined(scope, wanted, row, followUps);
+        try {
+            if (of.length <= Machine.MOST_STAGES && hasPlace(1 + links.length)) {
+                boolean isWhole = adoptAll(scope, of, row, links);
+                synchronized (lock()) {
+                    requireOpen(scope);
+                    if (isWhole && machine.hasPlace(1)) {
+                        join = attachJoined(scope, wanted, row, followUps);
+                    }
                 }
             }
+        } finally {
+            removeOnceSettled(links, join);
         }
-        removeOnceSettled(links, join);
         if (join == null) {
             return openFurther(scope).attachJoin(null, wanted, of);
         }
@@ -950,23 +956,26 @@ public final class Request extends StageFactory implements AutoCloseable {
         Stage<U> stage = null;
         FollowUps followUps = null;
         Link[] links = foreign == 0 ? NO_LINKS : new Link[2];
-        if (foreign == 0 || hasPlace(1 + foreign + (form.composes ? 1 : 0))) {
-            Stage<?> a = stageOrRelay(scope, form, first, links, 0), b = stageOrRelay(scope, form, second, links, 1);
-            // What went to a further request is of no use here.
-            if ((a == null || a.request == this) && (b == null || b.request == this)) {
-                synchronized (lock()) {
-                    requireOpen(scope);
-                    if (machine.hasPlace(form.composes ? 2 : 1)) {
-                        if (!mayWait(form, a, b)) {
-                            checkDepth();
-                            followUps = new FollowUps(watch);
+        try {
+            if (foreign == 0 || hasPlace(1 + foreign + (form.composes ? 1 : 0))) {
+                Stage<?> a = stageOrRelay(scope, form, first, links, 0), b = stageOrRelay(scope, form, second, links, 1);
+                // What went to a further request is of no use here.
+                if ((a == null || a.request == this) && (b == null || b.request == this)) {
+                    synchronized (lock()) {
+                        requireOpen(scope);
+                        if (machine.hasPlace(form.composes ? 2 : 1)) {
+                            if (!mayWait(form, a, b)) {
+                                checkDepth();
+                                followUps = new FollowUps(watch);
+                            }
+                            stage = attachHere(scope, form, a, b, carried, executor, minimal, followUps);
                         }
-                        stage = attachHere(scope, form, a, b, carried, executor, minimal, followUps);
                     }
                 }
             }
+        } finally {
+            removeOnceSettled(links, stage);
         }
-        removeOnceSettled(links, stage);
         if (stage == null) {
             return openFurther(scope).attach(null, form, first, second, carried, executor, minimal);
         }

@@ -70,6 +70,7 @@ public final class AllTests {
         test("what is told of joins", JoinsTest::told);
         test("joins in threads", JoinsTest::inThreads);
         test("scopes", ScopesTest::ends);
+        test("scopes that end meanwhile", ScopesTest::endsMeanwhile);
         test("scopes that end with a stage", ScopesTest::endsWith);
         test("limits of scopes and requests", ScopesTest::limits);
         test("who waits for a scope", ScopesTest::joins);

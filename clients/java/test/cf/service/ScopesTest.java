@@ -15,6 +15,7 @@ import java.util.Random;
 import java.util.concurrent.CancellationException;
 import java.util.concurrent.CompletableFuture;
 import java.util.concurrent.CompletionException;
+import java.util.concurrent.CompletionStage;
 import java.util.concurrent.CountDownLatch;
 import java.util.concurrent.ExecutorService;
 import java.util.concurrent.Executors;
@@ -22,6 +23,8 @@ import java.util.concurrent.TimeUnit;
 import java.util.concurrent.TimeoutException;
 import java.util.concurrent.atomic.AtomicInteger;
 import java.util.concurrent.atomic.AtomicReference;
+import java.util.function.BiConsumer;
+import java.util.function.BiFunction;
 
 /** Scopes: what is of one, and by what it ends. */
 final class ScopesTest {
@@ -70,6 +73,25 @@ final class ScopesTest {
         Checks.fits(request.history().account());
         is(scope.endsWith(outside), outside);
         thrown(IllegalArgumentException.class, () -> scope.endsWith(other));
+    }
+
+    /** Where a scope ends while relays are made for a stage, the stage isn't attached, and futures elsewhere keep nothing. */
+    static void endsMeanwhile() {
+        List<BiFunction<Scope, CompletionStage<?>[], Stage<?>>> ways = Arrays.asList(Scope::allOf, (scope, of) -> scope.all(of),
+                (scope, of) -> scope.<Object>promise().runAfterBoth(of[1], () -> { }));
+        for (BiFunction<Scope, CompletionStage<?>[], Stage<?>> way : ways) {
+            Scope scope = INLINE.request().scope();
+            CompletableFuture<Object> future = new CompletableFuture<>(), ending = new CompletableFuture<Object>() {
+                @Override
+                public CompletableFuture<Object> whenComplete(BiConsumer<? super Object, ? super Throwable> action) {
+                    scope.end();
+                    return super.whenComplete(action);
+                }
+            };
+            CompletionStage<?>[] of = {future, ending, scope.promise()};
+            thrown(ScopeEndedException.class, () -> way.apply(scope, of));
+            is(future.getNumberOfDependents(), 0);
+        }
     }
 
     /** A scope ends with a stage, also one that is settled; the losers of a race are cancelled in the same call. */
