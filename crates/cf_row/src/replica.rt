@@ -83,10 +83,12 @@ impl Replica {
         ensures { IfOk result (λ r.
             r ≡ record { plan = with_room plan.now room; session = session; seen = []; records = []; free = 0 }) }
     {
-        let ledger = Ledger::new(alloc, plan, room)?;
+        let opening = plan.share()?;
         let grown = GrowingPlan::new(alloc, plan.share()?, room)?;
+        // (last, since a way out at which a ledger is dropped is dear to prove)
+        let ledger = Ledger::new(alloc, plan, room)?;
         Ok(Replica {
-            opening: plan.share()?,
+            opening,
             room,
             ledger,
             grown,
