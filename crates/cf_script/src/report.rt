@@ -69,6 +69,22 @@ pub(crate) fn write_stages(text: &mut String, graph: &mut Graph) -> Result<(), A
     Ok(())
 }
 
+/// Adds the lines of steps, in order, and then those of all stages as they leave the graph.
+fn write_lines(
+    text: &mut String,
+    graph: &mut Graph,
+    functions: &[Func],
+    steps: &[Step],
+) -> Result<(), AllocError>
+    requires { StepsFit (extent_of graph.old.state.plan) steps.now }
+    ensures { OnOk result
+        (string_bytes text.new ≡ (string_bytes text.old ++ steps_lines functions.now graph.old.state steps.now)
+        ++ stages_lines (after_steps functions.now graph.old.state steps.now)) }
+{
+    write_steps(text, graph, functions, steps)?;
+    write_stages(text, graph)
+}
+
 /// The report of a script, whole.
 pub(crate) fn report_of(alloc: Global, script: Script) -> Result<String, AllocError>
     ensures { IfOk result (λ text. string_bytes text ≡ report script) }
@@ -76,7 +92,9 @@ pub(crate) fn report_of(alloc: Global, script: Script) -> Result<String, AllocEr
     let (plan, room, functions, steps) = script.into_parts();
     let mut graph = Graph::new_growing(alloc, plan, room)?;
     let mut text = String::new(alloc);
-    write_steps(&mut text, &mut graph, &functions, &steps)?;
-    write_stages(&mut text, &mut graph)?;
+    let written = write_lines(&mut text, &mut graph, &functions, &steps);
+    // (by one call, since a graph that is let go at a way out is dear to prove)
+    drop(graph);
+    written?;
     Ok(text)
 }
