@@ -522,6 +522,8 @@ class Retries(Case):
 
 
 class OnLoops(unittest.TestCase):
+    begun = 0
+
     def run_on(self, body, **given):
         async def main():
             service = LoopService(asyncio.get_running_loop(), **given)
@@ -529,8 +531,8 @@ class OnLoops(unittest.TestCase):
 
         asyncio.run(main())
 
-    @staticmethod
-    async def cleans(ends, error=None):
+    async def cleans(self, ends, error=None):
+        self.begun += 1
         try:
             await asyncio.sleep(20)
         finally:
@@ -538,6 +540,12 @@ class OnLoops(unittest.TestCase):
             ends.append(1)
             if error:
                 raise error
+
+    async def until_begun(self, many):
+        """Until so many coroutines that clean have begun; from then on they are counted anew."""
+        while self.begun < many:
+            await asyncio.sleep(0.001)
+        self.begun = 0
 
     def test_a_first_success(self):
         async def body(_, request):
@@ -565,16 +573,16 @@ class OnLoops(unittest.TestCase):
             async def ends_normally(_):
                 pass
 
-            for wait in (lambda scope: scope.supply(self.cleans, ends), lambda _: asyncio.sleep(20), ends_normally):
+            for wait, many in ((lambda scope: scope.supply(self.cleans, ends), 2), (lambda _: asyncio.sleep(20), 1), (ends_normally, 1)):
                 ends.clear()
                 handler = asyncio.ensure_future(handle(wait))
-                await asyncio.sleep(0.02)
+                await self.until_begun(many)
                 handler.cancel()
                 await asyncio.sleep(0.005)
                 handler.cancel()  # while coroutines end, too
                 with self.assertRaises(asyncio.CancelledError):
                     await handler
-                self.assertIn(len(ends), (1, 2))
+                self.assertEqual(len(ends), many)
                 self.assertEqual(request.waits(), [])
 
         self.run_on(body)
@@ -596,8 +604,9 @@ class OnLoops(unittest.TestCase):
             error = ValueError()
             with self.assertRaises(ValueError):
                 async with request.scope() as scope:
+                    self.begun = 0
                     scope.supply(self.cleans, ends, late)
-                    await asyncio.sleep(0.01)
+                    await self.until_begun(1)
                     raise error
             self.assertEqual(len(ends), 3)
             if sys.version_info >= (3, 11):
