@@ -230,7 +230,7 @@ class Attaching:
         delay: float = 0.1,
         factor: float = 2,
         jitter: bool = True,
-        on: "Union[Type[BaseException], Tuple[Type[BaseException], ...]]" = (OSError,),
+        on: "Union[Type[BaseException], Tuple[Type[BaseException], ...]]" = Exception,
     ) -> "Stage[T]":
         """Calls a function, and calls it again as long as it fails. No thread waits during a pause.
 
@@ -242,7 +242,7 @@ class Attaching:
             delay: How many seconds the first pause takes.
             factor: How many times longer each further pause is.
             jitter: Whether a pause is a random part of that, at least half. In `cf.testing` it is all.
-            on: What is tried again. Any other exception fails at once.
+            on: What is tried again: an exception class, or a tuple of such. Any other exception fails at once.
 
         Returns:
             A stage that ends with the function's value, or with the exception of the last try. This has the earlier ones as

@@ -470,8 +470,10 @@ class Retries(Case):
         else:
             self.assertEqual(failures(errors[2]), [errors[2], *errors[:2]])
         call, calls = self.flaky(Oops(), OSError())
-        self.assertIsInstance(self.request.retry(call, delay=0).exception(20), Oops)
+        self.assertIsInstance(self.request.retry(call, delay=0, on=OSError).exception(20), Oops)
         self.assertEqual(len(calls), 1)
+        call, calls = self.flaky(Oops(), KeyError())
+        self.assertEqual(self.request.retry(call, delay=0).result(20), "paid")
         call, calls = self.flaky(Oops(), OSError())
         self.assertIsInstance(self.request.retry(call, delay=0, times=2, on=(Oops, KeyError)).exception(20), OSError)
         self.assertEqual(self.request.retry(self.flaky(Oops())[0], delay=0, on=Oops).then(str.upper).result(20), "PAID")

@@ -7,6 +7,6 @@ public final class ScopeEndedException extends IllegalStateException {
     private static final long serialVersionUID = 1;
 
     ScopeEndedException(String request, String scope) {
-        super(Text.escape("nothing can be attached in \"" + scope + "\" of \"" + request + "\", which has ended: attach it to the request"));
+        super(Text.escape("nothing can be attached in \"" + scope + "\" of \"" + request + "\", which has ended"));
     }
 }
