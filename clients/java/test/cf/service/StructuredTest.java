@@ -156,8 +156,10 @@ final class StructuredTest {
 
         AtomicInteger failures = new AtomicInteger();
         Sleeper third = new Sleeper();
+        CountDownLatch attached = new CountDownLatch(1);
         try (Request request = SERVICE.request("until"); Scope scope = request.scope()) {
             Supplier<String> fails = () -> {
+                Checks.await(attached);
                 Checks.await(third.begun);
                 throw new IllegalStateException("broken");
             };
@@ -169,6 +171,7 @@ final class StructuredTest {
                     }
                 }).exceptionally(error -> null);
             }
+            attached.countDown();
             scope.join();
         }
         is(failures.get() >= 2 && third.isInterrupted, true);
