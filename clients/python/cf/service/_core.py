@@ -28,7 +28,7 @@ if TYPE_CHECKING:
     from .request import Works
     from .stage import Stage
 
-set_caller = _cf.set_caller
+set_caller, is_thread_stopping = _cf.set_caller, _cf.is_stopping
 _LONGEST = 9e9  # seconds, over 280 years
 if hasattr(os, "register_at_fork"):
     os.register_at_fork(after_in_child=_cf.forked)

@@ -3,8 +3,7 @@ import contextvars
 import functools
 from typing import Any, Callable, Dict, Optional, Tuple
 
-from .. import _cf
-from ._core import RequestCore
+from ._core import RequestCore, is_thread_stopping
 from .request import Request
 from .stage import Stage
 from .words import COMPOSE_FORMS, GIVES, PENDING, THROWS
@@ -25,7 +24,7 @@ def is_stopping() -> bool:
                 write(row)
 
     It may be called anywhere, and takes a fraction of a microsecond. Outside a stage's function it is False."""
-    told = _cf.is_stopping()
+    told = is_thread_stopping()
     if told is not None:
         return told
     stage = AT_WORK.get()

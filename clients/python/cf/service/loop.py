@@ -16,7 +16,7 @@ from .service import ROOM
 from .stage import Stage
 from .waits import LoopWaker
 from .watch import Watch, WatchedRequest
-from .words import COMPOSE_FORMS, FIRST_WORKER, GIVES, THROWS
+from .words import COMPOSE_FORMS, FIRST_WORKER, GIVES, THROWS, ScopeEnded
 
 if TYPE_CHECKING:
     from typing_extensions import ParamSpec
@@ -167,7 +167,7 @@ class _LoopWorks(LoopWaker):
             value = await given
         except BaseException as error:
             stage.__dict__.pop("_task", None)
-            if stage._ended and not isinstance(error, asyncio.CancelledError):
+            if stage._ended and not isinstance(error, (asyncio.CancelledError, ScopeEnded)):  # (by these it was told so)
                 stage.__dict__["_late"] = error
             goes_on = self._raised(stage, error)
         else:
