@@ -589,6 +589,30 @@ class OnLoops(unittest.TestCase):
 
         self.run_on(body)
 
+    def test_a_coroutine_that_attaches_behind_the_end(self):
+        """It goes on before it is cancelled, and is refused. That is no failure of its own."""
+
+        async def body(_, request):
+            goes, refused = asyncio.get_running_loop().create_future(), []
+
+            async def attaches(scope):
+                self.begun += 1
+                await goes
+                try:
+                    scope.promise()
+                except ScopeEnded:
+                    refused.append(scope)
+                    raise
+
+            async with request.scope() as scope:
+                scope.supply(attaches, scope)
+                await self.until_begun(1)
+                goes.set_result(None)
+                scope.end()
+            self.assertEqual(refused, [scope])
+
+        self.run_on(body)
+
     def test_what_coroutines_raise_as_they_end(self):
         async def body(_, request):
             ends, late = [], Oops("late")
