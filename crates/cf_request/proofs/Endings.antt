@@ -649,16 +649,9 @@ claim_since old new i w h settled now =
 
 -- ---- which are told as stops
 
-stopped_by : (b : Bool) (c : Option ℕ) → is_some (cond b c None) ≡ true → (w : ℕ) × (c ≡ Some w)
-stopped_by true (Some w) h = (w, refl)
-stopped_by true None h = cc
-stopped_by false c h = (let no : false ≡ true = h in cc)
-
-stopped_since : (old new : Ledger) (i : ℕ) → IsLater old new → is_settled_in (state_of old).stages i ≡ true → is_some (stopped_in (state_of new) i) ≡ true → is_some (stopped_in (state_of old) i) ≡ true
-stopped_since old new i h settled is =
-    let now = stopped_by (is_settled_in (state_of new).stages i) (claim_at (state_of new) i) is in
-    let then = claim_since old new i now.0 h settled now.1 in
-    ap (λ (b : Bool). is_some (cond b (claim_at (state_of old) i) None)) settled ∙ ap is_some then
+stopped_since : (old new : Ledger) (i w : ℕ) → IsLater old new → is_settled_in (state_of old).stages i ≡ true → claim_at (state_of new) i ≡ Some w → is_some (stopped_in (state_of old) i) ≡ true
+stopped_since old new i w h settled is =
+    ap (λ (b : Bool). is_some (cond b (claim_at (state_of old) i) None)) settled ∙ ap is_some (claim_since old new i w h settled is)
 
 pub calls_of : (old new : Machine) (outs : List Out) (stops : List ℕ) → AreStops old outs stops new → AreCalls old outs new
 calls_of old new [] stops h = h.1
@@ -696,17 +689,17 @@ settled_told old new out i order one h =
     let in_told = All-contains (Contains old.teller.told) out.told i (told_by old new out one) h in
     All-contains (λ (k : ℕ). is_settled_in (state_in old).stages k ≡ true) (order_in old.teller) i all (Contains-append_right old.teller.taken old.teller.told i in_told)
 
--- each stop that is open still was told
-pub all_stops : (old new : Machine) (outs : List Out) (stops : List ℕ) (i : ℕ) → AreSettled old.teller.ledger (order_in old.teller) → AreStops old outs stops new → Contains (all_told outs) i → is_some (stopped_in (state_in new) i) ≡ true → Contains stops i
-all_stops old new [] stops i order h told is = (let l = told.1 in absurd (omega (arith, l)))
-all_stops old new (out ∷ outs) stops i order (between, rest, same, one, more) told is =
+-- each whose claim is open still was told as a stop
+pub all_stops : (old new : Machine) (outs : List Out) (stops : List ℕ) (i w : ℕ) → AreSettled old.teller.ledger (order_in old.teller) → AreStops old outs stops new → Contains (all_told outs) i → claim_at (state_in new) i ≡ Some w → Contains stops i
+all_stops old new [] stops i w order h told is = (let l = told.1 in absurd (omega (arith, l)))
+all_stops old new (out ∷ outs) stops i w order (between, rest, same, one, more) told is =
     let s = state_in old in
     let p = λ (k : ℕ). is_some (stopped_in s k) in
     let later = (adds_behind old new (out ∷ outs) (between, one, calls_of between new outs rest more)).later in
     subst (λ (l : List ℕ). Contains l i) (sym same) (elim (Contains-append_cases out.told (all_told outs) i told) [
       | inl here ↦ Contains-append_left (stops_of s out.told) rest i
-          (contains_filter p out.told i (stopped_since old.teller.ledger new.teller.ledger i later (settled_told old between out i order one here) is) here)
-      | inr there ↦ Contains-append_right (stops_of s out.told) rest i (all_stops between new outs rest i (settled_call old between out one order) more there is)
+          (contains_filter p out.told i (stopped_since old.teller.ledger new.teller.ledger i w later (settled_told old between out i order one here) is) here)
+      | inr there ↦ Contains-append_right (stops_of s out.told) rest i (all_stops between new outs rest i w (settled_call old between out one order) more there is)
     ])
 
 -- none is told twice

@@ -1,8 +1,8 @@
 -- Scopes, and how they end.
-use Rattle.std.proofs.Common.{◌≡◌, ℕ, ◌+◌, ◌<◌, ◌≤◌, Bool, true, false, Option, Some, None, List, [], ◌∷◌, ◌++◌, All, length, map, refl, ap, sym, ◌∙◌, arith, subst, inl, inr, ◌⊎◌}
+use Rattle.std.proofs.Common.{◌≡◌, ℕ, ◌+◌, ◌<◌, ◌≤◌, Bool, true, false, Option, Some, None, List, [], ◌∷◌, ◌++◌, All, Contains, length, map, refl, ap, sym, ◌∙◌, arith, subst}
 use Rattle.std.specs.Prelude.{is_some, slice_get}
 use Rattle.std.proofs.Math.Nat.{le-max_left}
-use Rattle.std.proofs.lemmas.List.Elements.{All-cons, All-contains, All-head, All-nil, All-push, All-tail, All-weaker}
+use Rattle.std.proofs.lemmas.List.Elements.{All-cons, All-contains, All-head, All-nil, All-push, All-tail, All-weaker, Contains-append_right}
 use Rattle.cf_outcome.specs.declared.outcome.Outcome.{Outcome}
 use Rattle.cf_forms.specs.declared.forms.Form.{Form}
 use Rattle.cf_forms.specs.declared.forms.Of.{Of}
@@ -24,7 +24,7 @@ use Rattle.cf_ledger.specs.Ledgers.{HasRoomFor, IsShort, LedgerRefuses, stages_o
 use Rattle.cf_ledger.specs.declared.faults.LedgerFault.{LedgerFault}
 use Rattle.cf_request.specs.Attaching.{TellsAttach}
 use Rattle.cf_request.specs.Joins.{IsJoin, IsOfOne, sources_of}
-use Rattle.cf_request.specs.Machines.{AppliesWord, AreBothThere, IsMachine, IsNoFollow, IsShortFor, Machine, NoRelayFits, OnlyFinds, SetsJoin, free_in, most_words, stages_in, state_in, waiting_in}
+use Rattle.cf_request.specs.Machines.{AppliesWord, IsMachine, Machine, OnlyFinds, SetsJoin, SetsOne, free_in, most_words, stages_in, state_in, waiting_in}
 use Rattle.cf_request.specs.Relays.{AreRelays, AreThere, IsNotBehind, IsRelayDue, MarksAll, NoneBehind, waiting_of}
 use Rattle.cf_request.specs.Rows.{AreCalls, IsCall, Job, all_jobs, nothing, stage_of}
 use Rattle.cf_request.specs.Rows.IsCall.{applies, sets_join}
@@ -32,8 +32,6 @@ use Rattle.cf_request.specs.Scopes.{AttachesFound, AttachesIn, FindsPlace, HasEn
 use Rattle.cf_request.specs.Scopes.IsWithin.{outer, inner}
 use Rattle.cf_request.specs.Telling.{Teller, TellsWord, is_settled_in}
 use Rattle.cf_request.specs.declared.deadlines.Deadline.{Deadline}
-use Rattle.cf_request.specs.declared.faults.MachineFault.{MachineFault}
-use Rattle.cf_request.specs.declared.faults.MachineFault.TheVariants.{NoMemory, NoStage, Past, Full}
 use Rattle.cf_request.specs.declared.joins.Join.{Join}
 use Rattle.cf_request.specs.declared.relays.Relays.{Relays}
 use Rattle.cf_request.proofs.Attached.{AreAttaches, AttachesRow, applies_attach, call_found, found_none, none_refused, none_row, row_of, tells_attach, waiting_less}
@@ -115,12 +113,13 @@ ends_now who scope old new reply read there h =
 
 -- ---- a stage is put in
 
-pub put_short : (scope stage : ℕ) (m : Machine) (fault : MachineFault) → AreBothThere stage scope m → IsNoFollow stage scope m fault → IsShortFor 1 m ⊎ NoRelayFits m
-put_short scope stage m NoMemory there (inl short) = inl short
-put_short scope stage m NoMemory there (inr none) = inr none.2
-put_short scope stage m NoStage there not = absurd (not there)
-put_short scope stage m Past there h = absurd h
-put_short scope stage m Full there h = absurd h
+-- it is of the scope then
+pub of_sets : (scope stage : ℕ) (old new : Machine) → SetsOne stage scope true old new → IsOf new.follows scope stage
+of_sets scope stage old new h = record {
+  join = h.join;
+  among = subst (λ (l : List Join). Contains l h.join) (sym h.sets.set) (Contains-append_right old.follows (h.join ∷ []) h.join (0, omega arith, refl));
+  is = h.is;
+}
 
 -- this join of one may be set
 pub tie_is : (n scope stage : ℕ) (j : Join) → IsOfOne stage scope true j → stage < n → scope < n → IsJoin n j

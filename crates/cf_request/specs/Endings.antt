@@ -6,7 +6,7 @@ use Rattle.cf_model.specs.declared.events.Event.TheVariants.{Cancel as Cancels}
 use Rattle.cf_model.specs.declared.events.Reply.{Reply}
 use Rattle.cf_forms.specs.Plans.{sources_at}
 use Rattle.cf_model.specs.declared.stage.Stage.TheVariants.{Linked}
-use Rattle.cf_model.specs.States.{State, outcome_in}
+use Rattle.cf_model.specs.States.{State, claim_at, outcome_in}
 use Rattle.cf_ledger.specs.Ledgers.{state_of}
 use Rattle.cf_request.specs.Joins.{IsUndecided, sources_of}
 use Rattle.cf_request.specs.Machines.{Machine, SetsJoin, state_in}
@@ -97,11 +97,11 @@ AreStops old [] stops new = (stops ≡ []) × (new ≡ old)
 AreStops old (out ∷ outs) stops new =
     (between : Machine) × (rest : List ℕ) × (stops ≡ stops_of (state_in old) out.told ++ rest) × IsCall old out between × AreStops between outs rest new
 
--- none is told twice, and each claim of a stage that was told is among them if it is open still
+-- none is told twice, and a stage that was told is among them if its claim is open still
 pub record AreStopsOnce (outs : List Out) (stops : List ℕ) (new : Machine) : Type 0 where
   pub apart : IsApart stops
   pub told : All (Contains (all_told outs)) stops
-  pub all : (i : ℕ) → Contains (all_told outs) i → is_some (stopped_in (state_in new) i) ≡ true → Contains stops i
+  pub all : (i who : ℕ) → Contains (all_told outs) i → claim_at (state_in new) i ≡ Some who → Contains stops i
 
 abbrev pub StopsOnce : Type 0
 StopsOnce = (old new : Machine) (outs : List Out) (stops : List ℕ) → IsOpened old → AreStops old outs stops new → AreStopsOnce outs stops new

@@ -8,7 +8,7 @@ ghost use Rattle.cf_ledger.specs.Ledgers.{stages_of, state_of};
 ghost use Rattle.cf_forms.specs.Plans.{sources_of};
 ghost use Rattle.cf_request.specs.Machines.{IsNoFollow, OnlyFinds, SetsOne, free_in, waiting_in};
 ghost use Rattle.cf_request.specs.Rows.{AreCalls, nothing};
-ghost use Rattle.cf_request.specs.Scopes.{AttachesIn, EndsScope, IsNoAttachIn, IsNoEnd, IsNoPut, IsNoScope, MayAttach, MayNotAttach, PutsIn};
+ghost use Rattle.cf_request.specs.Scopes.{AttachesIn, EndsScope, IsNoAttachIn, IsNoEnd, IsNoPut, IsNoScope, IsOf, MayAttach, MayNotAttach, PutsIn};
 ghost use Rattle.cf_request.specs.Telling.{is_settled_in};
 
 use crate::faults::{MachineFault, ScopeFault};
@@ -26,6 +26,7 @@ impl Machine {
     pub fn attach_in(&mut self, word: u64, lane: u8, scope: u16) -> Result<u16, ScopeFault>
         requires { lane < self.old.teller.lanes.count }
         ensures done { IfOk result (λ stage. AttachesIn word lane scope self.old stage self.new) }
+        ensures is_of { IfOk result (λ stage. IsOf self.new.follows scope stage) }
         ensures calls { OnOk result (AreCalls self.old (nothing ∷ nothing ∷ nothing ∷ []) self.new) }
         ensures refused { OnErr result (OnlyFinds self.old self.new) }
         ensures why { IfErr result (λ fault. IsNoAttachIn word scope self.old fault) }
@@ -41,8 +42,10 @@ impl Machine {
 
     /// A stage is of a scope from now on: it is cancelled once the scope has ended, if it is open then. It is refused for
     /// the first of: a stage that isn't there, a scope that has ended, memory.
+    #[tactic(auto, using(crate::proofs::Ends::of_sets))]
     pub fn put_in(&mut self, stage: u16, scope: u16) -> Result<(), ScopeFault>
         ensures puts { OnOk result (PutsIn scope stage self.old self.new) }
+        ensures is_of { OnOk result (IsOf self.new.follows scope stage) }
         ensures refused { OnErr result (OnlyFinds self.old self.new) }
         ensures why { IfErr result (λ fault. IsNoPut scope stage self.old fault) }
     {

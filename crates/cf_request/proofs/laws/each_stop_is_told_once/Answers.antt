@@ -10,7 +10,7 @@ stops_once old new outs stops opened h =
     record {
       apart = apart_stops old new outs stops h ((apart_parts (all_told outs) new.teller.told told.once.apart).first);
       told = told_stops old new outs stops h;
-      all = λ i k is. all_stops old new outs stops i (first_settled old opened) h k is;
+      all = λ i w k is. all_stops old new outs stops i w (first_settled old opened) h k is;
     }
 
 pub returns : goal.returns
