@@ -21,11 +21,11 @@ use Rattle.cf_model.specs.States.{State, is_ready}
 use Rattle.cf_event.specs.Decoding.{event_of}
 use Rattle.cf_ledger.specs.Ledgers.{Does, Ledger, stages_of, state_at, state_of}
 use Rattle.cf_request.specs.Lanes.{IsLowestIn, NoneReadyIn, ready_below}
-use Rattle.cf_request.specs.Ready.{AreFitBut, AreSets, FitState, HasLanes, IsFit, Lanes, ReadySets, count_of, is_in, lane_of, lanes_of, none_ready, with_lane}
-use Rattle.cf_request.specs.Telling.{most_stages}
+use Rattle.cf_request.specs.Ready.{AreFitBut, AreSets, FitState, HasLanes, IsFit, Lanes, ReadySets, and_lane, count_of, is_in, lane_of, lanes_of, none_ready, with_lane}
+use Rattle.cf_request.specs.Telling.{answers_attach, most_stages}
 use Rattle.cf_request.proofs.Lists.{contains_cases}
 use Rattle.cf_request.proofs.Telling.{last_news, next_is, none_there, same_most}
-use Rattle.cf_request.proofs.Words.{at_most_one, lanes_stay, none_lost, none_more}
+use Rattle.cf_request.proofs.Words.{at_most_one, lanes_stay, lanes_told, more_told, none_lost, none_more}
 
 abbrev weight : Bool → ℕ
 weight b = cond b 1 0
@@ -249,6 +249,21 @@ lanes_kept e old new word reply r is isnt does h = h.all ∙ sym (none_more e ol
 
 pub sets_stay : (stages lane : ℕ) (r : ReadySets) → length r.of ≡ stages → r ≡ (record r { of = lanes_of stages lane r.of })
 sets_stay stages lane r same = sym (ap (λ (of : List ℕ). let x : ReadySets = record r { of = of } in x) (lanes_stay stages lane r.of same))
+
+-- one stage more is written, if its reply is an attach's
+pub sets_told : (old new : Ledger) (word lane : ℕ) (reply : Reply) (is_more : Bool) (r : ReadySets) → is_more ≡ answers_attach reply → Does word old reply new → FitState (state_of old) r → (record r { of = and_lane is_more lane r.of }) ≡ (record r { of = lanes_of (stages_of new) lane r.of })
+sets_told old new word lane reply is_more r is does h =
+    ap (λ (of : List ℕ). let x : ReadySets = record r { of = of } in x) (ap (λ (b : Bool). and_lane b lane r.of) is ∙ lanes_told old new word lane reply r.of does h.all)
+
+-- for which there is a place
+pub place_told : (old new : Ledger) (word : ℕ) (reply : Reply) (is_more : Bool) (r : ReadySets) → is_more ≡ answers_attach reply → Does word old reply new → FitState (state_of old) r → length r.of + cond is_more 1 0 ≤ r.places
+place_told old new word reply is_more r is does h =
+    let more = more_told old new word reply does in
+    let one = ap weight is in
+    let most = same_most old new word reply does in
+    let all = h.all in
+    let room = h.room in
+    omega (arith, more, one, most, all, room)
 
 -- what is left, once a word is done
 pub left_by : (old new : Ledger) (word place stages lane : ℕ) (reply : Reply) (news : List ℕ) (r : ReadySets) → (does : Does word old reply new) → place ≡ length new.events - 1 → AreNews (state_at new place).stages (state_at new (place + 1)).stages news →

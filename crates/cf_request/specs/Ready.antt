@@ -24,9 +24,13 @@ lane_of lanes i = slice_index_or lanes i 0
 abbrev pub HasLanes : State → List ℕ → Type 0
 HasLanes s lanes = length lanes ≡ length s.plan.stages
 
+-- the lanes with that of one stage more, if there is one
+abbrev pub and_lane : Bool → ℕ → List ℕ → List ℕ
+and_lane is_more lane lanes = cond is_more (lanes ++ lane ∷ []) lanes
+
 -- the lanes once there are so many stages, the last of which may be new
 abbrev pub lanes_of : ℕ → ℕ → List ℕ → List ℕ
-lanes_of stages lane lanes = cond (nat_lt (length lanes) stages) (lanes ++ lane ∷ []) lanes
+lanes_of stages lane lanes = and_lane (nat_lt (length lanes) stages) lane lanes
 
 abbrev pub with_lane : ℕ → ℕ → Lanes → Lanes
 with_lane stages lane lanes = record lanes { of = lanes_of stages lane lanes.of }

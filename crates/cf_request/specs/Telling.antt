@@ -2,6 +2,7 @@
 use Rattle.std.specs.Prelude.{◌≡◌, ◌≢◌, ℕ, ◌+◌, ◌<◌, ◌≤◌, Bool, true, false, Some, List, [], ◌∷◌, ◌++◌, All, Contains, is_some, length, max}
 use Rattle.cf_model.specs.declared.events.Event.{Event}
 use Rattle.cf_model.specs.declared.events.Reply.{Reply}
+use Rattle.cf_model.specs.declared.events.Reply.TheVariants.{Attach as ToldAttach}
 use Rattle.cf_model.specs.declared.stage.Stage.{Stage}
 use Rattle.cf_model.specs.Events.{answered}
 use Rattle.cf_model.specs.Graphs.{IsClimbing}
@@ -81,6 +82,11 @@ pub record TellsEvent (event : Event) (old : Teller) (reply : Reply) (new : Tell
   pub tells : TellsWord 0 (word_of event) old reply new
   pub answered : (reply, state_of new.ledger) ≡ answered (state_of old.ledger) event
   pub lanes : new.lanes ≡ old.lanes
+
+-- whether a reply is that of an attach
+abbrev pub answers_attach : Reply → Bool
+answers_attach (ToldAttach told) = true
+answers_attach reply = false
 
 -- no number stands twice
 abbrev pub IsApart : List ℕ → Type 0

@@ -1,6 +1,6 @@
 //! The ready stages of each lane.
-ghost use Rattle.std.specs.Prelude.{◌≡◌, ◌+◌, ◌<◌, ◌≤◌, [], All, IfOk, false, length, position, replicate, slice_index_or, slice_set, take, vec_capacity};
-ghost use Rattle.cf_request.specs.Ready.{AreSets, IsLane, IsLaneCount, count_of, lane_of, lanes_of, none_ready};
+ghost use Rattle.std.specs.Prelude.{◌≡◌, ◌+◌, ◌<◌, ◌≤◌, [], All, IfOk, cond, false, length, position, replicate, slice_index_or, slice_set, take, vec_capacity};
+ghost use Rattle.cf_request.specs.Ready.{AreSets, IsLane, IsLaneCount, and_lane, count_of, lane_of, none_ready};
 
 use cf_bits::BitSet;
 use std::alloc::{AllocError, Global};
@@ -167,14 +167,14 @@ impl ReadySets {
         set.write(i, ready);
     }
 
-    /// There are so many stages now, the last of which may be new, and is this lane's then.
+    /// One stage more, if there is one, is this lane's.
     #[inline(always)]
-    pub(crate) fn reach(&mut self, stages: u16, lane: u8)
-        requires room { stages ≤ self.old.places }
+    pub(crate) fn add(&mut self, is_more: bool, lane: u8)
+        requires room { length self.old.of + cond is_more 1 0 ≤ self.old.places }
         requires lane { IsLane lane (length self.old.sets) }
-        ensures { self.new ≡ record self.old { of = lanes_of stages lane self.old.of } }
+        ensures { self.new ≡ record self.old { of = and_lane is_more lane self.old.of } }
     {
-        if self.of.len() < stages as usize {
+        if is_more {
             self.of.push_reserved(lane);
         }
     }

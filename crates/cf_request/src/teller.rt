@@ -10,7 +10,7 @@ ghost use Rattle.cf_event.specs.Words.{IsEvent, word_of};
 ghost use Rattle.cf_ledger.specs.Ledgers.{AreTaken, IsShort, LedgerRefuses, roomier, stages_of, state_of, with_more};
 ghost use Rattle.cf_request.specs.Lanes.{IsLowestIn, NothingIsReady, ready_in};
 ghost use Rattle.cf_request.specs.Ready.{AreFitBut, FitState, HasLanes, IsFit, IsLane, IsLaneCount};
-ghost use Rattle.cf_request.specs.Telling.{AreFresh, AreSettled, AreSettledBelow, IsOnce, TellsEvent, TellsWord, is_settled_in, most_stages, order_in, with_memory};
+ghost use Rattle.cf_request.specs.Telling.{AreFresh, AreSettled, AreSettledBelow, IsOnce, TellsEvent, TellsWord, answers_attach, is_settled_in, most_stages, order_in, with_memory};
 
 use crate::ready::ReadySets;
 use cf_event::encode;
@@ -117,10 +117,10 @@ impl Teller {
         ensures short { IfErr result (λ fault. IsShort self.old.ledger.free fault) }
     {
         let reply = self.ledger.apply_other(word)?;
-        let stages = self.ledger.stages();
+        let attached = answers_attach(&reply);
         let place = self.ledger.len() - 1;
         let news = self.ledger.news(place);
-        self.lanes.reach(stages, lane);
+        self.lanes.add(attached, lane);
         note(&self.ledger, news, &mut self.order, &mut self.lanes);
         Ok(reply)
     }
@@ -433,6 +433,17 @@ fn mark_all(ledger: &Ledger, stages: u16, sets: &mut ReadySets)
 {
     for i in 0..stages {
         sets.write(i, is_ready(ledger.stage(i)));
+    }
+}
+
+/// Whether a reply is that of an attach.
+#[inline(always)]
+fn answers_attach(reply: &Reply) -> bool
+    ensures { result ≡ answers_attach reply.now }
+{
+    match reply {
+        Reply::Attach(_) => true,
+        _ => false,
     }
 }
 
