@@ -5,9 +5,10 @@ use Rattle.cf_outcome.specs.declared.outcome.Value.TheVariants.{Nil}
 use Rattle.cf_forms.specs.declared.limits.LimitKind.{LimitKind}
 use Rattle.cf_forms.specs.declared.limits.LimitKind.TheVariants.{Timeout, Give}
 use Rattle.cf_forms.specs.Plans.{Planned, has_place, with_room}
-use Rattle.cf_model.specs.States.{State, claim_at, outcome_at, start}
+use Rattle.cf_model.specs.States.{State, outcome_at, start}
 use Rattle.cf_request.specs.Machines.{Machine}
 use Rattle.cf_request.specs.Ready.{IsLaneCount}
+use Rattle.cf_request.specs.Scopes.{stopped_in}
 use Rattle.cf_request.specs.Telling.{AreFresh}
 use Rattle.cf_request.specs.declared.deadlines.Deadline.{Deadline}
 use Rattle.cf_c_handles.specs.Values.{as_outcome, as_value}
@@ -46,9 +47,9 @@ stop_of (Some who) = 1 + who
 abbrev pub told_as : ℕ → Option ℕ → Option Outcome → CfTold
 told_as i claimant outcome = record { stage = i; stop = stop_of claimant; outcome = as_outcome outcome }
 
--- a stage as it is told, with the caller whose claim of it is open, and its outcome
+-- a stage as it is told, with the caller whose claim is open for nothing, and its outcome
 abbrev pub told_in : State → ℕ → CfTold
-told_in s i = told_as i (claim_at s i) (outcome_at s i)
+told_in s i = told_as i (stopped_in s i) (outcome_at s i)
 
 -- ---- requests are opened
 

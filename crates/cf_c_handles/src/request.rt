@@ -1,7 +1,8 @@
 //! One request of a service as a machine, which tells each settled stage once.
-ghost use Rattle.std.specs.Prelude.{◌≡◌, ◌↔◌, IsTrue, length};
+ghost use Rattle.std.specs.Prelude.{◌≡◌, ◌↔◌, All, IsTrue, length, true};
 ghost use Rattle.cf_request.specs.Deadlines.{Forgets};
 ghost use Rattle.cf_request.specs.Machines.{OnlyDeadlines, state_in};
+ghost use Rattle.cf_request.specs.Telling.{is_settled_in};
 ghost use Rattle.cf_ledger.specs.Ledgers.{state_of};
 ghost use Rattle.cf_c_handles.specs.Ledgers.{AreWritten};
 ghost use Rattle.cf_c_handles.specs.RequestCalls.{machine_code};
@@ -86,7 +87,7 @@ fn machine_code(fault: MachineFault) -> Code
 
 /// Writes the stages that are told as far as the row reaches, and what is to be done next, and takes these stages.
 #[inline(always)]
-#[tactic(auto, using(crate::proofs::Requests::takes_so_many, crate::proofs::Requests::takes_none))]
+#[tactic(auto, using(crate::proofs::Requests::takes_so_many, crate::proofs::Requests::takes_none, crate::proofs::Requests::told_settled))]
 fn tell_into(machine: &mut Machine, row: &mut [CfTold], todo: &mut CfTodo)
     ensures { TellsInto machine.old (row.old, todo.old) (row.new, todo.new) machine.new }
 {
@@ -154,9 +155,10 @@ fn news_of(wanted: bool, moved: bool) -> u32
     u32::from(wanted) + 2 * u32::from(moved)
 }
 
-/// Writes these stages with their claims and outcomes, as far as the row reaches.
+/// Writes these stages, which are settled, with their claims and outcomes, as far as the row reaches.
 #[inline(always)]
 fn write_stages(ledger: &Ledger, stages: &[u16], row: &mut [CfTold])
+    requires { All (λ i. is_settled_in (state_of ledger.now).stages i ≡ true) stages.now }
     ensures { AreWritten (told_in (state_of ledger.now)) stages.now row.old row.new }
 {
     let reach = stages.len().min(row.len());
@@ -165,15 +167,12 @@ fn write_stages(ledger: &Ledger, stages: &[u16], row: &mut [CfTold])
     }
 }
 
-/// Writes a stage with its claim and its outcome; one that isn't there has neither.
+/// Writes a settled stage with its claim and its outcome.
 #[inline(always)]
-#[tactic(auto, using(crate::proofs::Requests::none_there))]
+#[tactic(auto, using(crate::proofs::Requests::settled_there, crate::proofs::Requests::stop_told))]
 fn put_stage(told: &mut CfTold, ledger: &Ledger, stage: u16)
+    requires { is_settled_in (state_of ledger.now).stages stage ≡ true }
     ensures { told.new ≡ told_in (state_of ledger.now) stage }
 {
-    if stage < ledger.stages() {
-        put_told(told, stage, ledger.claimant(stage), ledger.outcome(stage));
-    } else {
-        put_told(told, stage, None, None);
-    }
+    put_told(told, stage, ledger.claimant(stage), ledger.outcome(stage));
 }
