@@ -113,7 +113,8 @@ pub extern "C" fn cf_ledger_words(
     words: &mut [u64],
     n: &mut usize,
 ) -> u32
-    ensures { HandleWrites (OfLedgerWriting (WritesWords from)) h.old h.new result (words.old, n.old) (words.new, n.new) }
+    ensures { HandleWrites (OfLedgerWriting (WritesWords from)) h.old h.new result (words.old, n.old)
+        (words.new, n.new) }
 {
     ask!(alloc, h, held => telling::words(&mut held, from, words, n))
 }
@@ -127,7 +128,8 @@ pub extern "C" fn cf_ledger_news(
     stages: &mut [u16],
     n: &mut usize,
 ) -> u32
-    ensures { HandleWrites (OfLedgerWriting (WritesNews place)) h.old h.new result (stages.old, n.old) (stages.new, n.new) }
+    ensures { HandleWrites (OfLedgerWriting (WritesNews place)) h.old h.new result (stages.old, n.old)
+        (stages.new, n.new) }
 {
     ask!(alloc, h, held => telling::news(&mut held, place, stages, n))
 }

@@ -143,7 +143,8 @@ fn take_turn<W: Which, R: Wait>(rt: &R, cell: &Cell, all: &mut Slip, turn: &Turn
       all = (cell_view all.old).all ++ turn.now ∷ [];
       mine = (cell_view all.old).mine ++ turn.now ∷ [];
     } }
-    ensures among { AreAmong ((cell_view all.old).mine ++ turn.now ∷ []) ((cell_view all.old).all ++ turn.now ∷ []) }
+    ensures among { AreAmong ((cell_view all.old).mine ++ turn.now ∷ [])
+        ((cell_view all.old).all ++ turn.now ∷ []) }
 {
     let _turn = turn;
     cell.load_as::<Takes<W>, R>(rt, all);
@@ -163,7 +164,8 @@ pub fn compare<R: Wait>(rt: &R, cell: &Cell, all: &mut Slip)
     requires own { all.old.table_id ≡ cell.now.table.shared.table_id }
     requires whole { ((cell_view all.old).keeps ≡ true) × ((cell_view all.old).parts ≡ all_parts) }
     ensures same { IsSamePass all.old all.new × (cell_view all.new ≡ cell_view all.old) }
-    ensures each { (weight : Turn → ℕ) → weigh weight (cell_view all.old).mine ≡ weigh weight (cell_view all.old).all }
+    ensures each { (weight : Turn → ℕ) →
+        weigh weight (cell_view all.old).mine ≡ weigh weight (cell_view all.old).all }
 {
     cell.load_as::<Compares, R>(rt, all);
 }
