@@ -1,0 +1,10 @@
+pub mod Settling
+pub mod Lookups
+pub mod Claiming
+pub mod Finishing
+pub mod Abandoning
+pub mod Promises
+pub mod Timers
+pub mod Due
+pub mod Laws
+pub mod Acts
