@@ -1,0 +1,147 @@
+-- What a put, a question, an answer and the end of a function do to a part.
+use Rattle.std.specs.Prelude.{◌≡◌, ◌⊎◌, ℕ, Bool, cond, true, false, not, Option, Some, None, List, [], length, max, slice_get, slice_index_or, slice_set, take}
+use Rattle.cf_ledger.specs.declared.faults.LedgerFault.{LedgerFault}
+use Rattle.cf_ledger.specs.declared.faults.LedgerFault.TheVariants.{NoMemory}
+use Rattle.cf_ledger.specs.declared.faults.Misfit.{Misfit}
+use Rattle.cf_row.specs.declared.entry.Entry.{Entry}
+use Rattle.cf_row.specs.Rows.{IsMisfit, Replays}
+use Rattle.cf_row.specs.Puts.{Plans, Row, TellsOf}
+use Rattle.cf_part.specs.declared.progress.Progress.{Progress}
+use Rattle.cf_part.specs.declared.progress.Progress.TheVariants.{Runs, Stopped, Ended}
+use Rattle.cf_part.specs.declared.question.Fault.{Fault}
+use Rattle.cf_part.specs.declared.question.Fault.TheVariants.{Broken}
+use Rattle.cf_part.specs.declared.question.PutOf.{PutOf}
+use Rattle.cf_part.specs.declared.question.PutOf.TheVariants.{Finish, Act, Rest}
+use Rattle.cf_part.specs.declared.question.Question.{Question}
+use Rattle.cf_part.specs.declared.question.Question.TheVariants.{Close}
+use Rattle.cf_notes.specs.declared.wants.EndsWith.{EndsWith}
+use Rattle.cf_notes.specs.declared.wants.EndsWith.TheVariants.{Gives, NoValue, Throws, Passes, Links}
+use Rattle.cf_notes.specs.declared.wants.Owed.{Owed}
+use Rattle.cf_notes.specs.declared.wants.Want.{Want}
+use Rattle.cf_part.specs.Parts.{Part, call_in, later, owed_in, seen_by, words_wanted}
+
+-- a put of these words is planned, and what is known of it is kept
+pub record PlansWords (old : Part) (wants : List Want) (of : PutOf) (new : Part) : Type 0 where
+  pub row : Plans old.row (words_wanted wants) new.row
+  pub rest : new ≡ record old { row = new.row; wants = wants; of = of }
+
+-- ---- entries
+
+-- the row has no put under way any more, and its next token is as before
+pub record IsFreed (old new : Row) : Type 0 where
+  pub put : new.put ≡ []
+  pub next : new.next ≡ old.next
+
+-- these entries are seen
+pub record Reads (old : Part) (entries : List Entry) (new : Part) : Type 0 where
+  pub replays : Replays old.row.replica entries new.row.replica
+  pub freed : IsFreed old.row new.row
+  pub rest : new ≡ record old { row = new.row; asked = None; is_stale = false }
+
+-- a word that the graph doesn't take breaks the request
+abbrev pub fault_after : LedgerFault → Option Fault → Option Fault
+fault_after NoMemory fault = fault
+fault_after why fault = Some Broken
+
+-- those before the first that isn't replayed are seen: for want of memory none is, and is asked for again later
+pub record Misreads (old : Part) (now : ℕ) (entries : List Entry) (m : Misfit) (new : Part) : Type 0 where
+  pub replays : Replays old.row.replica (take m.place entries) new.row.replica
+  pub why : IsMisfit old.row.replica entries new.row.replica m.place m.why
+  pub freed : IsFreed old.row new.row
+  pub rest : new ≡ record old { row = new.row; asked = None; retry = later now; fault = fault_after m.why old.fault }
+
+-- the put stands, and is seen
+pub record Lands (old new : Part) : Type 0 where
+  pub replays : Replays old.row.replica old.row.put new.row.replica
+  pub freed : IsFreed old.row new.row
+  pub rest : new ≡ record old { row = new.row; wants = []; asked = None }
+
+-- what is told of the put where these entries stand at its place
+abbrev pub TellsBy : Row → List Entry → Bool → Type 0
+TellsBy row entries landed = (first : Entry) → slice_get entries 0 ≡ Some first → TellsOf row.replica row.put first landed
+
+-- these entries stand where the put was to stand, and are seen
+pub record Meets (old : Part) (entries : List Entry) (landed : Bool) (new : Part) : Type 0 where
+  pub tells : TellsBy old.row entries landed
+  pub replays : Replays old.row.replica entries new.row.replica
+  pub freed : IsFreed old.row new.row
+  pub rest : new ≡ record old { row = new.row; wants = []; asked = None }
+
+-- not all of them fit the graph, which breaks the request; or no memory is there, and the put stays under way, to be asked for again later
+abbrev pub Mismeets : Part → ℕ → List Entry → LedgerFault → Part → Type 0
+Mismeets old now entries NoMemory new = new ≡ record old { asked = None; retry = later now }
+Mismeets old now entries why new =
+    (seen : List Entry) × Replays old.row.replica seen new.row.replica × IsFreed old.row new.row
+    × (new ≡ record old { row = new.row; wants = []; asked = None; fault = Some Broken })
+
+-- ---- no entries
+
+-- no answer came: what was asked is asked again later, a put as it is
+abbrev pub Waits : Part → ℕ → Part → Type 0
+Waits old now new = new ≡ record old { asked = None; retry = later now }
+
+-- whether what a function came to has a payload that a store can refuse
+abbrev pub has_payload : EndsWith → Bool
+has_payload Gives = true
+has_payload NoValue = false
+has_payload Throws = true
+has_payload (Passes code) = false
+has_payload (Links stage) = false
+
+-- whether an error stands in for it next: where its payload was refused. If the error is refused too, it wasn't the payload, which is put again
+abbrev pub is_error_next : Bool → Bool → Bool
+is_error_next true payload = false
+is_error_next false payload = payload
+
+abbrev pub owed_after : Option Owed → Option Owed
+owed_after None = None
+owed_after (Some o) = Some (record o { is_error = is_error_next o.is_error (has_payload o.answer) })
+
+-- what is owed once a put was refused
+abbrev pub owed_refused : PutOf → List (Option Owed) → List (Option Owed)
+owed_refused (Finish i) owed = slice_set owed i (owed_after (owed_in owed i))
+owed_refused Act owed = owed
+owed_refused Rest owed = owed
+
+abbrev pub is_error_in : Option Owed → Bool
+is_error_in None = false
+is_error_in (Some o) = o.is_error
+
+-- whether an error is put at once
+abbrev pub is_error_due : PutOf → List (Option Owed) → Bool
+is_error_due (Finish i) owed = is_error_in (owed_after (owed_in owed i))
+is_error_due Act owed = false
+is_error_due Rest owed = false
+
+-- a put was refused: it is given up, and what is to stand there is decided again, later if no error stands in
+abbrev pub Refuses : Part → ℕ → Part → Type 0
+Refuses old now new =
+    new ≡ record old {
+      row = record old.row { put = [] };
+      wants = [];
+      asked = None;
+      owed = owed_refused old.of old.owed;
+      retry = cond (is_error_due old.of old.owed) old.retry (later now);
+    }
+
+-- the request was closed, or more stands there, which is to be read
+abbrev pub Closes : Part → Bool → Part → Type 0
+Closes old is_closed new = new ≡ record old { asked = None; is_closed = is_closed; is_stale = not is_closed }
+
+-- nothing goes on any more
+abbrev pub Breaks : Part → Fault → Part → Type 0
+Breaks old fault new = new ≡ record old { row = record old.row { put = [] }; wants = []; asked = None; fault = Some fault }
+
+-- ---- calls of functions
+
+-- a stage's function was called, and hasn't ended
+abbrev pub IsRunningIn : List Progress → ℕ → Type 0
+IsRunningIn calls i = (call_in calls i ≡ Runs) ⊎ (call_in calls i ≡ Stopped)
+
+abbrev pub IsRunning : Part → ℕ → Type 0
+IsRunning p i = IsRunningIn p.calls i
+
+-- its function has ended, and what it came to is owed
+abbrev pub Ends : Part → ℕ → EndsWith → Part → Type 0
+Ends old i answer new =
+    new ≡ record old { calls = slice_set old.calls i Ended; owed = slice_set old.owed i (Some (record { answer = answer; is_error = false })) }

@@ -1,0 +1,158 @@
+-- One process's part in one request.
+use Rattle.std.specs.Prelude.{◌≡◌, ◌≢◌, ◌⊎◌, ℕ, ◌+◌, ◌*◌, ◌<◌, ◌≤◌, ◌||◌, Bool, true, false, cond, min, max, Option, Some, None, List, [], is_some, length, map, nat_lt, replicate, slice_index_or}
+use Rattle.std.specs.declared.vec.Vec.{Vec}
+use Rattle.std.specs.Vec.{vec_capacity}
+use Rattle.cf_forms.specs.Plans.{Planned, with_room}
+use Rattle.cf_model.specs.States.{State, claim_at, outcome_at}
+use Rattle.cf_row.specs.Rows.{Replica, state_of, words_in}
+use Rattle.cf_row.specs.Puts.{Row}
+use Rattle.cf_row.specs.Grants.{IsGrantedTo}
+use Rattle.cf_part.specs.declared.progress.Progress.{Progress}
+use Rattle.cf_part.specs.declared.progress.Progress.TheVariants.{NotCalled, Runs, Stopped, Ended}
+use Rattle.cf_part.specs.declared.question.Fault.{Fault}
+use Rattle.cf_part.specs.declared.question.PutOf.{PutOf}
+use Rattle.cf_part.specs.declared.question.PutOf.TheVariants.{Rest}
+use Rattle.cf_part.specs.declared.question.Question.{Question}
+use Rattle.cf_part.specs.declared.question.Question.TheVariants.{Read, Put, Close}
+use Rattle.cf_notes.specs.declared.wants.EndsWith.TheVariants.{NoValue}
+use Rattle.cf_notes.specs.declared.wants.Owed.{Owed}
+use Rattle.cf_notes.specs.declared.wants.Want.{Want}
+
+-- What a contract sees: the session's view of the row with the put that is under way; of each stage how far its call has come, what is owed,
+-- and whether somebody waits; the notes and payloads of the put, and what it is of; the question that is open; how many words the store has
+-- told of, and whether it has to be read besides; before which moment nothing is asked; and why nothing goes on any more.
+pub record Part : Type 0 where
+  pub row : Row
+  pub calls : List Progress
+  pub owed : List (Option Owed)
+  pub wanted : List Bool
+  pub wants : List Want
+  pub of : PutOf
+  pub asked : Option Question
+  pub words : ℕ
+  pub is_stale : Bool
+  pub retry : ℕ
+  pub fault : Option Fault
+  pub is_flow : Bool
+  pub is_closed : Bool
+
+abbrev pub state_in : Part → State
+state_in p = state_of p.row.replica
+
+-- how many entries it has seen
+abbrev pub seen_by : Part → ℕ
+seen_by p = length p.row.replica.seen
+
+abbrev pub session_of : Part → ℕ
+session_of p = p.row.replica.session
+
+abbrev pub call_in : List Progress → ℕ → Progress
+call_in calls i = slice_index_or calls i NotCalled
+
+abbrev pub owed_in : List (Option Owed) → ℕ → Option Owed
+owed_in owed i = slice_index_or owed i None
+
+abbrev pub is_wanted_in : List Bool → ℕ → Bool
+is_wanted_in wanted i = slice_index_or wanted i false
+
+-- ---- what is kept
+
+-- how many stages there may ever be
+abbrev pub places_of : Planned → ℕ
+places_of plan = length plan.stages + plan.room
+
+-- a put is asked for where one is under way, and nothing else is
+abbrev pub FitsPut : Row → Option Question → Type 0
+FitsPut row None = Unit {0}
+FitsPut row (Some (Read at)) = row.put ≡ []
+FitsPut row (Some (Put at)) = 0 < length row.put
+FitsPut row (Some (Close at)) = row.put ≡ []
+
+abbrev pub words_wanted : List Want → List ℕ
+words_wanted wants = map (λ (w : Want). w.word) wants
+
+-- there is a place for each stage that there may ever be; what is known of the put is of its words; and the question fits
+pub record IsSound (row : Row) (calls : List Progress) (owed : List (Option Owed)) (wanted : List Bool) (wants : List Want) (asked : Option Question) : Type 0 where
+  pub of_calls : length calls ≡ places_of row.replica.plan
+  pub of_owed : length owed ≡ places_of row.replica.plan
+  pub of_wanted : length wanted ≡ places_of row.replica.plan
+  pub few : places_of row.replica.plan ≤ 4096
+  pub put : words_wanted wants ≡ words_in row.put
+  pub fits : FitsPut row asked
+
+-- a put has so many words at most
+pub record HasPlaces {Y : Type 0} {Z : Type 0} (words : Vec ℕ Y) (wants : Vec Want Z) : Type 0 where
+  pub of_words : 8 ≤ vec_capacity words
+  pub of_wants : 8 ≤ vec_capacity wants
+
+-- as it is opened
+abbrev pub opened : Planned → ℕ → ℕ → ℕ → Bool → Part
+opened plan room session first is_flow =
+    let places = length plan.stages + room in
+    record {
+      row = record {
+        replica = record { plan = with_room plan room; session = session; seen = []; records = []; free = 0 };
+        put = [];
+        next = session * 8388608 + first;
+      };
+      calls = replicate places NotCalled;
+      owed = replicate places None;
+      wanted = replicate places false;
+      wants = [];
+      of = Rest;
+      asked = None;
+      words = 0;
+      is_stale = true;
+      retry = 0;
+      fault = None;
+      is_flow = is_flow;
+      is_closed = false;
+    }
+
+-- ---- questions
+
+-- the question that is due: nothing while one is open, behind a fault, or before its moment; else the put that is under way, as it is; else
+-- what stands behind all that was seen
+abbrev pub question_of : Part → ℕ → Option Question
+question_of p now =
+    cond (is_some p.asked || is_some p.fault || nat_lt now p.retry) None (
+    cond (nat_lt 0 (length p.row.put)) (Some (Put (seen_by p))) (cond (p.is_stale || nat_lt (seen_by p) p.words) (Some (Read (seen_by p))) None))
+
+abbrev pub IsRead : Option Question → Type 0
+IsRead (Some (Read at)) = Unit {0}
+IsRead asked = ⊥
+
+abbrev pub IsPut : Option Question → Type 0
+IsPut (Some (Put at)) = Unit {0}
+IsPut asked = ⊥
+
+abbrev pub IsClose : Option Question → Type 0
+IsClose (Some (Close at)) = Unit {0}
+IsClose asked = ⊥
+
+-- 20 milliseconds later
+abbrev pub later : ℕ → ℕ
+later now = min (now + 20) 18446744073709551615
+
+-- ---- what is owed
+
+-- what a finish says: what the function came to, or nothing where the stage was settled before its function was called
+abbrev pub debt_in : Option Owed → Progress → Bool → Option Owed
+debt_in (Some o) call is_settled = Some o
+debt_in None NotCalled is_settled = cond is_settled (Some (record { answer = NoValue; is_error = false })) None
+debt_in None Runs is_settled = None
+debt_in None Stopped is_settled = None
+debt_in None Ended is_settled = None
+
+-- a stage whose claim is this session's and open, and what its finish says
+pub record OwesIn (r : Replica) (calls : List Progress) (owed : List (Option Owed)) (i : ℕ) (o : Owed) : Type 0 where
+  pub granted : IsGrantedTo r r.session i
+  pub claimed : claim_at (state_of r) i ≢ None
+  pub is : debt_in (owed_in owed i) (call_in calls i) (is_some (outcome_at (state_of r) i)) ≡ Some o
+
+-- no stage from a number up to another is such a one
+abbrev pub OwesNone : Replica → List Progress → List (Option Owed) → ℕ → ℕ → Type 0
+OwesNone r calls owed from to = (i : ℕ) (o : Owed) → from ≤ i → i < to → ¬ OwesIn r calls owed i o
+
+abbrev pub Owes : Part → ℕ → Owed → Type 0
+Owes p i o = OwesIn p.row.replica p.calls p.owed i o

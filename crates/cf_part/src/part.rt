@@ -1,0 +1,410 @@
+//! A process's part in a request.
+ghost use Rattle.std.specs.Prelude.{◌≡◌, ◌≢◌, ◌⊎◌, ℕ, ◌+◌, ◌<◌, ◌≤◌, [], IfErr, IfNone, IfOk, IfSome, None, OnErr, OnOk, Some, false, length, max, slice_set, true};
+ghost use Rattle.std.specs.Bool.{OnFalse, OnTrue};
+ghost use Rattle.cf_forms.specs.Plans.{has_place};
+ghost use Rattle.cf_row.specs.Puts.{IsNoPut};
+ghost use Rattle.cf_row.specs.Rows.{stages_of};
+ghost use Rattle.cf_part.specs.Parts.{IsClose, IsPut, IsRead, Owes, OwesNone, opened, question_of, seen_by, words_wanted};
+ghost use Rattle.cf_part.specs.Steps.{NothingToTell, Tells};
+ghost use Rattle.cf_part.specs.Answers.{Breaks, Closes, Ends, IsRunning, Lands, Meets, Mismeets, Misreads, PlansWords, Reads, Refuses, Waits};
+
+use crate::finding::{args_for, is_running, shown, to_call, to_show, to_stop};
+use crate::owing::{Debt, first_owed};
+use crate::progress::Progress;
+use crate::putting::{fault_after, refuse, write_wants, write_words};
+use crate::question::{Fault, PutOf, Question};
+use crate::step::Step;
+use cf_ledger::{LedgerFault, Misfit};
+use cf_notes::{EndsWith, Owed, Want};
+use cf_plan::Plan;
+use cf_row::{Entry, PutFault, Replica, Row};
+use std::alloc::{AllocError, Global};
+use std::marker::Model;
+
+/// How many words a put has at most.
+pub const MOST_WANTS: usize = 8;
+
+/// How long nothing is asked behind a question that was refused or had no answer, in milliseconds.
+const PAUSE: u64 = 20;
+
+/// A session's view of a request's row, with what its process has to do there.
+#[derive(Drop)]
+pub struct Part {
+    row: Row,
+    calls: Vec<Progress>,
+    owed: Vec<Option<Owed>>,
+    wanted: Vec<bool>,
+    numbers: Vec<u64>,
+    wants: Vec<Want>,
+    of: PutOf,
+    asked: Option<Question>,
+    words: usize,
+    is_stale: bool,
+    retry: u64,
+    fault: Option<Fault>,
+    is_flow: bool,
+    is_closed: bool,
+}
+
+impl Model for Part {
+    ghost use Rattle.cf_part.specs.Parts.{Part};
+
+    ghost Value = { Part };
+
+    ghost use Rattle.cf_part.specs.Parts.{HasPlaces, IsSound};
+
+    ghost view = { λ p. record {
+      row = p.row;
+      calls = p.calls.items;
+      owed = p.owed.items;
+      wanted = p.wanted.items;
+      wants = p.wants.items;
+      of = p.of;
+      asked = p.asked;
+      words = p.words;
+      is_stale = p.is_stale;
+      retry = p.retry;
+      fault = p.fault;
+      is_flow = p.is_flow;
+      is_closed = p.is_closed;
+    } };
+
+    ghost invariant = { λ p. record {
+      sound : IsSound p.row p.calls.items p.owed.items p.wanted.items p.wants.items p.asked;
+      places : HasPlaces p.numbers p.wants;
+    } };
+}
+
+impl Part {
+    /// A session's part in a request of which nothing was read yet. Its tokens count from `first` on, as those of a
+    /// `Row`. It fails only where there is no memory.
+    pub fn new(
+        alloc: Global,
+        plan: &Plan,
+        room: u16,
+        session: u64,
+        first: u32,
+        is_flow: bool,
+    ) -> Result<Part, AllocError>
+        requires place { has_place plan.now.stages room ≡ true }
+        requires session { session < 549755813888 }
+        requires first { first ≤ 8388608 }
+        ensures { IfOk result (λ p. p ≡ opened plan.now room session first is_flow) }
+    {
+        let places = plan.stages() as usize + room as usize;
+        let calls = vec![in alloc; Progress::NotCalled; places]?;
+        let owed = vec![in alloc; None; places]?;
+        let wanted = vec![in alloc; false; places]?;
+        let numbers: Vec<u64> = Vec::with_capacity(alloc, MOST_WANTS)?;
+        let wants: Vec<Want> = Vec::with_capacity(alloc, MOST_WANTS)?;
+        let row = Row::new(alloc, plan, room, session, first)?;
+        Ok(Part {
+            row,
+            calls,
+            owed,
+            wanted,
+            numbers,
+            wants,
+            of: PutOf::Rest,
+            asked: None,
+            words: 0,
+            is_stale: true,
+            retry: 0,
+            fault: None,
+            is_flow,
+            is_closed: false,
+        })
+    }
+
+    /// What the session has seen of the row.
+    pub fn view(&self) -> &Replica
+        ensures { result.now ≡ self.now.row.replica }
+    {
+        self.row.replica()
+    }
+
+    /// The put that is under way.
+    pub fn put(&self) -> &[Entry]
+        ensures { result.now ≡ self.now.row.put }
+    {
+        self.row.put()
+    }
+
+    /// The put's words with their notes, and whose payloads stand at their places.
+    pub fn wants_of_put(&self) -> &[Want]
+        ensures { result.now ≡ self.now.wants }
+    {
+        self.wants.as_slice()
+    }
+
+    /// The question that is open.
+    pub fn asked(&self) -> Option<Question>
+        ensures { result ≡ self.now.asked }
+    {
+        self.asked
+    }
+
+    /// Why nothing goes on in the request any more, if so.
+    pub fn fault(&self) -> Option<Fault>
+        ensures { result ≡ self.now.fault }
+    {
+        self.fault
+    }
+
+    /// Whether the request is a flow's, which is closed once all is done.
+    pub fn is_flow(&self) -> bool
+        ensures { result ≡ self.now.is_flow }
+    {
+        self.is_flow
+    }
+
+    /// Whether the request was closed, by what the store told last.
+    pub fn is_closed(&self) -> bool
+        ensures { result ≡ self.now.is_closed }
+    {
+        self.is_closed
+    }
+
+    /// Whether the function of a stage was called and hasn't ended.
+    pub fn is_running(&self, stage: u16) -> bool
+        ensures runs { OnTrue result (IsRunning self.now stage) }
+        ensures none { OnFalse result (¬ IsRunning self.now stage) }
+    {
+        is_running(&self.calls, stage)
+    }
+
+    /// The store tells that so many words stand in the row.
+    pub fn told_length(&mut self, words: usize)
+        ensures { self.new ≡ record self.old { words = max self.old.words words } }
+    {
+        self.words = self.words.max(words);
+    }
+
+    /// Somebody waits for a stage.
+    pub fn wants(&mut self, stage: u16)
+        requires { stage < length self.old.wanted }
+        ensures { self.new ≡ record self.old { wanted = slice_set self.old.wanted stage true } }
+    {
+        self.wanted[stage as usize] = true;
+    }
+
+    /// Nobody waits for a stage any more.
+    pub fn lets_go(&mut self, stage: u16)
+        requires { stage < length self.old.wanted }
+        ensures { self.new ≡ record self.old { wanted = slice_set self.old.wanted stage false } }
+    {
+        self.wanted[stage as usize] = false;
+    }
+
+    /// Plans a put of these words, and is told what it is of. It is refused as a `Row` refuses it, and all stays as it
+    /// was then.
+    #[tactic(auto, using(cf_row::proofs::Tokens::stamped_words))]
+    pub fn plan(&mut self, wants: &[Want], of: PutOf) -> Result<(), PutFault>
+        requires none { self.old.row.put ≡ [] }
+        requires asked { self.old.asked ≡ None }
+        requires few { length wants.now ≤ 8 }
+        ensures planned { OnOk result (PlansWords self.old wants.now of self.new) }
+        ensures unchanged { OnErr result (self.new ≡ self.old) }
+        ensures why { IfErr result (λ fault.
+            IsNoPut self.old.row.replica self.old.row.next (words_wanted wants.now) fault) }
+    {
+        write_words(&mut self.numbers, wants);
+        match self.row.plan(self.numbers.as_slice()) {
+            Ok(()) => {}
+            Err(fault) => return Err(fault),
+        }
+        write_wants(&mut self.wants, wants);
+        self.of = of;
+        Ok(())
+    }
+
+    /// The question about the row that is due, which is open from then on. There is none while one is open, behind a
+    /// fault, or where nothing is to be asked by now.
+    pub fn question(&mut self, now: u64) -> Option<Question>
+        ensures is { result ≡ question_of self.old now }
+        ensures asked { IfSome result (λ q. self.new ≡ record self.old { asked = Some q }) }
+        ensures none { IfNone result (self.new ≡ self.old) }
+    {
+        if self.asked.is_some() || self.fault.is_some() || now < self.retry {
+            return None;
+        }
+        let at = self.row.replica().seen().len();
+        if !self.row.put().is_empty() {
+            self.asked = Some(Question::Put { at });
+        } else if self.is_stale || at < self.words {
+            self.asked = Some(Question::Read { at });
+        }
+        self.asked
+    }
+
+    /// Asks to close the request where nothing is under way.
+    pub fn close(&mut self) -> Question
+        requires none { self.old.row.put ≡ [] }
+        requires asked { self.old.asked ≡ None }
+        ensures is { result ≡ Question.Close (seen_by self.old) }
+        ensures asked { self.new ≡ record self.old { asked = Some result } }
+    {
+        let question = Question::Close {
+            at: self.row.replica().seen().len(),
+        };
+        self.asked = Some(question);
+        question
+    }
+
+    /// A read was answered: these entries stand behind all that was seen. Where one of them doesn't fit the graph, the
+    /// request is broken. For want of memory none is seen, and it is asked again later.
+    pub fn read(&mut self, now: u64, entries: &[Entry]) -> Result<(), Misfit>
+        requires { IsRead self.old.asked }
+        ensures all { OnOk result (Reads self.old entries.now self.new) }
+        ensures front { IfErr result (λ m. Misreads self.old now entries.now m self.new) }
+    {
+        let read = self.row.saw_all(entries);
+        self.asked = None;
+        match read {
+            Ok(()) => {
+                self.is_stale = false;
+                Ok(())
+            }
+            Err(misfit) => {
+                self.retry = now.saturating_add(PAUSE);
+                self.fault = fault_after(misfit.why, self.fault);
+                Err(misfit)
+            }
+        }
+    }
+
+    /// The put stands.
+    pub fn stands(&mut self)
+        requires { IsPut self.old.asked }
+        ensures { Lands self.old self.new }
+    {
+        self.row.landed();
+        self.wants.clear();
+        self.asked = None;
+    }
+
+    /// Entries stand where the put was to stand, these and no more. Whether they are the put's own, which had landed
+    /// before. For want of memory none is seen, and the put is asked for again later.
+    pub fn others(&mut self, now: u64, entries: &[Entry]) -> Result<bool, LedgerFault>
+        requires asked { IsPut self.old.asked }
+        requires some { 0 < length entries.now }
+        ensures met { IfOk result (λ landed. Meets self.old entries.now landed self.new) }
+        ensures refused { IfErr result (λ why. Mismeets self.old now entries.now why self.new) }
+    {
+        self.asked = None;
+        if self.row.reserve(entries.len()).is_err() {
+            self.retry = now.saturating_add(PAUSE);
+            return Err(LedgerFault::NoMemory);
+        }
+        let landed = self.row.met(entries[0]);
+        self.wants.clear();
+        match self.row.saw_all(entries) {
+            Ok(()) => Ok(landed),
+            Err(misfit) => {
+                self.fault = Some(Fault::Broken);
+                Err(misfit.why)
+            }
+        }
+    }
+
+    /// No answer came to the question, or a read or a close was refused. What was asked is asked again later, and a put
+    /// as it is.
+    pub fn unknown(&mut self, now: u64)
+        ensures { Waits self.old now self.new }
+    {
+        self.asked = None;
+        self.retry = now.saturating_add(PAUSE);
+    }
+
+    /// The put was refused. It is given up. Where it was the finish of a stage with a payload, an error is put in its
+    /// place at once. Where that is refused, too, the payload is put again later.
+    pub fn refused(&mut self, now: u64)
+        requires { IsPut self.old.asked }
+        ensures { Refuses self.old now self.new }
+    {
+        self.row.give_up();
+        self.wants.clear();
+        self.asked = None;
+        let is_error_due = refuse(&mut self.owed, self.of);
+        if !is_error_due {
+            self.retry = now.saturating_add(PAUSE);
+        }
+    }
+
+    /// The request is closed with just what was seen; or more stands there, which is to be read.
+    pub fn closed(&mut self, is_closed: bool)
+        requires { IsClose self.old.asked }
+        ensures { Closes self.old is_closed self.new }
+    {
+        self.asked = None;
+        self.is_closed = is_closed;
+        self.is_stale = !is_closed;
+    }
+
+    /// Nothing goes on in the request any more.
+    pub fn breaks(&mut self, fault: Fault)
+        ensures { Breaks self.old fault self.new }
+    {
+        self.row.give_up();
+        self.wants.clear();
+        self.asked = None;
+        self.fault = Some(fault);
+    }
+
+    /// The function of a stage has ended.
+    pub fn ended(&mut self, stage: u16, answer: EndsWith)
+        requires { IsRunning self.old stage }
+        ensures { Ends self.old stage answer self.new }
+    {
+        self.calls[stage as usize] = Progress::Ended;
+        self.owed[stage as usize] = Some(Owed {
+            answer,
+            is_error: false,
+        });
+    }
+
+    /// What the process has to do next, besides questions, if anything.
+    pub fn next(&mut self) -> Option<Step>
+        ensures step { IfSome result (λ step. Tells self.old step self.new) }
+        ensures unchanged { IfNone result (self.new ≡ self.old) }
+        ensures none { IfNone result (NothingToTell self.old) }
+    {
+        let fault = self.fault;
+        let ledger = self.row.replica().ledger();
+        if let Some(stage) = to_show(&self.wanted, fault.is_some(), ledger) {
+            let shown = shown(ledger, fault, stage);
+            self.wanted[stage as usize] = false;
+            return Some(Step::Show { stage, shown });
+        }
+        if fault.is_some() {
+            return None;
+        }
+        if let Some(stage) = to_stop(&self.calls, ledger) {
+            self.calls[stage as usize] = Progress::Stopped;
+            return Some(Step::Stop { stage });
+        }
+        let replica = self.row.replica();
+        if replica.seen().len() < self.words {
+            return None;
+        }
+        let _ = replica.ledger();
+        let stage = to_call(&self.calls, replica)?;
+        let args = args_for(replica, stage);
+        self.calls[stage as usize] = Progress::Runs;
+        Some(Step::Call { stage, args })
+    }
+
+    /// The lowest stage from a number on whose finish is owed, and what it says. It costs a look at each stage between,
+    /// and at each claim that was granted.
+    pub fn owes(&self, from: u16) -> Option<Debt>
+        ensures is { IfSome result (λ debt. Owes self.now debt.stage debt.owed) }
+        ensures above { IfSome result (λ debt. from ≤ debt.stage) }
+        ensures none { IfNone result (OwesNone self.now.row.replica self.now.calls self.now.owed
+            from (stages_of self.now.row.replica)) }
+    {
+        let replica = self.row.replica();
+        // (what it took says that there is a place for each stage)
+        let _ = replica.ledger();
+        first_owed(replica, &self.calls, &self.owed, from)
+    }
+}

@@ -1,0 +1,261 @@
+//! What a part of session 1 does in a request of one stage with a function, call by call.
+use crate::owing::Debt;
+use crate::part::Part;
+use crate::question::{Fault, PutOf, Question};
+use crate::step::{Shown, Step};
+use cf_forms::{Args, Form};
+use cf_notes::{EndsWith, Note, Owed, Source, Want};
+use cf_outcome::{Outcome, Value};
+use cf_plan::{Plan, PlanBuilder};
+use cf_row::{Entry, TOKENS};
+use std::alloc::Global;
+use std::fmt::Debug;
+use std::process::Abort;
+
+/// One call, with what it answers last, where that is compared.
+#[derive(Clone, Copy, Debug)]
+enum Move {
+    Hears(usize),
+    Plans(u64, PutOf),
+    Asks(u64, Option<Question>),
+    Reads(u64, bool),
+    Stands,
+    Meets(Entry, bool),
+    Waits(u64),
+    Refuses(u64),
+    Closes,
+    Breaks,
+    Ends,
+    Tells(Option<Step>),
+    Owes(Option<Debt>),
+    Faults(Option<Fault>),
+}
+
+use Move::*;
+
+/// Caller 0 claims stage 0, and finishes it with the value at place 2. Caller 1 claims it, or completes it with 7.
+const CLAIM: u64 = 0x0400000000000000;
+
+const FINISH: u64 = 0x0500000100000002;
+
+const COMPLETE: u64 = 0x0101000100000007;
+
+const FINISHING: PutOf = PutOf::Finish { stage: 0 };
+
+const READ: Option<Question> = Some(Question::Read { at: 0 });
+
+const PUT: Option<Question> = Some(Question::Put { at: 0 });
+
+const FINISH_PUT: Option<Question> = Some(Question::Put { at: 1 });
+
+const CALL: Option<Step> = Some(Step::Call {
+    stage: 0,
+    args: Args::None,
+});
+
+const SHOW: Option<Step> = Some(Step::Show {
+    stage: 0,
+    shown: Shown::Outcome(Outcome::Value(Value::Int(2))),
+});
+
+/// What the function came to is owed, or an error in its place.
+const VALUE: Option<Debt> = Some(Debt {
+    stage: 0,
+    owed: Owed {
+        answer: EndsWith::Gives,
+        is_error: false,
+    },
+});
+
+const ERROR: Option<Debt> = Some(Debt {
+    stage: 0,
+    owed: Owed {
+        answer: EndsWith::Gives,
+        is_error: true,
+    },
+});
+
+/// The value is put until it stands: as it is where no answer came, and behind a refusal of it and of the error.
+static KEEPS: [Move; 31] = [
+    Asks(0, READ),
+    Asks(0, None),
+    Reads(0, true),
+    Tells(None),
+    Plans(CLAIM, PutOf::Rest),
+    Asks(0, PUT),
+    Stands,
+    Tells(CALL),
+    Tells(None),
+    Owes(None),
+    Ends,
+    Owes(VALUE),
+    Plans(FINISH, FINISHING),
+    Asks(0, FINISH_PUT),
+    Waits(0),
+    Asks(19, None),
+    Asks(20, FINISH_PUT),
+    Refuses(20),
+    Owes(ERROR),
+    Plans(FINISH, FINISHING),
+    Asks(20, FINISH_PUT),
+    Refuses(20),
+    Owes(VALUE),
+    Plans(FINISH, FINISHING),
+    Asks(39, None),
+    Asks(40, FINISH_PUT),
+    Stands,
+    Owes(None),
+    Tells(SHOW),
+    Tells(None),
+    Closes,
+];
+
+/// Another session's claim stands where this one's was to stand, so nothing is called, and who waits sees the fault.
+static MEETS: [Move; 10] = [
+    Asks(0, READ),
+    Reads(0, true),
+    Plans(CLAIM, PutOf::Rest),
+    Asks(0, PUT),
+    Meets(
+        Entry {
+            word: CLAIM,
+            token: 2 * TOKENS,
+        },
+        false,
+    ),
+    Tells(None),
+    Faults(None),
+    Breaks,
+    Faults(Some(Fault::Dropped)),
+    Tells(Some(Step::Show {
+        stage: 0,
+        shown: Shown::Fault(Fault::Dropped),
+    })),
+];
+
+/// What runs is stopped once, where another caller has completed the stage. Nobody waits for that.
+static STOPS: [Move; 11] = [
+    Asks(0, READ),
+    Reads(0, true),
+    Plans(CLAIM, PutOf::Rest),
+    Asks(0, PUT),
+    Stands,
+    Tells(CALL),
+    Hears(2),
+    Asks(0, Some(Question::Read { at: 1 })),
+    Reads(0, false),
+    Tells(Some(Step::Stop { stage: 0 })),
+    Tells(None),
+];
+
+/// A call that must go well.
+fn must<T: Drop, E: Debug + Drop>(rt: &impl Abort, told: Result<T, E>) -> T {
+    match told {
+        Ok(told) => told,
+        Err(fault) => panic!(rt; "{fault:?}"),
+    }
+}
+
+/// The part of session 1, where somebody waits for stage 0, or nobody does any more.
+fn part_of(rt: &impl Abort, alloc: Global, is_wanted: bool) -> Part {
+    let mut builder = PlanBuilder::new(alloc);
+    must(rt, builder.stage(Form::Supply, &[], Some(0)));
+    let plan: Plan = must(rt, builder.build());
+    assert!(rt; plan.has_place(1));
+    let Ok(mut part) = Part::new(alloc, &plan, 1, 1, 0, false) else {
+        panic!(rt; "there is no memory");
+    };
+    part.wants(0);
+    if !is_wanted {
+        part.lets_go(0);
+    }
+    part
+}
+
+/// A put of one word is planned.
+fn plan_put(rt: &impl Abort, part: &mut Part, word: u64, of: PutOf) {
+    let want = Want {
+        word,
+        note: Note::Nothing,
+        source: Source::Nothing,
+    };
+    assert!(rt; part.asked().is_none() && part.put().is_empty());
+    must(rt, part.plan(&[want], of));
+    assert_eq!(rt; part.wants_of_put(), [want].as_slice());
+}
+
+/// A read is answered with nothing, or with a completion by another session.
+fn answer_read(rt: &impl Abort, part: &mut Part, now: u64, is_empty: bool) {
+    let other = Entry {
+        word: COMPLETE,
+        token: 2 * TOKENS,
+    };
+    match part.asked() {
+        Some(Question::Read { .. }) if is_empty => must(rt, part.read(now, &[])),
+        Some(Question::Read { .. }) => must(rt, part.read(now, &[other])),
+        _ => panic!(rt; "no read is asked for"),
+    }
+}
+
+/// A put is answered.
+fn answer_put(rt: &impl Abort, part: &mut Part, answer: Move) {
+    match (part.asked(), answer) {
+        (Some(Question::Put { .. }), Stands) => part.stands(),
+        (Some(Question::Put { .. }), Refuses(now)) => part.refused(now),
+        (Some(Question::Put { .. }), Meets(first, landed)) => {
+            let told = must(rt, part.others(0, &[first]));
+            assert_eq!(rt; told, landed);
+        }
+        _ => panic!(rt; "no put is asked for"),
+    }
+}
+
+/// The request is closed, if nothing is under way.
+fn close(rt: &impl Abort, part: &mut Part) {
+    assert!(rt; part.asked().is_none() && part.put().is_empty());
+    part.close();
+    let Some(Question::Close { .. }) = part.asked() else {
+        panic!(rt; "it isn't asked for");
+    };
+    part.closed(true);
+    assert!(rt; part.is_closed() && !part.is_flow());
+}
+
+/// The function of stage 0 has given a value.
+fn end(rt: &impl Abort, part: &mut Part) {
+    assert!(rt; part.is_running(0));
+    part.ended(0, EndsWith::Gives);
+}
+
+/// Makes a call, and compares its answer.
+fn make(rt: &impl Abort, part: &mut Part, call: Move) {
+    match call {
+        Hears(words) => part.told_length(words),
+        Plans(word, of) => plan_put(rt, part, word, of),
+        Asks(now, wanted) => assert_eq!(rt; part.question(now), wanted),
+        Reads(now, is_empty) => answer_read(rt, part, now, is_empty),
+        Stands | Refuses(_) | Meets(..) => answer_put(rt, part, call),
+        Waits(now) => part.unknown(now),
+        Closes => close(rt, part),
+        Breaks => part.breaks(Fault::Dropped),
+        Ends => end(rt, part),
+        Tells(wanted) => assert_eq!(rt; part.next(), wanted),
+        Owes(wanted) => assert_eq!(rt; part.owes(0), wanted),
+        Faults(wanted) => assert_eq!(rt; part.fault(), wanted),
+    }
+}
+
+/// Makes calls, one after another.
+fn make_all(rt: &impl Abort, alloc: Global, is_wanted: bool, calls: &[Move]) {
+    let mut part = part_of(rt, alloc, is_wanted);
+    for call in calls {
+        make(rt, &mut part, *call);
+    }
+}
+
+#[test]
+fn does_what_is_to_be_done(rt: HostRuntime) {
+    make_all(&rt, rt.alloc(), true, KEEPS.as_slice());
+    make_all(&rt, rt.alloc(), true, MEETS.as_slice());
+    make_all(&rt, rt.alloc(), false, STOPS.as_slice());
+}
