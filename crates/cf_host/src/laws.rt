@@ -1,0 +1,33 @@
+//! Laws of a process: the contract of each function is the statement, and its body is empty.
+ghost use Rattle.cf_host.specs.Clocks.{LimitsComeInTime, TimersComeByThen, WhatComesHasCome};
+ghost use Rattle.cf_host.specs.News.{NothingIsMissed};
+ghost use Rattle.cf_host.specs.Tickets.{EachIsAnsweredOnce};
+
+/// Whatever the store's clock shows, if it goes no faster than this process's, and an answer told it truly: a timer that is
+/// set by `moment_after` comes no earlier than its span from now on.
+pub fn limits_come_in_time()
+    ensures { LimitsComeInTime }
+{}
+
+/// If the store's clock goes no slower than this process's, it has come to a moment once this process's has come to
+/// `due_at`. So one look from then on is enough.
+pub fn timers_are_come_by_then()
+    ensures { TimersComeByThen }
+{}
+
+/// What has come by an answer has come, at each later moment.
+pub fn come_timers_stay_come()
+    ensures { WhatComesHasCome }
+{}
+
+/// Behind any calls, each ticket has a number of its own, each that was closed was opened just so, and none was closed
+/// twice. So each question and each call is answered once at most, for whom it was opened.
+pub fn each_is_answered_once()
+    ensures { EachIsAnsweredOnce }
+{}
+
+/// Whatever changed up to the last mark was told by an answer to a whole look, or to a look that began before it. Looks
+/// without an answer leave no gap.
+pub fn nothing_is_missed()
+    ensures { NothingIsMissed }
+{}

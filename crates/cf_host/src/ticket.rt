@@ -1,0 +1,25 @@
+//! What a ticket is for.
+
+/// What was asked for or called.
+#[derive(Clone, Copy, Debug, PartialEq, Eq)]
+pub enum Asked {
+    /// All sessions' beats, and the store's clock.
+    Beats,
+    /// What is new of requests.
+    News,
+    /// The row of a request.
+    Row { request: u64 },
+    /// Payloads of a request.
+    Payloads { request: u64 },
+    /// The function of a stage was called.
+    Call { request: u64, stage: u16 },
+}
+
+/// A question or a call whose answer isn't there yet.
+#[derive(Clone, Copy, Debug, PartialEq, Eq)]
+pub struct Ticket {
+    pub number: u64,
+    pub of: Asked,
+    /// When it was opened.
+    pub asked: u64,
+}
