@@ -82,9 +82,10 @@ def _waits(request: "Request", found: "List[Tuple[int, int, int, int, int]]", ti
 
 def open_requests(works: "Works") -> List[OpenRequest]:
     """The requests of a service that aren't over, the longest-lasting first."""
-    return sorted(
-        (it for it in map(_opened, requests_of(works)) if it.waits), key=lambda it: -1.0 if it.seconds is None else it.seconds, reverse=True
-    )
+    looked = [(request, *request._look()) for request in requests_of(works)]
+    now = max((it[-1] for it in looked), default=0)  # one for all: by one of its own, what is looked at later would be older
+    opened = [_opened(request, found, times, now) for request, found, times, _ in looked]
+    return sorted((it for it in opened if it.waits), key=lambda it: -1.0 if it.seconds is None else it.seconds, reverse=True)
 
 
 def requests_of(works: "Works") -> "List[Request]":
@@ -95,8 +96,7 @@ def requests_of(works: "Works") -> "List[Request]":
     return [it for it in gc.get_objects() if isinstance(it, RequestCore) and it._works is works and hasattr(it, "_plan")]  # type: ignore[misc]
 
 
-def _opened(request: "Request") -> OpenRequest:
-    found, times, now = request._look()
+def _opened(request: "Request", found: "List[Tuple[int, int, int, int, int]]", times: "array[int]", now: int) -> OpenRequest:
     limit = None if request._moment == NEVER else _seconds(request._moment, request._works.clock.now(request))
     return OpenRequest(request, _seconds(now, times[0]) if times else None, limit, _waits(request, found, times, now))
 

@@ -11,7 +11,7 @@ import time
 import unittest
 
 from case import fails, inc, program, until
-from cf.service import Flow, LoopService, Request, Service
+from cf.service import Flow, LoopService, Request, Service, opened
 from cf.testing import orders
 
 
@@ -93,6 +93,18 @@ class Opened(unittest.TestCase):
             elsewhere.cancel()
         self.go.set()
         self.assertEqual(alone.result(20), 2)
+
+    def test_a_stall_reorders_nothing(self):
+        """The second of two is looked at long after the first, and is the younger one all the same."""
+        first, second = (self.service.request(name) for name in ("first", "second"))
+        first.promise(), second.promise()
+        looked = [request._look() for request in (first, second)]
+        later = [(found, times, now + k * 10**9) for k, (found, times, now) in enumerate(looked)]
+        with unittest.mock.patch.object(opened, "requests_of", lambda _: [first, second]):
+            with unittest.mock.patch.object(Request, "_look", lambda request: later[request is second]):
+                found = self.service.open_requests()
+        self.assertEqual([it.request for it in found], [first, second])
+        self.assertTrue(found[0].seconds - found[1].seconds < 0.9, found)
 
     def test_a_line_of_each(self):
         request = self.service.request("order\n17")
