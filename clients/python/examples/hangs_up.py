@@ -6,7 +6,7 @@ import asyncio
 import tempfile
 
 from cf.service import Flow
-from cf.store import DurableService, connect
+from cf.store import Broken, DurableService, connect
 
 service = DurableService(connect(f"sqlite:///{tempfile.mkdtemp()}/orders.db"))
 
@@ -27,11 +27,18 @@ charged = order.then(charge)
 shipped = charged.combine(approval, ship)
 
 
+def begin(number):
+    try:
+        return service.start(flow, number, name=f"order {number}")
+    except Broken:  # it was begun by an older plan
+        return service.open(f"order {number}")
+
+
 async def handle(number):
-    begins = asyncio.ensure_future(asyncio.to_thread(service.start, flow, number, name=f"order {number}"))
+    begins = asyncio.ensure_future(asyncio.to_thread(begin, number))
     try:
         request = await asyncio.shield(begins)
-        return await (await asyncio.to_thread(request.__getitem__, shipped))
+        return await (await asyncio.to_thread(request.__getitem__, "ship"))
     finally:  # also if the server cancels this handler
         await asyncio.to_thread((await begins).cancel)
 

@@ -1,5 +1,5 @@
 //! A server of hyper's, whose client hangs up: hyper drops the handler's future, and what is open of its request in the store is cancelled.
-use cf_store::{Error, Flow, Functions, Request, SQLite, Service, Step, StoreError};
+use cf_store::{Error, Flow, Functions, Request, SQLite, Service, StoreError};
 use hyper::service::{make_service_fn, service_fn};
 use hyper::{Body, Response, Server};
 use serde_json::{json, Value};
@@ -16,20 +16,34 @@ impl Drop for CancelsOnDrop {
     }
 }
 
-async fn handle(service: Arc<Service>, order: u64) -> Result<Value, Error> {
-    let (flow, shipped) = flow();
-    let begin = move || service.start(&flow, &format!("order {order}"), &[json!(order)]).map(CancelsOnDrop);
-    let scope = spawn_blocking(begin).await.expect("no panic")?;
-    let shipped = scope.0.step(shipped).expect("a step of this flow");
-    spawn_blocking(move || shipped.wait()).await.expect("no panic")
+fn begin(service: &Service, order: u64) -> Result<Request, StoreError> {
+    let name = format!("order {order}");
+    match service.start(&flow(), &name, &[json!(order)]) {
+        Err(StoreError::Broken { .. }) => service.open(&name), // it was begun by an older plan
+        begun => begun,
+    }
 }
 
-fn flow() -> (Flow, Step) {
+async fn handle(service: Arc<Service>, order: u64) -> Result<Value, Error> {
+    let scope = spawn_blocking(move || begin(&service, order).map(CancelsOnDrop)).await.expect("no panic")?;
+    let request = scope.0.clone();
+    spawn_blocking(move || request.named("ship")?.expect("a stage of each plan").wait()).await.expect("no panic")
+}
+
+fn flow() -> Flow {
     let mut flow = Flow::new("order");
     let (order, approval) = (flow.promise("order"), flow.promise("approval"));
     let paid = flow.then(order, "charge");
-    let shipped = flow.combine(paid, approval, "ship");
-    (flow, shipped)
+    flow.combine(paid, approval, "ship");
+    flow
+}
+
+/// The plan before the program's last change.
+fn older() -> Flow {
+    let mut flow = Flow::new("order");
+    let (cents, approval) = (flow.promise("cents"), flow.promise("approval"));
+    flow.combine(cents, approval, "ship");
+    flow
 }
 
 /// A request, once it has begun.
@@ -80,6 +94,9 @@ async fn main() -> Result<(), Box<dyn std::error::Error>> {
     }));
     let address = server.local_addr();
     tokio::spawn(server);
+    let began = service.clone();
+    spawn_blocking(move || began.start(&older(), "order 15", &[json!(1500), json!("Bob")])).await??;
+    println!("{}", handle(service.clone(), 15).await?);
     tokio::select! { biased; _ = handle(service.clone(), 16) => {}, () = ready(()) => {} } // a client that hangs up while its request begins
     spawn_blocking(move || hang_up(address, &service)).await??;
     Ok(fs::remove_dir_all(folder)?)
