@@ -76,12 +76,12 @@ def rows_of_python(tools: Tools, made: Path) -> List[Row]:
             "Python's order whose process is killed",
             [MODULE, "python3"],
             [["env", f"PYTHONPATH={TOP}/clients/python", "sh", "-c", killed]],
-            ("clients/python", "durable.py"),
+            ("README.md", "durable.py"),
         ),
         example("Python's example", "example.py", "clients/python/examples"),
         example("Python's handler on an event loop", "async_handler.py"),
         example("Python's handler of eight backends", "eight_backends.py", "clients/python/examples"),
-        example("Python's first program", "first.py"),
+        example("Python's first program", "first.py", "README.md"),
         example("Python's spans in a file", "traced.py", "docs/HISTORIES.md"),
         example("Python's order of three processes", "order.py", "docs/STORES.md"),
         example("Python's order whose bank is away", "retry.py", "docs/STORES.md"),
@@ -429,7 +429,7 @@ def rows_of_packages(tools: Tools, made: Path) -> List[Row]:
     python, javac, builds = tools["python3"], "JDK of 17 or later", BUILDS_WHEELS
     made_of = [
         ("c", "C", ["pkg-config"], ("clients/c", "request.c")),
-        ("python", "Python", [builds], ("clients/python", "first.py")),
+        ("python", "Python", [builds], ("README.md", "first.py")),
         ("java", "Java", [javac], ("clients/java", "First")),
         ("rust", "Rust", ["cargo", PACKS], ("clients/rust", "first.rs")),
     ]
@@ -439,7 +439,7 @@ def rows_of_packages(tools: Tools, made: Path) -> List[Row]:
         make = ["env", "JAVAC=" + tools[javac], with_builds, "clients/packages/make", "--trial", "--quick", "--twice", "--only", language, folder]
         rows.append(Row(f"the package for {name}", [*needs, *more], [make, [python, "clients/packages/try", language, folder]], prints))
     for trial, name, languages, more, prints in [
-        ("sdist", "Python's source distribution over a library", ["c", "python"], [builds], ("clients/python", "first.py")),
+        ("sdist", "Python's source distribution over a library", ["c", "python"], [builds], ("README.md", "first.py")),
         ("maven", "a project of Maven over the package for Java", ["java"], [javac, MAVEN], ("clients/java", "First")),
     ]:
         folder, onlys = str(made / "packages" / trial), [word for it in languages for word in ("--only", it)]

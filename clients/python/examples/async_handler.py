@@ -18,7 +18,7 @@ async def quote(number):
 
 async def handle(service, number):
     try:
-        async with service.request(f"order {number}", timeout=0.5) as request:  # ends also if the client hangs up
+        async with service.request(f"order {number}", timeout=0.5) as request:  # ends also if this task is cancelled
             order = request.supply(load, number)
             cents = request.supply(quote, number)
             return 200, await order.combine(cents, lambda order, cents: {**order, "cents": cents})

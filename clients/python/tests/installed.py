@@ -1,5 +1,5 @@
 #!/usr/bin/env python3
-"""Builds the wheel, installs it in a fresh virtual environment, and runs there the README's first program and the
+"""Builds the wheel, installs it in a fresh virtual environment, and runs there the first program and the
 tests. Nothing is fetched.
 
     CF_LIBRARY_DIR=/folder/of/libcf.a python3 clients/python/tests/installed.py [FOLDER]
