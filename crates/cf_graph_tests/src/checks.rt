@@ -5,21 +5,6 @@ use std::alloc::Global;
 use std::fmt::{Debug, Display};
 use std::process::Abort;
 
-/// Both are alike.
-pub(crate) fn same<T: PartialEq + Debug + Drop>(rt: &impl Abort, told: T, wanted: T) {
-    assert_eq!(rt; told, wanted);
-}
-
-/// Both are alike. The name tells which of several doesn't hold.
-pub(crate) fn same_at<T: PartialEq + Debug + Drop, N: Debug + Drop>(
-    rt: &impl Abort,
-    told: T,
-    wanted: T,
-    name: N,
-) {
-    assert_eq!(rt; told, wanted, "{name:?}");
-}
-
 /// This holds. The name tells what doesn't.
 pub(crate) fn holds<N: Debug + Drop>(rt: &impl Abort, is_so: bool, name: N)
     ensures { IsTrue is_so }

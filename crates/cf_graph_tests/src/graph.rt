@@ -5,10 +5,11 @@
 //! table.
 
 mod attaching;
+mod by_events;
 mod graphs;
 mod noting;
-mod plans;
+pub(crate) mod plans;
 mod restarting;
-mod steps;
+pub(crate) mod steps;
 mod sweeping;
 mod working;

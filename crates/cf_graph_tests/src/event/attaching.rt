@@ -1,12 +1,11 @@
 //! Events that attach stages: the words of all of them, and what they do to a graph with room.
 ghost use Rattle.std.specs.Prelude.{◌≡◌, ◌<◌, length};
 
-use crate::checks::{holds, must, same, same_at};
+use crate::checks::{holds, must};
 use crate::event::words::is_word;
 use cf_core::Graph;
-use cf_event::{Event, Reply, apply, decode, encode, is_event, replay};
-use cf_forms::{Args, Form, Of, fits_form};
-use cf_model::{Attached, Claimed};
+use cf_event::{Event, decode, encode, is_event, replay};
+use cf_forms::{Form, Of, fits_form};
 use cf_outcome::{Outcome, Value};
 use cf_plan::PlanBuilder;
 use std::alloc::Global;
@@ -60,23 +59,17 @@ fn is_numbered(event: &Event, number: u64) -> bool {
     word / (1 << 24) % 256 == number && decode(word) == Some(*event)
 }
 
-/// An event that attaches a stage.
-fn attach(who: u8, form: Form, of: Of, function: Option<u16>) -> Event {
-    Event::Attach {
-        who,
+/// Whether a stage fits its form as wanted. If it does, its attaching has a word with the number of the form, and else it
+/// has none.
+fn fits_so(number: u64, form: Form, of: Of, function: Option<u16>, wanted: bool) -> bool {
+    let event = Event::Attach {
+        who: 3,
         form,
         of,
         function,
-    }
-}
-
-/// Whether a stage fits its form. If it does, its attaching has a word with the number of the form, and else it has none.
-fn fits(rt: &impl Abort, number: usize, form: Form, of: Of, function: Option<u16>) -> bool {
+    };
     let fits = fits_form(form, of.count(), function.is_some());
-    let event = attach(3, form, of, function);
-    same_at(rt, is_event(&event), fits, event);
-    same_at(rt, is_numbered(&event, number as u64), fits, event);
-    fits
+    (fits == wanted) & (is_event(&event) == wanted) & (is_numbered(&event, number) == wanted)
 }
 
 /// How many of those sources and functions fit the form of this number.
@@ -87,7 +80,8 @@ fn count_fitting(rt: &impl Abort, number: usize, row: (Form, u16, u16, bool)) ->
         let counts = least <= of.count() && of.count() <= most;
         for function in &FUNCTIONS {
             let wanted = counts && called == function.is_some();
-            same(rt, fits(rt, number, form, *of, *function), wanted);
+            let is_right = fits_so(number as u64, form, *of, *function, wanted);
+            holds(rt, is_right, (form, of, function));
             found = found.wrapping_add(wanted as u32);
         }
     }
@@ -100,7 +94,7 @@ fn stages_that_fit_their_form_have_words(rt: HostRuntime) {
     for (number, row) in FORMS.iter().enumerate() {
         found = found.wrapping_add(count_fitting(&rt, number, *row));
     }
-    same(&rt, found, FITTING);
+    holds(&rt, found == FITTING, found);
 }
 
 /// Those are all words with these sources and functions: each form's number up to 255, with each number of sources up to 15.
@@ -112,7 +106,7 @@ fn no_other_word_attaches(rt: HostRuntime) {
             found = found.wrapping_add(count_words(&rt, form, count));
         }
     }
-    same(&rt, found, FITTING);
+    holds(&rt, found == FITTING, found);
 }
 
 /// The sources and the functions of those events, as the bits of their words.
@@ -137,24 +131,6 @@ fn count_words(rt: &impl Abort, form: u64, count: u64) -> u32 {
     found
 }
 
-/// Attachings, and whether there is a word for each.
-static GREATEST: [(u8, Form, Of, Option<u16>, bool); 6] = [
-    (63, Form::RunBoth, Of::Two(4095, 4095), Some(4095), true),
-    (64, Form::RunBoth, Of::Two(0, 0), Some(0), false),
-    (0, Form::RunBoth, Of::Two(4096, 0), Some(0), false),
-    (0, Form::RunBoth, Of::Two(0, 4096), Some(0), false),
-    (0, Form::RunBoth, Of::Two(0, 0), Some(4096), false),
-    (0, Form::AnyOf, Of::One(4096), None, false),
-];
-
-#[test]
-fn words_have_no_room_for_greater_numbers(rt: HostRuntime) {
-    for (who, form, of, function, has) in &GREATEST {
-        let event = attach(*who, *form, *of, *function);
-        same_at(&rt, is_event(&event), *has, event);
-    }
-}
-
 /// The graph of one source, with room for two stages.
 fn growing(rt: &impl Abort, alloc: Global) -> Graph
     ensures room { result.state.plan.room ≡ 2 }
@@ -166,47 +142,6 @@ fn growing(rt: &impl Abort, alloc: Global) -> Graph
     let has_place = plan.stages() > 0 && plan.stages() <= 4094 && plan.edges() <= 16380;
     holds(rt, has_place, "place");
     must(rt, Graph::new_growing(alloc, plan, 2))
-}
-
-/// What the event of a word is answered, if it is one's that fits.
-fn answer(graph: &mut Graph, word: u64) -> Option<Reply> {
-    let event = decode(word)?;
-    if graph.takes(&event) {
-        Some(apply(graph, &event))
-    } else {
-        None
-    }
-}
-
-/// Words, and what each is answered.
-static WORDS: [(u64, Option<Reply>); 6] = [
-    (0x0402001000000000, None),
-    (0x0700000103000006, Some(Reply::Attach(Attached::At(1)))),
-    (0x0700001110000000, Some(Reply::Attach(Attached::At(2)))),
-    (
-        0x0700000000000000,
-        Some(Reply::Attach(Attached::StagesFull)),
-    ),
-    (0x0101000100000005, Some(Reply::Flag(true))),
-    (
-        0x0402001000000000,
-        Some(Reply::Claim(Claimed::Granted(Args::One(Value::Int(5))))),
-    ),
-];
-
-/// The graph takes these words, and each is answered as it says.
-fn answer_all(rt: &impl Abort, graph: &mut Graph) {
-    for (word, wanted) in &WORDS {
-        same_at(rt, answer(graph, *word), *wanted, word);
-    }
-}
-
-#[test]
-fn events_of_words_name_attached_stages(rt: HostRuntime) {
-    let mut graph = growing(&rt, rt.alloc());
-    answer_all(&rt, &mut graph);
-    same(&rt, graph.stages(), 3);
-    drop(graph);
 }
 
 /// Whether a stage is there, and has this outcome.

@@ -1,17 +1,39 @@
-//! Events and their words, and what events do to a graph.
-use crate::checks::{holds, must, same, same_at};
-use cf_core::Graph;
-use cf_event::{Event, Reply, apply, decode, encode, is_event, replay};
-use cf_forms::{Answer, Args, Form, Of};
-use cf_model::{Claimed, Failure, Ticked};
+//! Events and their words.
+use crate::checks::holds;
+use cf_event::{Event, decode, encode, is_event};
+use cf_forms::{Answer, Form, Of};
+use cf_model::Failure;
 use cf_outcome::Value;
-use cf_plan::{Plan, PlanBuilder};
-use std::alloc::Global;
 use std::process::Abort;
 
-/// Events with their words.
-static ROWS: [(Event, u64); 17] = [
-    (
+/// What is known of an event or a word.
+#[derive(Clone, Copy)]
+enum Row {
+    /// An event has this word.
+    Word(Event, u64),
+    /// A word is no event's.
+    NoEvent(u64),
+    /// Whether an event has a word. It has none if a number in it is too great.
+    HasWord(Event, bool),
+}
+
+/// Whether the attaching of a stage by a caller has a word.
+macro_rules! attaches {
+    ($who:expr, $form:expr, $of:expr, $function:expr, $has:expr) => {
+        Row::HasWord(
+            Event::Attach {
+                who: $who,
+                form: $form,
+                of: $of,
+                function: $function,
+            },
+            $has,
+        )
+    };
+}
+
+static ROWS: [Row; 41] = [
+    Row::Word(
         Event::Complete {
             who: 0,
             stage: 0,
@@ -19,7 +41,7 @@ static ROWS: [(Event, u64); 17] = [
         },
         0x0100000000000000,
     ),
-    (
+    Row::Word(
         Event::Complete {
             who: 63,
             stage: 4095,
@@ -27,7 +49,7 @@ static ROWS: [(Event, u64); 17] = [
         },
         0x013ffff180000000,
     ),
-    (
+    Row::Word(
         Event::Fail {
             who: 1,
             stage: 2,
@@ -35,9 +57,9 @@ static ROWS: [(Event, u64); 17] = [
         },
         0x02010020ffffffff,
     ),
-    (Event::Cancel { who: 1, stage: 0 }, 0x0301000000000000),
-    (Event::Claim { who: 0, stage: 1 }, 0x0400001000000000),
-    (
+    Row::Word(Event::Cancel { who: 1, stage: 0 }, 0x0301000000000000),
+    Row::Word(Event::Claim { who: 0, stage: 1 }, 0x0400001000000000),
+    Row::Word(
         Event::FailAs {
             who: 63,
             stage: 4095,
@@ -45,7 +67,7 @@ static ROWS: [(Event, u64); 17] = [
         },
         0x083ffff000000000,
     ),
-    (
+    Row::Word(
         Event::FailAs {
             who: 1,
             stage: 0,
@@ -53,7 +75,7 @@ static ROWS: [(Event, u64); 17] = [
         },
         0x0801000000000007,
     ),
-    (
+    Row::Word(
         Event::FailAs {
             who: 0,
             stage: 2,
@@ -61,7 +83,7 @@ static ROWS: [(Event, u64); 17] = [
         },
         0x08000021ffffffff,
     ),
-    (
+    Row::Word(
         Event::Finish {
             who: 2,
             stage: 5,
@@ -69,7 +91,7 @@ static ROWS: [(Event, u64); 17] = [
         },
         0x05020051ffffffff,
     ),
-    (
+    Row::Word(
         Event::Finish {
             who: 0,
             stage: 1,
@@ -77,7 +99,7 @@ static ROWS: [(Event, u64); 17] = [
         },
         0x0500001200000007,
     ),
-    (
+    Row::Word(
         Event::Finish {
             who: 0,
             stage: 3,
@@ -85,8 +107,8 @@ static ROWS: [(Event, u64); 17] = [
         },
         0x0500003300000001,
     ),
-    (Event::Tick { who: 0, moment: 20 }, 0x0600000000000014),
-    (
+    Row::Word(Event::Tick { who: 0, moment: 20 }, 0x0600000000000014),
+    Row::Word(
         Event::Attach {
             who: 0,
             form: Form::Source,
@@ -95,7 +117,7 @@ static ROWS: [(Event, u64); 17] = [
         },
         0x0700000000000000,
     ),
-    (
+    Row::Word(
         Event::Attach {
             who: 0,
             form: Form::Apply,
@@ -104,7 +126,7 @@ static ROWS: [(Event, u64); 17] = [
         },
         0x0700000103000000,
     ),
-    (
+    Row::Word(
         Event::Attach {
             who: 63,
             form: Form::Combine,
@@ -113,7 +135,7 @@ static ROWS: [(Event, u64); 17] = [
         },
         0x073f002206ffffff,
     ),
-    (
+    Row::Word(
         Event::Attach {
             who: 0,
             form: Form::AnyOf,
@@ -122,7 +144,7 @@ static ROWS: [(Event, u64); 17] = [
         },
         0x0700000011000000,
     ),
-    (
+    Row::Word(
         Event::Attach {
             who: 0,
             form: Form::ExceptionallyCompose,
@@ -131,61 +153,50 @@ static ROWS: [(Event, u64); 17] = [
         },
         0x0700000112000002,
     ),
-];
-
-/// Words of no event.
-static REFUSED: [u64; 15] = [
-    0x0000000000000000,
-    0x0100000000000001,
-    0x0100000200000000,
-    0x0140000000000000,
-    0x0500000300010000,
-    0x0600001000000000,
-    0x0700000000000001,
-    0x0700001000000000,
-    0x0700000003000000,
-    0x0700000303000000,
-    0x0700000113000002,
-    0x0740000000000000,
-    0x0800000200000000,
-    0x0840000000000001,
-    0x0900000000000000,
+    // Words of no event.
+    Row::NoEvent(0x0000000000000000),
+    Row::NoEvent(0x0100000000000001),
+    Row::NoEvent(0x0100000200000000),
+    Row::NoEvent(0x0140000000000000),
+    Row::NoEvent(0x0500000300010000),
+    Row::NoEvent(0x0600001000000000),
+    Row::NoEvent(0x0700000000000001),
+    Row::NoEvent(0x0700001000000000),
+    Row::NoEvent(0x0700000003000000),
+    Row::NoEvent(0x0700000303000000),
+    Row::NoEvent(0x0700000113000002),
+    Row::NoEvent(0x0740000000000000),
+    Row::NoEvent(0x0800000200000000),
+    Row::NoEvent(0x0840000000000001),
+    Row::NoEvent(0x0900000000000000),
+    // Numbers that are too great.
+    Row::HasWord(
+        Event::FailAs {
+            who: 0,
+            stage: 4096,
+            failure: Failure::TimedOut(7),
+        },
+        false,
+    ),
+    Row::HasWord(Event::Cancel { who: 64, stage: 0 }, false),
+    Row::HasWord(
+        Event::Claim {
+            who: 0,
+            stage: 4096,
+        },
+        false,
+    ),
+    attaches!(63, Form::RunBoth, Of::Two(4095, 4095), Some(4095), true),
+    attaches!(64, Form::RunBoth, Of::Two(0, 0), Some(0), false),
+    attaches!(0, Form::RunBoth, Of::Two(4096, 0), Some(0), false),
+    attaches!(0, Form::RunBoth, Of::Two(0, 4096), Some(0), false),
+    attaches!(0, Form::RunBoth, Of::Two(0, 0), Some(4096), false),
+    attaches!(0, Form::AnyOf, Of::One(4096), None, false),
 ];
 
 /// Whether this is the word of an event.
 fn has_word(event: &Event, word: u64) -> bool {
     is_event(event) && encode(event) == word && decode(word) == Some(*event)
-}
-
-#[test]
-fn each_event_has_its_word(rt: HostRuntime) {
-    for (event, word) in &ROWS {
-        holds(&rt, has_word(event, *word), word);
-    }
-    for word in &REFUSED {
-        same_at(&rt, decode(*word), None, word);
-    }
-}
-
-/// Events with a number that is too great for a word.
-static TOO_GREAT: [Event; 3] = [
-    Event::FailAs {
-        who: 0,
-        stage: 4096,
-        failure: Failure::TimedOut(7),
-    },
-    Event::Cancel { who: 64, stage: 0 },
-    Event::Claim {
-        who: 0,
-        stage: 4096,
-    },
-];
-
-#[test]
-fn greater_numbers_have_no_word(rt: HostRuntime) {
-    for event in &TOO_GREAT {
-        assert!(rt; !is_event(event));
-    }
 }
 
 /// Whether a word is an event's, which then has this word.
@@ -210,75 +221,29 @@ fn count_near(rt: &impl Abort, word: u64) -> u32 {
     good
 }
 
-/// A word that differs from a good one in one bit is the word of its event, or of none.
+/// Whether a row is so.
+fn is_so(row: Row) -> bool {
+    match row {
+        Row::Word(event, word) => has_word(&event, word),
+        Row::NoEvent(word) => decode(word).is_none(),
+        Row::HasWord(event, has) => is_event(&event) == has,
+    }
+}
+
+/// A word that differs from a good one in one bit is the word of its event, or of none. Says how many are an event's.
+fn count_near_row(rt: &impl Abort, row: Row) -> u32 {
+    match row {
+        Row::Word(_, word) => count_near(rt, word),
+        _ => 0,
+    }
+}
+
 #[test]
-fn one_bit_off_is_another_event_or_none(rt: HostRuntime) {
+fn each_event_has_its_word(rt: HostRuntime) {
     let mut good: u32 = 0;
-    for (_, word) in &ROWS {
-        good = good.saturating_add(count_near(&rt, *word));
+    for (at, row) in ROWS.iter().enumerate() {
+        holds(&rt, is_so(*row), at);
+        good = good.saturating_add(count_near_row(&rt, *row));
     }
-    same(&rt, good, 621);
-}
-
-/// The plan of one supply.
-fn supply(rt: &impl Abort, alloc: Global) -> Plan {
-    let mut builder = PlanBuilder::new(alloc);
-    must(rt, builder.stage(Form::Supply, &[], Some(0)));
-    must(rt, builder.build())
-}
-
-/// A source, and an anyOf of it.
-fn pair(rt: &impl Abort, alloc: Global) -> Plan {
-    let mut builder = PlanBuilder::new(alloc);
-    must(rt, builder.stage(Form::Source, &[], None));
-    must(rt, builder.stage(Form::AnyOf, &[0], None));
-    must(rt, builder.build())
-}
-
-/// Completes the first stage of a graph, which then ticks. With these turns before, so many are counted.
-fn complete_and_tick(rt: &impl Abort, mut graph: Graph, nudges: &[u32], turns: u64) {
-    let complete = Event::Complete {
-        who: 0,
-        stage: 0,
-        value: Value::Nil,
-    };
-    let tick = Event::Tick { who: 0, moment: 5 };
-    holds(rt, graph.takes(&complete), complete);
-    replay(&mut graph, &[complete, tick], nudges);
-    same(rt, graph.turns(), turns);
-    drop(graph);
-}
-
-/// Turns before the events, and how many are counted.
-static TURNS: [(&[u32], u64); 4] = [(&[], 0), (&[9], 0), (&[9, 0], 0), (&[0, 9], 1)];
-
-#[test]
-fn turns_are_taken_before_their_event(rt: HostRuntime) {
-    for (nudges, turns) in &TURNS {
-        let graph = must(&rt, Graph::new(rt.alloc(), pair(&rt, rt.alloc())));
-        complete_and_tick(&rt, graph, nudges, *turns);
-    }
-}
-
-/// Whether an event fits a graph, and is answered so.
-fn is_answered(graph: &mut Graph, event: &Event, answer: Reply) -> bool {
-    graph.takes(event) && apply(graph, event) == answer
-}
-
-/// A claim is granted, and a tick behind a later one is past.
-fn claim_and_tick(rt: &impl Abort, mut graph: Graph) {
-    let claim = Event::Claim { who: 1, stage: 0 };
-    let granted = Reply::Claim(Claimed::Granted(Args::None));
-    holds(rt, is_answered(&mut graph, &claim, granted), claim);
-    replay(&mut graph, &[Event::Tick { who: 0, moment: 5 }], &[2, 3]);
-    let earlier = Event::Tick { who: 1, moment: 4 };
-    let past = Reply::Tick(Ticked::Past);
-    holds(rt, is_answered(&mut graph, &earlier, past), earlier);
-    drop(graph);
-}
-
-#[test]
-fn events_are_done_to_a_graph(rt: HostRuntime) {
-    let graph = must(&rt, Graph::new(rt.alloc(), supply(&rt, rt.alloc())));
-    claim_and_tick(&rt, graph);
+    holds(&rt, good == 621, good);
 }

@@ -3,37 +3,22 @@ ghost use Rattle.std.specs.Prelude.{◌≡◌};
 
 use crate::checks::{holds, must};
 use crate::functions::Always;
+use crate::graph::plans;
+use crate::graph::plans::plan_of;
 use cf_explore::{Caller, Program, Step};
-use cf_forms::{Answer, Form, Limit};
-use cf_plan::{Plan, PlanBuilder};
+use cf_forms::Answer;
 use std::alloc::Global;
 use std::process::Abort;
-
-/// A stage: its form, its sources and the number of its function.
-pub(crate) type Stage = (Form, &'static [u16], Option<u16>);
 
 /// A program.
 #[derive(Clone, Copy)]
 pub(crate) struct Rows {
-    pub(crate) stages: &'static [Stage],
-    pub(crate) limits: &'static [Limit],
+    pub(crate) plan: plans::Rows,
     pub(crate) room: u16,
     pub(crate) callers: &'static [&'static [Step]],
     pub(crate) workers: u8,
     pub(crate) functions: &'static [Answer],
     pub(crate) free: bool,
-}
-
-/// The plan of these stages, with limits.
-fn plan_of(rt: &impl Abort, alloc: Global, rows: &Rows) -> Plan {
-    let mut builder = PlanBuilder::new(alloc);
-    for (form, of, function) in rows.stages {
-        must(rt, builder.stage(*form, of, *function));
-    }
-    for limit in rows.limits {
-        must(rt, builder.limit(limit.stage, limit.at, limit.kind));
-    }
-    must(rt, builder.build())
 }
 
 /// The callers with their steps.
@@ -59,7 +44,7 @@ pub(crate) fn functions_of(rt: &impl Abort, alloc: Global, rows: &Rows) -> Vec<A
 
 /// The program, which has to be one.
 pub(crate) fn program(rt: &impl Abort, alloc: Global, rows: &Rows) -> Program {
-    let plan = plan_of(rt, alloc, rows);
+    let plan = plan_of(rt, alloc, &rows.plan);
     let callers = callers_of(rt, alloc, rows);
     holds(rt, plan.has_place(rows.room), "place");
     holds(rt, callers.len() + rows.workers as usize <= 63, "callers");

@@ -1,6 +1,8 @@
 //! What small programs can come to.
-use crate::checks::{must, same_at};
+use crate::checks::{holds, must};
 use crate::explore::programs::{Rows, functions_of, program};
+use crate::graph::plans;
+use crate::graph::plans::SOURCE;
 use cf_explore::{Condition, Fact, Found, How, Step, When};
 use cf_forms::{Answer, Form, Limit, LimitKind};
 use cf_model::{Ask, Call};
@@ -8,9 +10,14 @@ use cf_outcome::Value;
 use std::alloc::Global;
 use std::process::Abort;
 
+/// One source.
+const ONE: plans::Rows = plans::Rows {
+    stages: &[SOURCE],
+    ..plans::NONE
+};
+
 const NONE: Rows = Rows {
-    stages: &[(Form::Source, &[], None)],
-    limits: &[],
+    plan: ONE,
     room: 0,
     callers: &[],
     workers: 0,
@@ -28,11 +35,14 @@ const LOOK: Step = Step::Look(Ask::Outcome(0));
 
 /// Two stages that pay, with one function.
 const PAYS: Rows = Rows {
-    stages: &[
-        (Form::Supply, &[], Some(0)),
-        (Form::Supply, &[], Some(0)),
-        (Form::AnyOf, &[0, 1], None),
-    ],
+    plan: plans::Rows {
+        stages: &[
+            (Form::Supply, &[], Some(0)),
+            (Form::Supply, &[], Some(0)),
+            (Form::AnyOf, &[0, 1], None),
+        ],
+        ..plans::NONE
+    },
     workers: 2,
     functions: &[Answer::Give(Value::Int(1))],
     ..NONE
@@ -40,10 +50,13 @@ const PAYS: Rows = Rows {
 
 /// The repair: the second pays only where the first has failed.
 const PAYS_ONCE: Rows = Rows {
-    stages: &[
-        (Form::Supply, &[], Some(0)),
-        (Form::Exceptionally, &[0], Some(0)),
-    ],
+    plan: plans::Rows {
+        stages: &[
+            (Form::Supply, &[], Some(0)),
+            (Form::Exceptionally, &[0], Some(0)),
+        ],
+        ..plans::NONE
+    },
     ..PAYS
 };
 
@@ -55,11 +68,14 @@ const AGAINST: Rows = Rows {
 
 /// A timeout that loses, or wins.
 const TIMED: Rows = Rows {
-    limits: &[Limit {
-        stage: 0,
-        at: 10,
-        kind: LimitKind::Timeout(7),
-    }],
+    plan: plans::Rows {
+        limits: &[Limit {
+            stage: 0,
+            at: 10,
+            kind: LimitKind::Timeout(7),
+        }],
+        ..ONE
+    },
     callers: &[&[COMPLETE]],
     free: true,
     ..NONE
@@ -67,11 +83,10 @@ const TIMED: Rows = Rows {
 
 /// The first of two replicas.
 const REPLICAS: Rows = Rows {
-    stages: &[
-        (Form::Source, &[], None),
-        (Form::Source, &[], None),
-        (Form::AnyOf, &[0, 1], None),
-    ],
+    plan: plans::Rows {
+        stages: &[SOURCE, SOURCE, (Form::AnyOf, &[0, 1], None)],
+        ..plans::NONE
+    },
     callers: &[&[COMPLETE], &[OTHER]],
     ..NONE
 };
@@ -212,8 +227,8 @@ fn check(rt: &impl Abort, alloc: Global, row: &Row, found: Found) {
     let twice = moves_to(rt, alloc, &found);
     let seen = (found.trail.len(), found.whole, twice);
     drop(found);
-    same_at(rt, ends, (row.ends, row.orders), row.name);
-    same_at(rt, seen, (row.situations, row.whole, row.twice), row.name);
+    let is_so = ends == (row.ends, row.orders) && seen == (row.situations, row.whole, row.twice);
+    holds(rt, is_so, (row.name, ends, seen));
 }
 
 #[test]

@@ -1,8 +1,8 @@
 //! Stages that are attached: what they take at once, and what they wait for.
 use crate::graph::plans::{NONE, Rows, SOURCE};
-use crate::graph::steps::{Case, Step, play};
+use crate::graph::steps::{Case, Step, fault, granted, value};
 use cf_forms::{Answer, Args, Form, Of};
-use cf_model::{Attached, Claimed, Finished};
+use cf_model::{Attached, Claimed, Event, Finished, Reply};
 use cf_outcome::{Cause, Outcome, Value};
 
 const TWO_SOURCES: Rows = Rows {
@@ -30,7 +30,7 @@ const ANY_OF: [Step; 6] = [
     ATTACHES_ANY_OF,
     Step::Turns(1),
     Step::Claim(2, Claimed::Settled),
-    Step::Value(2, 2),
+    value!(2, 2),
 ];
 
 const EITHER: [Step; 6] = [
@@ -38,7 +38,7 @@ const EITHER: [Step; 6] = [
     ATTACHES_EITHER,
     Step::Turns(1),
     Step::Complete(0, 4, true),
-    Step::Granted(2, 5),
+    granted!(2, 5),
     Step::Outcome(2, None),
 ];
 
@@ -48,7 +48,7 @@ const EITHER_FAILS: [Step; 6] = [
     ATTACHES_EITHER,
     Step::Turns(1),
     Step::Claim(2, Claimed::Settled),
-    Step::Fault(2, Cause::Thrown(7), true),
+    fault!(2, Cause::Thrown(7), true),
 ];
 
 const LATER: [Step; 6] = [
@@ -56,7 +56,7 @@ const LATER: [Step; 6] = [
     Step::Turns(0),
     Step::Complete(1, 6, true),
     Step::Complete(0, 4, true),
-    Step::Granted(2, 6),
+    granted!(2, 6),
     Step::Outcome(2, None),
 ];
 
@@ -128,7 +128,7 @@ const FULL: [Step; 14] = [
     Step::Complete(0, 1, true),
     Step::Complete(1, 2, true),
     ATTACHES_ANY_OF,
-    Step::Value(2, 2),
+    value!(2, 2),
     Step::Attach(Form::Apply, Of::One(2), Some(9), Attached::At(3)),
     Step::Has(3, true),
     Step::ClaimBy(5, 3, Claimed::Granted(Args::One(Value::Int(2)))),
@@ -146,7 +146,7 @@ const TREATED_FIRST: [Step; 5] = [
     Step::Attach(Form::Apply, Of::One(1), Some(0), Attached::At(2)),
     Step::Turns(2),
     Step::Nudge(3, 0),
-    Step::Fault(2, Cause::Thrown(7), true),
+    fault!(2, Cause::Thrown(7), true),
 ];
 
 const SOURCE_AND_APPLY: Rows = Rows {
@@ -165,7 +165,7 @@ const LINKED_LOWER: [Step; 6] = [
     Step::Complete(0, 1, true),
     ATTACHES_SOURCE,
     ATTACHES_COMPOSE,
-    Step::Granted(3, 1),
+    granted!(3, 1),
     Step::Finish(3, Answer::Link(1), Finished::Won),
     Step::Outcome(3, None),
 ];
@@ -174,30 +174,38 @@ const LINKED_TO_ITSELF: [Step; 6] = [
     Step::Complete(0, 1, true),
     ATTACHES_SOURCE,
     ATTACHES_COMPOSE,
-    Step::Granted(3, 1),
+    granted!(3, 1),
     Step::Finish(3, Answer::Link(3), Finished::Won),
-    Step::Fault(3, Cause::BadAnswer(0), true),
+    fault!(3, Cause::BadAnswer(0), true),
 ];
 
 const FOLLOWED: [Step; 7] = [
     Step::Complete(0, 1, true),
     ATTACHES_SOURCE,
     ATTACHES_COMPOSE,
-    Step::Granted(3, 1),
+    granted!(3, 1),
     Step::Finish(3, Answer::Link(2), Finished::Won),
     Step::Complete(2, 8, true),
-    Step::Value(3, 8),
+    value!(3, 8),
 ];
+
+/// Caller 3 attaches an apply of stage 1.
+const ATTACHES: Event = Event::Attach {
+    who: 3,
+    form: Form::Apply,
+    of: Of::One(1),
+    function: Some(8),
+};
 
 const BY_EVENTS: [Step; 5] = [
     Step::Complete(1, 6, true),
-    Step::AttachBy(3, Form::Apply, Of::One(1), Some(8), Attached::At(2)),
+    Step::Event(ATTACHES, Reply::Attach(Attached::At(2))),
     Step::Function(2, Some(8)),
-    Step::Granted(2, 6),
-    Step::AttachBy(3, Form::Apply, Of::One(1), Some(8), Attached::StagesFull),
+    granted!(2, 6),
+    Step::Event(ATTACHES, Reply::Attach(Attached::StagesFull)),
 ];
 
-static CASES: [Case; 18] = [
+pub(crate) static CASES: [Case; 18] = [
     Case {
         name: "an anyOf takes its first argument",
         rows: &TWO_SOURCES,
@@ -308,8 +316,3 @@ static CASES: [Case; 18] = [
         steps: &[&BY_EVENTS],
     },
 ];
-
-#[test]
-fn attached_stages_answer_so(rt: HostRuntime) {
-    play(&rt, rt.alloc(), &CASES);
-}

@@ -1,10 +1,12 @@
 //! Worked examples, each call once, graphs of each size, and a graph whose memory is refused.
 use crate::checks::{holds, must};
+use crate::event::graphs;
 use crate::functions::Always;
-use crate::graph::plans::{
-    NONE, Rows, SOURCE, all_of, greatest_plan, longest_chain, plan_of, plan_or_fault,
+use crate::graph::plans::{NONE, Rows, SOURCE, all_of, plan_of, plan_or_fault};
+use crate::graph::steps::{
+    Case, Step, fault, granted, granted_fault, graph_or_fault, play, take, value, waits_for,
 };
-use crate::graph::steps::{Case, Step, graph_or_fault, play, play_on, take};
+use crate::graph::{attaching, restarting, working};
 use cf_core::{Graph, GraphFault};
 use cf_forms::{Answer, Args, Form, Limit, LimitKind, Of};
 use cf_model::{Attached, Claimed, Failure, Finished, Ticked};
@@ -28,11 +30,11 @@ const APPLIED: [Step; 16] = [
     Step::LowestReady(Some(1)),
     // Ready is not settled.
     Step::Now(1, Now::Absent(Value::Int(-1))),
-    Step::Granted(1, 3),
+    granted!(1, 3),
     Step::Claim(1, Claimed::Taken),
     Step::Finish(1, Answer::Give(Value::Int(8)), Finished::Won),
     Step::Finish(1, Answer::Throw(2), Finished::NotYours),
-    Step::Value(0, 3),
+    value!(0, 3),
     Step::Now(1, Now::Got(Value::Int(8))),
     Step::Claim(1, Claimed::Settled),
     Step::Nudge(4, 0),
@@ -41,14 +43,14 @@ const APPLIED: [Step; 16] = [
 
 const CANCELLED: [Step; 9] = [
     Step::Complete(0, 1, true),
-    Step::Granted(2, 1),
+    granted!(2, 1),
     Step::Finish(2, Answer::Link(1), Finished::Won),
     Step::Outcome(2, None),
     Step::Cancel(1, true),
     // It is cancelled still.
     Step::Cancel(1, true),
-    Step::Fault(1, Cause::Cancelled, false),
-    Step::Fault(2, Cause::Cancelled, true),
+    fault!(1, Cause::Cancelled, false),
+    fault!(2, Cause::Cancelled, true),
     // It took the cancellation over.
     Step::Cancel(2, false),
 ];
@@ -60,25 +62,25 @@ const COMPOSED: Rows = Rows {
 
 const TIMED_OUT: [Step; 10] = [
     Step::Complete(0, 1, true),
-    Step::Granted(2, 1),
+    granted!(2, 1),
     Step::FailAs(1, Failure::TimedOut(7), true),
     // It is settled.
     Step::FailAs(1, Failure::BadAnswer(8), false),
-    Step::Fault(1, Cause::TimedOut(7), false),
+    fault!(1, Cause::TimedOut(7), false),
     Step::Now(1, Now::Completion(Cause::TimedOut(7))),
     Step::Cancel(1, false),
     Step::Finish(2, Answer::Link(1), Finished::Won),
-    Step::Fault(2, Cause::TimedOut(7), true),
+    fault!(2, Cause::TimedOut(7), true),
     Step::FailAs(2, Failure::TimedOut(9), false),
 ];
 
 const ANSWERED_BADLY: [Step; 6] = [
     Step::Complete(0, 1, true),
-    Step::Granted(2, 1),
+    granted!(2, 1),
     Step::FailAs(2, Failure::BadAnswer(4294967295), true),
-    Step::Fault(2, Cause::BadAnswer(4294967295), false),
+    fault!(2, Cause::BadAnswer(4294967295), false),
     Step::Finish(2, Answer::Link(1), Finished::Late),
-    Step::Fault(2, Cause::BadAnswer(4294967295), false),
+    fault!(2, Cause::BadAnswer(4294967295), false),
 ];
 
 /// A source, an apply and a handle of it, and an exceptionally of the apply.
@@ -100,26 +102,26 @@ const DEPENDING: Rows = Rows {
 /// What depends on a stage gets the code with its fault, and so do the functions.
 const DEPEND_ON_CALL: [Step; 5] = [
     Step::FailAs(0, Failure::BadAnswer(9), true),
-    Step::Fault(1, Cause::BadAnswer(9), true),
-    Step::GrantedFault(2, Cause::BadAnswer(9), false),
-    Step::GrantedFault(3, Cause::BadAnswer(9), true),
+    fault!(1, Cause::BadAnswer(9), true),
+    granted_fault!(2, Cause::BadAnswer(9), false),
+    granted_fault!(3, Cause::BadAnswer(9), true),
     Step::Tick(5, Ticked::Fired(0)),
 ];
 
 const DEPEND_ON_LIMIT: [Step; 6] = [
     Step::Tick(5, Ticked::Fired(1)),
-    Step::Fault(0, Cause::TimedOut(4294967295), false),
-    Step::Fault(1, Cause::TimedOut(4294967295), true),
-    Step::GrantedFault(2, Cause::TimedOut(4294967295), false),
-    Step::GrantedFault(3, Cause::TimedOut(4294967295), true),
+    fault!(0, Cause::TimedOut(4294967295), false),
+    fault!(1, Cause::TimedOut(4294967295), true),
+    granted_fault!(2, Cause::TimedOut(4294967295), false),
+    granted_fault!(3, Cause::TimedOut(4294967295), true),
     Step::FailAs(0, Failure::TimedOut(7), false),
 ];
 
 /// Without a code, as with code 0.
 const DEPEND_WITHOUT_CODE: [Step; 3] = [
     Step::FailAs(0, Failure::TimedOut(0), true),
-    Step::Fault(1, Cause::TimedOut(0), true),
-    Step::GrantedFault(3, Cause::TimedOut(0), true),
+    fault!(1, Cause::TimedOut(0), true),
+    granted_fault!(3, Cause::TimedOut(0), true),
 ];
 
 /// Two sources, and an exceptionallyCompose of the first.
@@ -132,39 +134,39 @@ const UNRECOVERED: [Step; 4] = [
     Step::Complete(0, 3, true),
     Step::LowestReady(None),
     Step::Claim(2, Claimed::Settled),
-    Step::Value(2, 3),
+    value!(2, 3),
 ];
 
 const RECOVERED: [Step; 6] = [
     Step::Fail(0, 7, true),
-    Step::GrantedFault(2, Cause::Thrown(7), false),
+    granted_fault!(2, Cause::Thrown(7), false),
     Step::Finish(2, Answer::Link(1), Finished::Won),
     Step::Outcome(2, None),
     Step::Complete(1, 3, true),
-    Step::Value(2, 3),
+    value!(2, 3),
 ];
 
 /// The last is settled with a bad answer, for which nobody gave a code.
-const IS_BAD: Step = Step::Fault(2, Cause::BadAnswer(0), true);
+const IS_BAD: Step = fault!(2, Cause::BadAnswer(0), true);
 
 /// The function of the last answers with no lower stage: with a value, with itself, or with a higher one.
 const RECOVERY_GIVES: [Step; 4] = [
     Step::Cancel(0, true),
-    Step::GrantedFault(2, Cause::Cancelled, false),
+    granted_fault!(2, Cause::Cancelled, false),
     Step::Finish(2, Answer::Give(Value::Nil), Finished::Won),
     IS_BAD,
 ];
 
 const RECOVERY_LINKS_TO_ITSELF: [Step; 4] = [
     Step::Cancel(0, true),
-    Step::GrantedFault(2, Cause::Cancelled, false),
+    granted_fault!(2, Cause::Cancelled, false),
     Step::Finish(2, Answer::Link(2), Finished::Won),
     IS_BAD,
 ];
 
 const RECOVERY_LINKS_HIGHER: [Step; 4] = [
     Step::Cancel(0, true),
-    Step::GrantedFault(2, Cause::Cancelled, false),
+    granted_fault!(2, Cause::Cancelled, false),
     Step::Finish(2, Answer::Link(3), Finished::Won),
     IS_BAD,
 ];
@@ -178,7 +180,7 @@ const LATE: [Step; 4] = [
     Step::Claim(0, Claimed::Granted(Args::None)),
     Step::Fail(0, 7, true),
     Step::Finish(0, Answer::Give(Value::Nil), Finished::Late),
-    Step::Fault(0, Cause::Thrown(7), false),
+    fault!(0, Cause::Thrown(7), false),
 ];
 
 const LIMITS: [Limit; 2] = [
@@ -205,7 +207,7 @@ const FIRED: [Step; 5] = [
     Step::Tick(5, Ticked::Fired(1)),
     Step::Tick(5, Ticked::Fired(0)),
     Step::Tick(4, Ticked::Past),
-    Step::Value(0, 1),
+    value!(0, 1),
 ];
 
 /// Two sources, and an anyOf of each.
@@ -231,7 +233,7 @@ const LEFT: [Step; 15] = [
     Step::Tick(5, Ticked::Fired(0)),
     // It is settled, whatever waits below it.
     Step::Claim(2, Claimed::Settled),
-    Step::Value(2, 1),
+    value!(2, 1),
     Step::Complete(2, 2, false),
     Step::Turns(0),
     Step::Finish(2, Answer::Give(Value::Int(1)), Finished::NotYours),
@@ -246,7 +248,46 @@ const MOST_SUPPLIES: Rows = Rows {
 
 const ALL_CLAIMED: [Step; 2] = [Step::ClaimsEach(4096), Step::LowestReady(None)];
 
-static CASES: [Case; 16] = [
+/// A source, and as many applies as there may be.
+const LONGEST: Rows = Rows {
+    stages: &[SOURCE],
+    chain: 4095,
+    ..NONE
+};
+
+const ASKED_AT_THE_END: [Step; 6] = [
+    Step::Fail(0, 7, true),
+    Step::Turns(0),
+    Step::Nudge(10, 10),
+    fault!(4095, Cause::Thrown(7), true),
+    Step::Turns(4095),
+    Step::Nudge(5, 0),
+];
+
+const FOURS: [Always; 1] = [Always {
+    answer: Answer::Give(Value::Int(4)),
+}];
+
+const WORKED: [Step; 3] = [
+    Step::Complete(0, 3, true),
+    Step::Works(&FOURS, 63, 4095),
+    value!(4095, 4),
+];
+
+const ALL_FIRED: [Step; 3] = [
+    Step::Tick(4294967295, Ticked::Fired(1)),
+    value!(4095, 1),
+    Step::Turns(4095),
+];
+
+/// One source, 4,095 stages that name it four times, and 4,096 limits on it: the greatest plan but for four edges.
+const GREATEST: Rows = Rows {
+    alike: &[(1, SOURCE), (4095, (Form::AnyOf, &[0, 0, 0, 0], None))],
+    gifts: 4096,
+    ..NONE
+};
+
+static CASES: [Case; 19] = [
     Case {
         name: "an apply over a source",
         rows: &SOURCE_AND_APPLY,
@@ -343,11 +384,33 @@ static CASES: [Case; 16] = [
         room: None,
         steps: &[&ALL_CLAIMED],
     },
+    Case {
+        name: "the longest chain, asked at the end",
+        rows: &LONGEST,
+        room: None,
+        steps: &[&ASKED_AT_THE_END],
+    },
+    Case {
+        name: "the longest chain, worked",
+        rows: &LONGEST,
+        room: None,
+        steps: &[&WORKED],
+    },
+    Case {
+        name: "the greatest plan, all fired",
+        rows: &GREATEST,
+        room: None,
+        steps: &[&ALL_FIRED],
+    },
 ];
 
 #[test]
 fn each_graph_answers_so(rt: HostRuntime) {
     play(&rt, rt.alloc(), &CASES);
+    play(&rt, rt.alloc(), &attaching::CASES);
+    play(&rt, rt.alloc(), &restarting::CASES);
+    play(&rt, rt.alloc(), &working::CASES);
+    play(&rt, rt.alloc(), &graphs::CASES);
 }
 
 /// A plan. Where its memory is refused, it is built again.
@@ -376,7 +439,7 @@ fn graph_again(rt: &impl Abort, alloc: Global, case: &Case) -> Graph {
 
 const MADE_AGAIN: [Step; 4] = [
     Step::Complete(0, 3, true),
-    Step::Granted(1, 3),
+    granted!(1, 3),
     Step::Finish(1, Answer::Give(Value::Int(8)), Finished::Won),
     Step::Now(1, Now::Got(Value::Int(8))),
 ];
@@ -389,7 +452,7 @@ const TWO_SOURCES: Rows = Rows {
 const GROWN_AGAIN: [Step; 3] = [
     Step::Attach(Form::ApplyEither, Of::Two(0, 1), Some(0), Attached::At(2)),
     Step::Complete(1, 3, true),
-    Step::Granted(2, 3),
+    granted!(2, 3),
 ];
 
 static REFUSED: [Case; 2] = [
@@ -416,59 +479,22 @@ fn a_refused_graph_can_be_made_again(rt: HostRuntime) {
     }
 }
 
-const ASKED_AT_THE_END: [Step; 6] = [
-    Step::Fail(0, 7, true),
-    Step::Turns(0),
-    Step::Nudge(10, 10),
-    Step::Fault(4095, Cause::Thrown(7), true),
-    Step::Turns(4095),
-    Step::Nudge(5, 0),
-];
-
-const FOURS: [Always; 1] = [Always {
-    answer: Answer::Give(Value::Int(4)),
-}];
-
-const WORKED: [Step; 3] = [
-    Step::Complete(0, 3, true),
-    Step::Works(&FOURS, 63, 4095),
-    Step::Value(4095, 4),
-];
-
-/// The longest chain, in two ways.
-static ON_CHAIN: [(&str, &[Step]); 2] = [
-    ("asked at the end", &ASKED_AT_THE_END),
-    ("worked", &WORKED),
-];
-
-static ALL_FIRED: [Step; 3] = [
-    Step::Tick(4294967295, Ticked::Fired(1)),
-    Step::Value(4095, 1),
-    Step::Turns(4095),
-];
-
-#[test]
-fn serves_the_greatest_plans(rt: HostRuntime) {
-    for (name, steps) in &ON_CHAIN {
-        play_on(&rt, rt.alloc(), longest_chain(&rt, rt.alloc()), name, steps);
-    }
-    let plan = greatest_plan(&rt, rt.alloc());
-    play_on(&rt, rt.alloc(), plan, "all fired", &ALL_FIRED);
-}
-
 /// An allOf waits until the last of so many sources is completed.
 fn waits_for_all(rt: &impl Abort, alloc: Global, sources: u16) {
-    let nil = Some(Outcome::Value(Value::Nil));
-    let steps = [Step::WaitsFor(sources), Step::Outcome(sources, nil)];
-    play_on(rt, alloc, all_of(rt, alloc, sources), "sources", &steps);
+    let mut graph = must(rt, Graph::new(alloc, all_of(rt, alloc, sources)));
+    let waits = waits_for(&mut graph, sources);
+    drop(graph);
+    holds(rt, waits, sources);
 }
+
+static SIZES: [u16; 6] = [255, 256, 257, 1023, 1024, 1025];
 
 #[test]
 fn serves_graphs_of_each_size(rt: HostRuntime) {
     for sources in 0..130 {
         waits_for_all(&rt, rt.alloc(), sources);
     }
-    for sources in [255, 256, 257, 1023, 1024, 1025] {
-        waits_for_all(&rt, rt.alloc(), sources);
+    for sources in &SIZES {
+        waits_for_all(&rt, rt.alloc(), *sources);
     }
 }

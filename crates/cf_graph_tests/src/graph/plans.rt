@@ -1,4 +1,4 @@
-//! Plans of a few stages from rows, and the long ones.
+//! Plans from rows, and those of many sources.
 use crate::checks::must;
 use cf_forms::{Form, Limit, LimitKind};
 use cf_outcome::Value;
@@ -17,14 +17,20 @@ pub(crate) struct Rows {
     pub(crate) stages: &'static [Row<'static>],
     /// Behind those, so many of each of these.
     pub(crate) alike: &'static [(u16, Row<'static>)],
+    /// Behind those, so many applies, of which the first follows stage 0, and each other one the next stage.
+    pub(crate) chain: u16,
     pub(crate) limits: &'static [Limit],
+    /// So many limits of stage 0, one at each moment from 0 on.
+    pub(crate) gifts: u16,
 }
 
 /// No stage.
 pub(crate) const NONE: Rows = Rows {
     stages: &[],
     alike: &[],
+    chain: 0,
     limits: &[],
+    gifts: 0,
 };
 
 /// The plan of these stages with these limits, or why there is none.
@@ -34,35 +40,49 @@ pub(crate) fn plan_or_fault(alloc: Global, rows: &Rows) -> Result<Plan, PlanFaul
     builder.build()
 }
 
+/// The builder takes a stage so many times.
+fn put_each(builder: &mut PlanBuilder, count: u16, row: Row<'_>) -> Result<(), PlanFault> {
+    let (form, of, function) = row;
+    for _ in 0..count {
+        builder.stage(form, of, function)?;
+    }
+    Ok(())
+}
+
+/// The builder takes a chain of so many applies.
+fn put_chain(builder: &mut PlanBuilder, count: u16) -> Result<(), PlanFault> {
+    for i in 0..count {
+        builder.stage(Form::Apply, &[i], Some(0))?;
+    }
+    Ok(())
+}
+
+/// The builder takes a limit of stage 0 at each of so many moments.
+fn put_gifts(builder: &mut PlanBuilder, count: u16) -> Result<(), PlanFault> {
+    for at in 0..count {
+        builder.limit(0, u32::from(at), LimitKind::Give(Value::Int(1)))?;
+    }
+    Ok(())
+}
+
 /// The builder takes these stages and limits.
 fn put(builder: &mut PlanBuilder, rows: &Rows) -> Result<(), PlanFault> {
-    for (form, of, function) in rows.stages {
-        builder.stage(*form, of, *function)?;
+    for row in rows.stages {
+        put_each(builder, 1, *row)?;
     }
-    for (count, (form, of, function)) in rows.alike {
-        for _ in 0..*count {
-            builder.stage(*form, of, *function)?;
-        }
+    for (count, row) in rows.alike {
+        put_each(builder, *count, *row)?;
     }
+    put_chain(builder, rows.chain)?;
     for limit in rows.limits {
         builder.limit(limit.stage, limit.at, limit.kind)?;
     }
-    Ok(())
+    put_gifts(builder, rows.gifts)
 }
 
 /// The plan of these stages with these limits.
 pub(crate) fn plan_of(rt: &impl Abort, alloc: Global, rows: &Rows) -> Plan {
     must(rt, plan_or_fault(alloc, rows))
-}
-
-/// A source, and 4,095 applies of which each follows the stage before.
-pub(crate) fn longest_chain(rt: &impl Abort, alloc: Global) -> Plan {
-    let mut builder = PlanBuilder::new(alloc);
-    must(rt, builder.stage(Form::Source, &[], None));
-    for i in 0..4095 {
-        must(rt, builder.stage(Form::Apply, &[i], Some(0)));
-    }
-    must(rt, builder.build())
 }
 
 /// So many sources and one allOf over all of them.
@@ -74,18 +94,5 @@ pub(crate) fn all_of(rt: &impl Abort, alloc: Global, sources: u16) -> Plan {
         must(rt, of.push(i));
     }
     must(rt, builder.stage(Form::AllOf, of.as_slice(), None));
-    must(rt, builder.build())
-}
-
-/// One source, 4,095 stages that name it four times, and 4,096 limits on it: the greatest plan but for four edges.
-pub(crate) fn greatest_plan(rt: &impl Abort, alloc: Global) -> Plan {
-    let mut builder = PlanBuilder::new(alloc);
-    must(rt, builder.stage(Form::Source, &[], None));
-    for _ in 0..4095 {
-        must(rt, builder.stage(Form::AnyOf, &[0, 0, 0, 0], None));
-    }
-    for at in 0..4096 {
-        must(rt, builder.limit(0, at, LimitKind::Give(Value::Int(1))));
-    }
     must(rt, builder.build())
 }

@@ -1,13 +1,9 @@
 //! Graphs that start again, beside new ones.
-use crate::checks::must;
-use crate::graph::plans::{NONE, Rows, SOURCE, plan_of};
-use crate::graph::steps::{Case, Step, graph_or_fault, play, take};
-use cf_core::Graph;
+use crate::graph::plans::{NONE, Rows, SOURCE};
+use crate::graph::steps::{Case, Step, fault, granted, value};
 use cf_forms::{Answer, Args, Form, Limit, LimitKind, Of};
 use cf_model::{Attached, Claimed, Finished, Ticked};
 use cf_outcome::Cause;
-use std::alloc::Global;
-use std::process::Abort;
 
 const LIMITS: [Limit; 1] = [Limit {
     stage: 1,
@@ -40,8 +36,8 @@ const NEW: [Step; 15] = [
     Step::Finish(3, Answer::Throw(1), Finished::NotYours),
     Step::Claim(3, Claimed::NotReady),
     Step::Complete(0, 3, true),
-    Step::Granted(3, 3),
-    Step::Granted(4, 3),
+    granted!(3, 3),
+    granted!(4, 3),
     Step::Finish(4, Answer::Link(1), Finished::Won),
     Step::Outcome(4, None),
     Step::Turns(3),
@@ -51,7 +47,7 @@ const NEW: [Step; 15] = [
 /// for stages 1 and 4.
 const FILLS: [Step; 6] = [
     Step::Attach(Form::AnyOf, Of::Two(1, 0), None, Attached::At(5)),
-    Step::Value(5, 3),
+    value!(5, 3),
     Step::Attach(Form::RunEither, Of::Two(4, 1), Some(3), Attached::At(6)),
     Step::Outcome(6, None),
     Step::Attach(Form::Supply, Of::None, Some(4), Attached::StagesFull),
@@ -62,8 +58,8 @@ const FILLS: [Step; 6] = [
 const EXPIRES: [Step; 4] = [
     Step::Tick(7, Ticked::Fired(1)),
     Step::Tick(6, Ticked::Past),
-    Step::Fault(1, Cause::TimedOut(7), false),
-    Step::Fault(4, Cause::TimedOut(7), true),
+    fault!(1, Cause::TimedOut(7), false),
+    fault!(4, Cause::TimedOut(7), true),
 ];
 
 const RESTARTED: [&[Step]; 13] = [
@@ -75,7 +71,7 @@ const RESTARTED: [&[Step]; 13] = [
     &NEW,
     &FILLS,
     &EXPIRES,
-    &[Step::Fault(6, Cause::TimedOut(7), true)],
+    &[fault!(6, Cause::TimedOut(7), true)],
     &[Step::Restart, Step::Restart],
     &NEW,
     &EXPIRES,
@@ -92,7 +88,33 @@ const WITHOUT_ROOM: [&[Step]; 7] = [&NEW, &EXPIRES, &FULL, &NEW, &EXPIRES, &FULL
 
 const EMPTY: [Step; 3] = [Step::Restart, Step::Stages(0), Step::LowestReady(None)];
 
-static CASES: [Case; 3] = [
+/// The room of a graph of 4,080 stages is filled. It restarts, takes so many turns, and restarts twice more.
+macro_rules! filled {
+    ($taken:expr) => {
+        [
+            Step::AttachesSources(4080, 4096),
+            Step::Stages(4096),
+            Step::Restart,
+            Step::Stages(4080),
+            Step::Nudge($taken, $taken),
+            Step::Turns($taken),
+            Step::Restart,
+            Step::Nudge(5000, 4080),
+            Step::Claim(4079, Claimed::Granted(Args::None)),
+            Step::LowestReady(Some(0)),
+            Step::Restart,
+        ]
+    };
+}
+
+const FILLED: [&[Step]; 4] = [&filled!(2000), &filled!(4080), &filled!(0), &filled!(4080)];
+
+const SUPPLIES: Rows = Rows {
+    alike: &[(4080, (Form::Supply, &[], Some(0)))],
+    ..NONE
+};
+
+pub(crate) static CASES: [Case; 4] = [
     Case {
         name: "a graph with room",
         rows: &ROWS,
@@ -111,43 +133,11 @@ static CASES: [Case; 3] = [
         room: None,
         steps: &[&EMPTY],
     },
+    // Marks and ready stages are left over, in all words of their sets.
+    Case {
+        name: "the greatest graph",
+        rows: &SUPPLIES,
+        room: Some(16),
+        steps: &FILLED,
+    },
 ];
-
-#[test]
-fn a_restarted_graph_is_new(rt: HostRuntime) {
-    play(&rt, rt.alloc(), &CASES);
-}
-
-/// Fills the room of a graph of 4,080 stages, which restarts, takes so many turns, and restarts twice more.
-fn restart_filled(rt: &impl Abort, alloc: Global, graph: &mut Graph, taken: u32) {
-    let steps = [
-        Step::AttachesSources(4080, 4096),
-        Step::Stages(4096),
-        Step::Restart,
-        Step::Stages(4080),
-        Step::Nudge(taken, taken),
-        Step::Turns(taken as u64),
-        Step::Restart,
-        Step::Nudge(5000, 4080),
-        Step::Claim(4079, Claimed::Granted(Args::None)),
-        Step::LowestReady(Some(0)),
-        Step::Restart,
-    ];
-    take(rt, alloc, graph, "filled", &[&steps]);
-}
-
-static SUPPLIES: Rows = Rows {
-    alike: &[(4080, (Form::Supply, &[], Some(0)))],
-    ..NONE
-};
-
-/// Marks and ready stages are left over, in all words of their sets.
-#[test]
-fn the_greatest_graph_restarts(rt: HostRuntime) {
-    let plan = plan_of(&rt, rt.alloc(), &SUPPLIES);
-    let mut graph = must(&rt, graph_or_fault(&rt, rt.alloc(), plan, Some(16)));
-    for taken in [2000, 4080, 0, 4080] {
-        restart_filled(&rt, rt.alloc(), &mut graph, taken);
-    }
-    drop(graph);
-}

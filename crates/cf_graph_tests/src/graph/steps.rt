@@ -1,13 +1,16 @@
 //! What is done to a graph and asked of it, as rows: a call, and what it is answered.
+ghost use Rattle.std.specs.Prelude.{◌<◌, length};
 
 use crate::checks::{holds, must};
 use crate::functions::Always;
+use crate::graph::by_events;
+use crate::graph::by_events::{is_answered_by_word, replays};
 use crate::graph::noting::notes;
 use crate::graph::plans::{Rows, plan_of};
 use cf_core::{Graph, GraphFault};
 use cf_forms::{Answer, Args, Each, Form, Of, fits_form};
 use cf_model::{Attached, Claimed, Event, Failure, Finished, Reply, Ticked};
-use cf_outcome::{Cause, Now, Outcome, Value};
+use cf_outcome::{Now, Outcome, Value};
 use cf_plan::Plan;
 use std::alloc::Global;
 use std::process::Abort;
@@ -20,23 +23,19 @@ pub(crate) enum Step {
     FailAs(u16, Failure, bool),
     Cancel(u16, bool),
     Claim(u16, Claimed),
-    /// A claim is granted, with this number for its function.
-    Granted(u16, i32),
-    /// A claim is granted, with this fault for its function, wrapped or not.
-    GrantedFault(u16, Cause, bool),
     /// A claim by this caller.
     ClaimBy(u8, u16, Claimed),
     Finish(u16, Answer, Finished),
     Tick(u32, Ticked),
     Attach(Form, Of, Option<u16>, Attached),
-    /// The same as an event of this caller.
-    AttachBy(u8, Form, Of, Option<u16>, Attached),
+    /// An event that fits.
+    Event(Event, Reply),
+    /// A word, and what its event is answered, if it is one's that fits.
+    Word(u64, Option<Reply>),
+    /// An event that fits is done, and then a tick, with these turns before each.
+    Replays(Event, &'static [u32]),
     Restart,
     Outcome(u16, Option<Outcome>),
-    /// The stage is settled with this number.
-    Value(u16, i32),
-    /// The stage is settled with this fault, wrapped or not.
-    Fault(u16, Cause, bool),
     /// It gives -1 where the stage isn't settled.
     Now(u16, Now),
     LowestReady(Option<u16>),
@@ -51,13 +50,62 @@ pub(crate) enum Step {
     ClaimsEach(u16),
     /// Sources are attached as the stages from the first number up to below the second.
     AttachesSources(u16, u16),
-    /// The stage behind so many sources isn't settled before the last of them is completed.
-    WaitsFor(u16),
     /// Work for a caller with these functions calls so many.
     Works(&'static [Always], u8, u32),
     /// Work calls these functions with these arguments, and work after it none.
     Notes(&'static [(u16, Args)]),
 }
+
+/// A claim is granted, with this number for its function.
+macro_rules! granted {
+    ($stage:expr, $n:expr) => {
+        crate::graph::steps::Step::Claim(
+            $stage,
+            cf_model::Claimed::Granted(cf_forms::Args::One(cf_outcome::Value::Int($n))),
+        )
+    };
+}
+
+/// A claim is granted, with this fault for its function, wrapped or not.
+macro_rules! granted_fault {
+    ($stage:expr, $cause:expr, $wrapped:expr) => {
+        crate::graph::steps::Step::Claim(
+            $stage,
+            cf_model::Claimed::Granted(cf_forms::Args::Got(cf_outcome::Outcome::Fault {
+                cause: $cause,
+                wrapped: $wrapped,
+            })),
+        )
+    };
+}
+
+/// The stage is settled with this number.
+macro_rules! value {
+    ($stage:expr, $n:expr) => {
+        crate::graph::steps::Step::Outcome(
+            $stage,
+            Some(cf_outcome::Outcome::Value(cf_outcome::Value::Int($n))),
+        )
+    };
+}
+
+/// The stage is settled with this fault, wrapped or not.
+macro_rules! fault {
+    ($stage:expr, $cause:expr, $wrapped:expr) => {
+        crate::graph::steps::Step::Outcome(
+            $stage,
+            Some(cf_outcome::Outcome::Fault {
+                cause: $cause,
+                wrapped: $wrapped,
+            }),
+        )
+    };
+}
+
+pub(crate) use fault;
+pub(crate) use granted;
+pub(crate) use granted_fault;
+pub(crate) use value;
 
 /// What the attaching of a stage is answered, where it fits its form and its sources are there.
 fn attached(graph: &mut Graph, form: Form, of: Of, function: Option<u16>) -> Option<Attached> {
@@ -66,46 +114,6 @@ fn attached(graph: &mut Graph, form: Form, of: Of, function: Option<u16>) -> Opt
     } else {
         None
     }
-}
-
-/// What the event is answered by which a caller attaches a stage, where it fits its form and its sources are there.
-fn attached_by(
-    graph: &mut Graph,
-    who: u8,
-    form: Form,
-    of: Of,
-    function: Option<u16>,
-) -> Option<Reply> {
-    if fits_form(form, of.count(), function.is_some()) && of.are_below(graph.stages()) {
-        Some(graph.answer(&Event::Attach {
-            who,
-            form,
-            of,
-            function,
-        }))
-    } else {
-        None
-    }
-}
-
-/// What a stage is settled with that gives this number.
-fn gives(n: i32) -> Option<Outcome> {
-    Some(Outcome::Value(Value::Int(n)))
-}
-
-/// What a stage is settled with that has this fault.
-fn fault(cause: Cause, wrapped: bool) -> Option<Outcome> {
-    Some(Outcome::Fault { cause, wrapped })
-}
-
-/// A claim is granted, with this number for its function.
-fn granted(n: i32) -> Claimed {
-    Claimed::Granted(Args::One(Value::Int(n)))
-}
-
-/// A claim is granted, with this fault for its function.
-fn granted_fault(cause: Cause, wrapped: bool) -> Claimed {
-    Claimed::Granted(Args::Got(Outcome::Fault { cause, wrapped }))
 }
 
 /// Whether each of so many stages is the lowest ready one in turn, and its claim is granted.
@@ -133,14 +141,14 @@ fn attaches_sources(graph: &mut Graph, first: u16, end: u16) -> bool {
     true
 }
 
-/// Whether the stage behind so many sources isn't settled before the last of them is completed.
-fn waits_for(graph: &mut Graph, sources: u16) -> bool {
+/// Whether the stage behind so many sources isn't settled before the last of them is completed, and has nil then.
+pub(crate) fn waits_for(graph: &mut Graph, sources: u16) -> bool {
     for i in 0..sources {
         if !graph.has(sources) || graph.outcome(sources).is_some() || !is_completed(graph, i) {
             return false;
         }
     }
-    true
+    graph.has(sources) && graph.outcome(sources) == Some(Outcome::Value(Value::Nil))
 }
 
 /// Whether a stage is completed.
@@ -148,47 +156,57 @@ fn is_completed(graph: &mut Graph, i: u16) -> bool {
     graph.has(i) && graph.complete(i, Value::Int(1))
 }
 
+/// Whether a step at a stage that is there is answered so.
+fn is_answered_at(graph: &mut Graph, i: u16, step: Step) -> bool
+    requires { i < length graph.old.state.plan.stages }
+{
+    match step {
+        Step::Complete(_, v, answer) => graph.complete(i, Value::Int(v)) == answer,
+        Step::Fail(_, code, answer) => graph.fail(i, code) == answer,
+        Step::FailAs(_, failure, answer) => graph.fail_as(i, failure) == answer,
+        Step::Cancel(_, answer) => graph.cancel(i) == answer,
+        Step::Claim(_, answer) => graph.claim(0, i) == answer,
+        Step::ClaimBy(who, _, answer) => graph.claim(who, i) == answer,
+        Step::Finish(_, given, answer) => graph.finish(0, i, given) == answer,
+        Step::Outcome(_, answer) => graph.outcome(i) == answer,
+        Step::Now(_, answer) => graph.now(i, Value::Int(-1)) == answer,
+        Step::Function(_, answer) => graph.function(i) == answer,
+        _ => false,
+    }
+}
+
 /// Whether a step is answered so.
 fn is_answered(alloc: Global, graph: &mut Graph, step: Step) -> bool {
     match step {
-        Step::Complete(i, v, answer) => graph.has(i) && graph.complete(i, Value::Int(v)) == answer,
-        Step::Fail(i, code, answer) => graph.has(i) && graph.fail(i, code) == answer,
-        Step::FailAs(i, failure, answer) => graph.has(i) && graph.fail_as(i, failure) == answer,
-        Step::Cancel(i, answer) => graph.has(i) && graph.cancel(i) == answer,
-        Step::Claim(i, answer) => graph.has(i) && graph.claim(0, i) == answer,
-        Step::Granted(i, n) => graph.has(i) && graph.claim(0, i) == granted(n),
-        Step::GrantedFault(i, cause, wrapped) => {
-            graph.has(i) && graph.claim(0, i) == granted_fault(cause, wrapped)
-        }
-        Step::ClaimBy(who, i, answer) => graph.has(i) && graph.claim(who, i) == answer,
-        Step::Finish(i, given, answer) => graph.has(i) && graph.finish(0, i, given) == answer,
+        Step::Complete(i, _, _)
+        | Step::Fail(i, _, _)
+        | Step::FailAs(i, _, _)
+        | Step::Cancel(i, _)
+        | Step::Claim(i, _)
+        | Step::ClaimBy(_, i, _)
+        | Step::Finish(i, _, _)
+        | Step::Outcome(i, _)
+        | Step::Now(i, _)
+        | Step::Function(i, _) => graph.has(i) && is_answered_at(graph, i, step),
         Step::Tick(now, answer) => graph.tick(now) == answer,
         Step::Attach(form, of, function, answer) => {
             attached(graph, form, of, function) == Some(answer)
         }
-        Step::AttachBy(who, form, of, function, answer) => {
-            attached_by(graph, who, form, of, function) == Some(Reply::Attach(answer))
-        }
+        Step::Event(event, answer) => by_events::is_answered(graph, event, answer),
+        Step::Word(word, answer) => is_answered_by_word(graph, word, answer),
+        Step::Replays(event, nudges) => replays(graph, event, nudges),
         Step::Restart => {
             graph.restart();
             true
         }
-        Step::Outcome(i, answer) => graph.has(i) && graph.outcome(i) == answer,
-        Step::Value(i, n) => graph.has(i) && graph.outcome(i) == gives(n),
-        Step::Fault(i, cause, wrapped) => {
-            graph.has(i) && graph.outcome(i) == fault(cause, wrapped)
-        }
-        Step::Now(i, answer) => graph.has(i) && graph.now(i, Value::Int(-1)) == answer,
         Step::LowestReady(answer) => graph.lowest_ready() == answer,
         Step::Nudge(k, answer) => graph.nudge(k) == answer,
         Step::Turns(answer) => graph.turns() == answer,
         Step::Stages(answer) => graph.stages() == answer,
         Step::PlanStages(answer) => graph.plan().stages() == answer,
         Step::Has(i, answer) => graph.has(i) == answer,
-        Step::Function(i, answer) => graph.has(i) && graph.function(i) == answer,
         Step::ClaimsEach(count) => claims_each(graph, count),
         Step::AttachesSources(first, end) => attaches_sources(graph, first, end),
-        Step::WaitsFor(sources) => waits_for(graph, sources),
         Step::Works(functions, who, calls) => graph.work(who, &mut Each { functions }) == calls,
         Step::Notes(calls) => notes(alloc, graph, calls),
     }
@@ -207,19 +225,6 @@ pub(crate) fn take(
             holds(rt, is_answered(alloc, graph, *step), (name, part, at));
         }
     }
-}
-
-/// The graph of a plan takes these steps, and is let go.
-pub(crate) fn play_on(
-    rt: &impl Abort,
-    alloc: Global,
-    plan: Plan,
-    name: &'static str,
-    steps: &[Step],
-) {
-    let mut graph = must(rt, Graph::new(alloc, plan));
-    take(rt, alloc, &mut graph, name, &[steps]);
-    drop(graph);
 }
 
 /// A graph, by its stages and the room for more of them, and the parts of what it does.

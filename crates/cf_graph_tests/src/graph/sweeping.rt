@@ -1,7 +1,7 @@
 //! A sweep that stops at each function: where it stops, and what the graph is then.
 use crate::checks::{holds, must};
 use crate::graph::plans::{NONE, Rows, SOURCE, plan_of};
-use crate::graph::steps::{Step, take};
+use crate::graph::steps::{Step, fault, take, value};
 use cf_core::{Graph, Stop, Sweep};
 use cf_forms::{Answer, Args, Form};
 use cf_outcome::{Cause, Value};
@@ -48,10 +48,10 @@ const STOPS: [(u16, u16, i32, Answer); 4] = [
 
 const SWEPT: [Step; 6] = [
     Step::LowestReady(None),
-    Step::Value(1, 8),
-    Step::Fault(2, Cause::Thrown(9), true),
-    Step::Value(3, 8),
-    Step::Value(4, 6),
+    value!(1, 8),
+    fault!(2, Cause::Thrown(9), true),
+    value!(3, 8),
+    value!(4, 6),
     Step::Outcome(5, None),
 ];
 

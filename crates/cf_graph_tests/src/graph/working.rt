@@ -2,7 +2,7 @@
 use crate::checks::{holds, must};
 use crate::functions::Always;
 use crate::graph::plans::{NONE, Rows, SOURCE, plan_of};
-use crate::graph::steps::{Case, Step, play, take};
+use crate::graph::steps::{Case, Step, fault, granted, take, value};
 use cf_core::Graph;
 use cf_forms::{Answer, Args, Closure, Form};
 use cf_model::{Claimed, Finished};
@@ -33,8 +33,8 @@ const DOWN: [Step; 8] = [
     Step::Works(&FUNCTIONS, 63, 0),
     Step::Complete(0, 3, true),
     Step::Works(&FUNCTIONS, 63, 3),
-    Step::Value(1, 4),
-    Step::Value(3, 6),
+    value!(1, 4),
+    value!(3, 6),
     Step::Turns(3),
     // Each was called once.
     Step::Works(&FUNCTIONS, 63, 0),
@@ -64,10 +64,10 @@ const THROUGH_LINKS: [Step; 9] = [
     // No claim is left open.
     Step::Finish(2, Answer::Give(Value::Nil), Finished::NotYours),
     Step::Complete(1, 4, true),
-    Step::Value(2, 4),
+    value!(2, 4),
     Step::Works(&LINKS, 0, 1),
     // Its target is settled.
-    Step::Value(3, 4),
+    value!(3, 4),
 ];
 
 const COMPOSED: Rows = Rows {
@@ -92,8 +92,8 @@ const THROWS: [Always; 2] = [
 const FAILED: [Step; 4] = [
     // No function after a fault.
     Step::Works(&THROWS, 1, 2),
-    Step::Fault(0, Cause::Thrown(7), true),
-    Step::Fault(1, Cause::Thrown(7), true),
+    fault!(0, Cause::Thrown(7), true),
+    fault!(1, Cause::Thrown(7), true),
     // There is no function 2.
     Step::Outcome(2, Some(Outcome::Value(Value::Nil))),
 ];
@@ -109,13 +109,13 @@ const SUPPLIES: Rows = Rows {
 
 const PAST: [Step; 8] = [
     Step::Complete(0, 3, true),
-    Step::Granted(1, 3),
+    granted!(1, 3),
     Step::Works(&FOURS, 1, 1),
     Step::Outcome(1, None),
-    Step::Value(2, 4),
+    value!(2, 4),
     Step::Finish(1, Answer::Give(Value::Int(9)), Finished::Won),
     Step::Works(&FOURS, 1, 1),
-    Step::Value(3, 4),
+    value!(3, 4),
 ];
 
 const APPLIES: Rows = Rows {
@@ -131,10 +131,10 @@ const APPLIES: Rows = Rows {
 const FEW: [Step; 7] = [
     Step::Complete(199, 3, true),
     Step::Works(&FOURS, 0, 2),
-    Step::Value(201, 4),
+    value!(201, 4),
     Step::Complete(0, 3, true),
     Step::Works(&FOURS, 0, 1),
-    Step::Value(1, 4),
+    value!(1, 4),
     Step::Outcome(2, None),
 ];
 
@@ -184,7 +184,7 @@ const MARKED: [Step; 3] = [
 const CLAIMED: [Step; 4] = [
     Step::Complete(0, 3, true),
     Step::Complete(4, 8, true),
-    Step::Granted(1, 3),
+    granted!(1, 3),
     Step::Notes(&[(9, Args::One(Value::Int(8)))]),
 ];
 
@@ -205,7 +205,7 @@ const FEW_CALLED: [Step; 2] = [
     Step::Notes(&[(7, Args::One(Value::Int(3))), (5, Args::One(Value::Int(1)))]),
 ];
 
-static CASES: [Case; 9] = [
+pub(crate) static CASES: [Case; 9] = [
     Case {
         name: "down a chain",
         rows: &CHAIN,
@@ -262,11 +262,6 @@ static CASES: [Case; 9] = [
     },
 ];
 
-#[test]
-fn work_calls_what_is_ready(rt: HostRuntime) {
-    play(&rt, rt.alloc(), &CASES);
-}
-
 /// A closure counts its calls, and keeps which function was called last.
 #[test]
 fn a_closure_remembers_its_calls(rt: HostRuntime) {
@@ -288,13 +283,13 @@ fn a_closure_remembers_its_calls(rt: HostRuntime) {
 static COMPLETED: [Step; 1] = [Step::Complete(0, 3, true)];
 
 static WORKED: [Step; 3] = [
-    Step::Value(1, 10),
-    Step::Value(2, 27),
+    value!(1, 10),
+    value!(2, 27),
     // The stage of a `ThenRun` gives nil.
     Step::Complete(4, 8, true),
 ];
 
-static WORKED_AGAIN: [Step; 1] = [Step::Value(5, 47)];
+static WORKED_AGAIN: [Step; 1] = [value!(5, 47)];
 
 /// The closure is called three times, and once more when stage 4 is there.
 fn works_twice(rt: &impl Abort, alloc: Global, graph: &mut Graph, closure: &mut Closure) {

@@ -1,5 +1,5 @@
 //! Outcomes, what becomes of them, and their texts, in memory, cut short and where a writer stumbles.
-use crate::checks::{holds, is_shown, same};
+use crate::checks::{holds, is_shown};
 use cf_outcome::{
     Cause, Now, Outcome, SHORT_ROOM, ShortText, Value, WriteFault, is_cancelled, is_exceptional,
     now_of, wrap, write_outcome, write_text,
@@ -21,140 +21,108 @@ const WRAPPED_CANCEL: Outcome = Outcome::Fault {
 
 const THREE: Outcome = Outcome::Value(Value::Int(3));
 
-/// What outcomes are, and what becomes of them: wrapped, whether it is cancelled, whether it is exceptional, and what is
-/// told of it.
-static OUTCOMES: [(Outcome, Outcome, bool, bool, Now); 3] = [
-    (THREE, THREE, false, false, Now::Got(Value::Int(3))),
-    (RAW_CANCEL, WRAPPED_CANCEL, true, true, Now::Cancellation),
-    (
-        WRAPPED_CANCEL,
-        WRAPPED_CANCEL,
-        false,
-        true,
+/// What is known of an outcome, or of a text.
+#[derive(Clone, Copy)]
+enum Row {
+    /// An outcome, as it is wrapped, and whether it is cancelled and exceptional.
+    Outcome(Outcome, Outcome, bool, bool),
+    /// What is told of an outcome, with this value where there is none.
+    Now(Option<Outcome>, Value, Now),
+    /// A value as it is written, and as its outcome is.
+    Value(Value, &'static str, &'static str),
+    /// A cause as it is written raw and wrapped.
+    Fault(Cause, &'static str, &'static str),
+    /// What a caller is told, as it is written.
+    Told(Now, &'static str),
+}
+
+static ROWS: [Row; 33] = [
+    Row::Outcome(THREE, THREE, false, false),
+    Row::Outcome(RAW_CANCEL, WRAPPED_CANCEL, true, true),
+    Row::Outcome(WRAPPED_CANCEL, WRAPPED_CANCEL, false, true),
+    Row::Now(Some(THREE), Value::Nil, Now::Got(Value::Int(3))),
+    Row::Now(Some(RAW_CANCEL), Value::Nil, Now::Cancellation),
+    Row::Now(
+        Some(WRAPPED_CANCEL),
+        Value::Nil,
         Now::Completion(Cause::Cancelled),
     ),
+    Row::Now(None, Value::Int(-1), Now::Absent(Value::Int(-1))),
+    Row::Value(Value::Nil, "nil", "value nil"),
+    Row::Value(Value::Int(0), "0", "value 0"),
+    Row::Value(Value::Int(9), "9", "value 9"),
+    Row::Value(Value::Int(10), "10", "value 10"),
+    Row::Value(Value::Int(-1), "-1", "value -1"),
+    Row::Value(Value::Int(2147483647), "2147483647", "value 2147483647"),
+    Row::Value(Value::Int(-2147483648), "-2147483648", "value -2147483648"),
+    Row::Fault(
+        Cause::Thrown(0),
+        "fault thrown 0 raw",
+        "fault thrown 0 wrapped",
+    ),
+    Row::Fault(
+        Cause::Thrown(7),
+        "fault thrown 7 raw",
+        "fault thrown 7 wrapped",
+    ),
+    Row::Fault(
+        Cause::Thrown(4294967295),
+        "fault thrown 4294967295 raw",
+        "fault thrown 4294967295 wrapped",
+    ),
+    Row::Fault(
+        Cause::Cancelled,
+        "fault cancelled raw",
+        "fault cancelled wrapped",
+    ),
+    Row::Fault(
+        Cause::TimedOut(0),
+        "fault timeout raw",
+        "fault timeout wrapped",
+    ),
+    Row::Fault(
+        Cause::TimedOut(7),
+        "fault timeout 7 raw",
+        "fault timeout 7 wrapped",
+    ),
+    Row::Fault(
+        Cause::BadAnswer(0),
+        "fault badanswer raw",
+        "fault badanswer wrapped",
+    ),
+    Row::Fault(
+        Cause::BadAnswer(4294967295),
+        "fault badanswer 4294967295 raw",
+        "fault badanswer 4294967295 wrapped",
+    ),
+    Row::Told(Now::Absent(Value::Int(4)), "absent 4"),
+    Row::Told(Now::Absent(Value::Nil), "absent nil"),
+    Row::Told(Now::Got(Value::Nil), "value nil"),
+    Row::Told(Now::Got(Value::Int(-4)), "value -4"),
+    Row::Told(Now::Completion(Cause::Thrown(7)), "completion thrown 7"),
+    Row::Told(Now::Completion(Cause::Cancelled), "completion cancelled"),
+    Row::Told(Now::Completion(Cause::TimedOut(0)), "completion timeout"),
+    Row::Told(Now::Completion(Cause::TimedOut(7)), "completion timeout 7"),
+    Row::Told(Now::Completion(Cause::BadAnswer(0)), "completion badanswer"),
+    Row::Told(
+        Now::Completion(Cause::BadAnswer(4294967295)),
+        "completion badanswer 4294967295",
+    ),
+    Row::Told(Now::Cancellation, "cancellation"),
 ];
-
-/// Whether an outcome is cancelled and exceptional as said.
-fn is_so(outcome: Outcome, cancelled: bool, exceptional: bool) -> bool {
-    is_cancelled(outcome) == cancelled && is_exceptional(outcome) == exceptional
-}
-
-#[test]
-fn wraps_and_tells(rt: HostRuntime) {
-    for (outcome, wrapped, cancelled, exceptional, now) in &OUTCOMES {
-        same(&rt, wrap(*outcome), *wrapped);
-        holds(&rt, is_so(*outcome, *cancelled, *exceptional), outcome);
-        same(&rt, now_of(Some(*outcome), Value::Nil), *now);
-    }
-    same(
-        &rt,
-        now_of(None, Value::Int(-1)),
-        Now::Absent(Value::Int(-1)),
-    );
-}
 
 /// Whether an outcome is written so, to a writer and as a text.
 fn is_written(rt: &impl Abort, alloc: Global, outcome: Outcome, text: &str) -> bool {
     let mut out: Vec<u8> = Vec::new(alloc);
     let written = write_outcome(&mut out, outcome).is_ok();
-    written && out.as_slice() == text.as_bytes() && is_shown(rt, alloc, &outcome, text)
+    let is_same = out.as_slice() == text.as_bytes();
+    drop(out);
+    written & is_same & is_shown(rt, alloc, &outcome, text)
 }
-
-/// The values, each as it is written, and as its outcome is.
-static VALUES: [(Value, &str, &str); 7] = [
-    (Value::Nil, "nil", "value nil"),
-    (Value::Int(0), "0", "value 0"),
-    (Value::Int(9), "9", "value 9"),
-    (Value::Int(10), "10", "value 10"),
-    (Value::Int(-1), "-1", "value -1"),
-    (Value::Int(2147483647), "2147483647", "value 2147483647"),
-    (Value::Int(-2147483648), "-2147483648", "value -2147483648"),
-];
-
-#[test]
-fn writes_each_value(rt: HostRuntime) {
-    for (value, text, whole) in &VALUES {
-        let outcome = Outcome::Value(*value);
-        holds(&rt, is_shown(&rt, rt.alloc(), value, text), text);
-        holds(&rt, is_written(&rt, rt.alloc(), outcome, whole), whole);
-    }
-}
-
-/// The causes, each as it is written raw and wrapped.
-static CAUSES: [(Cause, &str, &str); 8] = [
-    (
-        Cause::Thrown(0),
-        "fault thrown 0 raw",
-        "fault thrown 0 wrapped",
-    ),
-    (
-        Cause::Thrown(7),
-        "fault thrown 7 raw",
-        "fault thrown 7 wrapped",
-    ),
-    (
-        Cause::Thrown(4294967295),
-        "fault thrown 4294967295 raw",
-        "fault thrown 4294967295 wrapped",
-    ),
-    (
-        Cause::Cancelled,
-        "fault cancelled raw",
-        "fault cancelled wrapped",
-    ),
-    (
-        Cause::TimedOut(0),
-        "fault timeout raw",
-        "fault timeout wrapped",
-    ),
-    (
-        Cause::TimedOut(7),
-        "fault timeout 7 raw",
-        "fault timeout 7 wrapped",
-    ),
-    (
-        Cause::BadAnswer(0),
-        "fault badanswer raw",
-        "fault badanswer wrapped",
-    ),
-    (
-        Cause::BadAnswer(4294967295),
-        "fault badanswer 4294967295 raw",
-        "fault badanswer 4294967295 wrapped",
-    ),
-];
 
 fn fault(cause: Cause, wrapped: bool) -> Outcome {
     Outcome::Fault { cause, wrapped }
 }
-
-#[test]
-fn writes_each_fault(rt: HostRuntime) {
-    for (cause, raw, wrapped) in &CAUSES {
-        let (plain, under) = (fault(*cause, false), fault(*cause, true));
-        holds(&rt, is_written(&rt, rt.alloc(), plain, raw), raw);
-        holds(&rt, is_written(&rt, rt.alloc(), under, wrapped), wrapped);
-    }
-}
-
-/// What a caller is told, each as it is written.
-static TOLD: [(Now, &str); 11] = [
-    (Now::Absent(Value::Int(4)), "absent 4"),
-    (Now::Absent(Value::Nil), "absent nil"),
-    (Now::Got(Value::Nil), "value nil"),
-    (Now::Got(Value::Int(-4)), "value -4"),
-    (Now::Completion(Cause::Thrown(7)), "completion thrown 7"),
-    (Now::Completion(Cause::Cancelled), "completion cancelled"),
-    (Now::Completion(Cause::TimedOut(0)), "completion timeout"),
-    (Now::Completion(Cause::TimedOut(7)), "completion timeout 7"),
-    (Now::Completion(Cause::BadAnswer(0)), "completion badanswer"),
-    (
-        Now::Completion(Cause::BadAnswer(4294967295)),
-        "completion badanswer 4294967295",
-    ),
-    (Now::Cancellation, "cancellation"),
-];
 
 /// Whether this is the short text of what a caller is told.
 fn is_short(told: Now, text: &str) -> bool {
@@ -163,27 +131,46 @@ fn is_short(told: Now, text: &str) -> bool {
     short.as_bytes() == text.as_bytes()
 }
 
-#[test]
-fn writes_each_answer(rt: HostRuntime) {
-    for (told, text) in &TOLD {
-        holds(&rt, is_shown(&rt, rt.alloc(), told, text), text);
-        holds(&rt, is_short(*told, text), text);
+/// Whether a row is so.
+fn is_so(rt: &impl Abort, alloc: Global, row: Row) -> bool {
+    match row {
+        Row::Outcome(outcome, wrapped, cancelled, exceptional) => {
+            (wrap(outcome) == wrapped)
+                & (is_cancelled(outcome) == cancelled)
+                & (is_exceptional(outcome) == exceptional)
+        }
+        Row::Now(outcome, absent, now) => now_of(outcome, absent) == now,
+        Row::Value(value, text, whole) => {
+            is_shown(rt, alloc, &value, text) & is_written(rt, alloc, Outcome::Value(value), whole)
+        }
+        Row::Fault(cause, raw, wrapped) => {
+            is_written(rt, alloc, fault(cause, false), raw)
+                & is_written(rt, alloc, fault(cause, true), wrapped)
+        }
+        Row::Told(told, text) => is_shown(rt, alloc, &told, text) & is_short(told, text),
     }
 }
 
-/// The longest stands behind as much as there is room for.
 #[test]
-fn the_longest_has_room(rt: HostRuntime) {
+fn outcomes_are_told_and_written_so(rt: HostRuntime) {
+    for (at, row) in ROWS.iter().enumerate() {
+        holds(&rt, is_so(&rt, rt.alloc(), *row), at);
+    }
+}
+
+/// Whether the longest has room behind as much as there is room for.
+fn has_room() -> bool {
     let mut short = ShortText::new();
     short.push("granted got 12");
     short.push_outcome(fault(Cause::BadAnswer(4294967295), true));
-    same(&rt, short.as_bytes().len(), SHORT_ROOM);
+    short.as_bytes().len() == SHORT_ROOM
 }
 
-/// Takes one byte a call. One call of `write` fails or takes nothing, and the first flush may fail. The next call would
-/// go on, so a writer of texts that tries again is found out.
+/// Takes so many bytes a call, and holds the first of them. One call of `write` fails or takes nothing, and the first flush
+/// may fail. The next call would go on, so a writer of texts that tries again is found out.
 #[derive(Drop)]
 struct Stumbling {
+    a_call: usize,
     held: [u8; 32],
     len: usize,
     writes: usize,
@@ -209,8 +196,9 @@ impl Write for Stumbling {
             return Ok(0);
         }
         self.held[self.len] = buf[0];
-        self.len += 1;
-        Ok(1)
+        let taken = buf.len().min(self.a_call);
+        self.len = self.len.wrapping_add(taken);
+        Ok(taken)
     }
 
     fn flush(&mut self) -> io::Result<()> {
@@ -223,9 +211,10 @@ impl Write for Stumbling {
     }
 }
 
-/// A writer whose call of this number stumbles.
-fn stumbles_once(stumbles_at: usize, fails: bool, flush_fails: bool) -> Stumbling {
+/// A writer that takes so many bytes a call, and whose call of this number stumbles.
+fn stumbles_once(a_call: usize, stumbles_at: usize, fails: bool, flush_fails: bool) -> Stumbling {
     Stumbling {
+        a_call,
         held: [0; 32],
         len: 0,
         writes: 0,
@@ -259,48 +248,20 @@ fn ended_at(out: &Stumbling, stumbles_at: usize) -> bool {
 
 /// Whether a write that stumbles at this call ends there.
 fn ends_at(stumbles_at: usize, fails: bool, as_outcome: bool) -> bool {
-    let mut out = stumbles_once(stumbles_at, fails, false);
+    let mut out = stumbles_once(1, stumbles_at, fails, false);
     let written = write_it(&mut out, as_outcome).is_ok();
     written == (stumbles_at >= TEXT.len()) && ended_at(&out, stumbles_at)
 }
 
-#[test]
-fn nothing_follows_a_failed_write(rt: HostRuntime) {
-    for stumbles_at in 0..21usize {
-        for fails in [false, true] {
-            holds(&rt, ends_at(stumbles_at, fails, false), stumbles_at);
-            holds(&rt, ends_at(stumbles_at, fails, true), stumbles_at);
-        }
-    }
+/// The same, by a number: its lowest bits tell whether it fails, and whether it writes an outcome.
+fn ends_by(number: usize) -> bool {
+    ends_at(number / 4, number & 1 == 1, number & 2 == 2)
 }
 
-/// Takes all that it is handed at once, and counts the calls.
-#[derive(Drop)]
-struct Greedy {
-    taken: usize,
-    writes: usize,
-}
-
-impl Write for Greedy {
-    fn write(&mut self, buf: &[u8]) -> io::Result<usize> {
-        self.writes = self.writes.wrapping_add(1);
-        self.taken = self.taken.wrapping_add(buf.len());
-        Ok(buf.len())
-    }
-
-    fn flush(&mut self) -> io::Result<()> {
-        Ok(())
-    }
-}
-
-#[test]
-fn all_that_is_left_is_handed_over_at_once(rt: HostRuntime) {
-    let mut out = Greedy {
-        taken: 0,
-        writes: 0,
-    };
-    assert!(rt; write_text(&mut out, &[b'x'; 9_000]).is_ok());
-    same(&rt, (out.writes, out.taken), (1, 9_000));
+/// Whether all that is left is handed over at once.
+fn takes_all_at_once() -> bool {
+    let mut out = stumbles_once(usize::MAX, usize::MAX, false, false);
+    write_text(&mut out, &[b'x'; 9_000]).is_ok() & (out.writes == 1) & (out.len == 9_000)
 }
 
 /// Whether so many bytes were written one at a time and flushed once, behind the last.
@@ -310,23 +271,31 @@ fn is_flushed(out: &Stumbling, written: usize) -> bool {
 
 /// Whether the whole text is flushed once, behind its last byte, and a flush that fails is a fault.
 fn flushes_once(flush_fails: bool, as_outcome: bool) -> bool {
-    let mut out = stumbles_once(usize::MAX, false, flush_fails);
+    let mut out = stumbles_once(1, usize::MAX, false, flush_fails);
     let written = write_it(&mut out, as_outcome).is_ok();
     written != flush_fails && is_flushed(&out, TEXT.len())
 }
 
 /// The same of a text without a byte.
 fn flushes_nothing(flush_fails: bool) -> bool {
-    let mut out = stumbles_once(usize::MAX, false, flush_fails);
+    let mut out = stumbles_once(1, usize::MAX, false, flush_fails);
     let written = write_text(&mut out, b"").is_ok();
     written != flush_fails && is_flushed(&out, 0)
 }
 
+/// Whether each text is flushed once, whether that fails or not.
+fn are_flushed_once(flush_fails: bool) -> bool {
+    flushes_once(flush_fails, false)
+        & flushes_once(flush_fails, true)
+        & flushes_nothing(flush_fails)
+}
+
+/// Nothing follows a write that failed, or a text that was flushed.
 #[test]
-fn the_text_is_flushed_once(rt: HostRuntime) {
-    for flush_fails in [false, true] {
-        assert!(rt; flushes_once(flush_fails, false));
-        assert!(rt; flushes_once(flush_fails, true));
-        assert!(rt; flushes_nothing(flush_fails));
+fn texts_are_written_and_flushed_once(rt: HostRuntime) {
+    for number in 0..84usize {
+        holds(&rt, ends_by(number), number);
     }
+    let are_flushed = are_flushed_once(false) & are_flushed_once(true);
+    holds(&rt, are_flushed & takes_all_at_once() & has_room(), "texts");
 }

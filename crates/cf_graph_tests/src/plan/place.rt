@@ -1,25 +1,18 @@
 //! Which sources a plan has, and how often it is copied.
-use crate::checks::holds;
+use crate::plan::tables::Row;
 use cf_forms::Of;
 use cf_plan::Plan;
 use std::alloc::Global;
 
-/// Sources, a number of stages, and whether the sources are below it.
-static BELOW: [(Of, u16, bool); 6] = [
-    (Of::None, 0, true),
-    (Of::One(0), 0, false),
-    (Of::One(3), 4, true),
-    (Of::Two(3, 3), 4, true),
-    (Of::Two(4, 3), 4, false),
-    (Of::Two(3, 4), 4, false),
+/// Which sources are below so many stages.
+pub(super) const BELOW: [Row; 6] = [
+    Row::Below(Of::None, 0, true),
+    Row::Below(Of::One(0), 0, false),
+    Row::Below(Of::One(3), 4, true),
+    Row::Below(Of::Two(3, 3), 4, true),
+    Row::Below(Of::Two(4, 3), 4, false),
+    Row::Below(Of::Two(3, 4), 4, false),
 ];
-
-#[test]
-fn sources_are_below_the_stages(rt: HostRuntime) {
-    for (of, stages, is_below) in &BELOW {
-        holds(&rt, of.are_below(*stages) == *is_below, of);
-    }
-}
 
 /// Whether a plan can be copied so often, while all copies are kept.
 pub(crate) fn copies(alloc: Global, plan: &Plan, times: u32) -> bool {

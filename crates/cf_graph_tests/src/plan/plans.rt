@@ -1,9 +1,8 @@
 //! Plans of every kind of size, and what is refused.
-use crate::checks::{holds, is_shown};
 use crate::plan::many::{Ends, Many, Stages};
 use crate::plan::rows::{Ask, Case, Step, check, check_each};
 use cf_forms::{Form, Limit, LimitKind};
-use cf_outcome::{Value, WriteFault};
+use cf_outcome::Value;
 use cf_plan::{MAX_EDGES, PlanFault};
 
 /// A builder that is told of no room, and does nothing.
@@ -342,25 +341,4 @@ fn stages_edges_and_room_are_bounded(rt: HostRuntime) {
         };
         check(&rt, rt.alloc(), &case);
     }
-}
-
-static FAULTS: [(PlanFault, &str); 9] = [
-    (PlanFault::TooManyStages, "TooManyStages"),
-    (PlanFault::SourceNotLower, "SourceNotLower"),
-    (PlanFault::WrongSourceCount, "WrongSourceCount"),
-    (PlanFault::FunctionMissing, "FunctionMissing"),
-    (PlanFault::FunctionUnwanted, "FunctionUnwanted"),
-    (PlanFault::TooManyEdges, "TooManyEdges"),
-    (PlanFault::NoSuchStage, "NoSuchStage"),
-    (PlanFault::NoMemory, "NoMemory"),
-    (PlanFault::TooManyLimits, "TooManyLimits"),
-];
-
-#[test]
-fn faults_are_written_by_name(rt: HostRuntime) {
-    for (fault, text) in &FAULTS {
-        holds(&rt, is_shown(&rt, rt.alloc(), fault, text), text);
-    }
-    let name = "WriteFault";
-    holds(&rt, is_shown(&rt, rt.alloc(), &WriteFault, name), name);
 }

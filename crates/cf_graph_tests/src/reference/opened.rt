@@ -1,5 +1,5 @@
 //! Graphs whose stages are all there at the opening.
-use crate::checks::{holds, must, same};
+use crate::checks::{holds, must};
 use crate::reference::both::{Both, answer, assert_alike, nudge};
 use crate::reference::calls::call_of;
 use crate::reference::plans::{New, PAIRS, larger_plan, new_choice, numbers_of, pair_of, plan_of};
@@ -78,7 +78,7 @@ fn one_stage_over_two_sources(rt: HostRuntime) {
             replies = replies.wrapping_add(compare_all(&rt, rt.alloc(), &[new], plans));
         }
     }
-    same(&rt, (plans, replies), (57, 3648));
+    holds(&rt, plans == 57 && replies == 3648, (plans, replies));
 }
 
 #[test]
@@ -90,7 +90,7 @@ fn two_stages_over_two_sources(rt: HostRuntime) {
             replies = replies.wrapping_add(compare_all(&rt, rt.alloc(), &news, plans));
         }
     }
-    same(&rt, (plans, replies), (6099, 390336));
+    holds(&rt, plans == 6099 && replies == 390336, (plans, replies));
 }
 
 /// Does a list of calls on the larger plan of a number.
