@@ -1,5 +1,5 @@
 //! Races of whole scripts over devices that fail.
-use crate::checks::{holds, same};
+use crate::checks::holds;
 use crate::script::devices::{Dripping, Sipping, Then};
 use crate::script::reports::lines;
 use cf_script::{NoGate, ScriptFault, race_script};
@@ -22,8 +22,8 @@ fn check_reader(rt: &(impl Abort + Threads + Wait + Sync + AllocGlobal), calls: 
     };
     let mut out: Vec<u8> = Vec::new(rt.alloc());
     let ended = race_script(rt, rt.alloc(), &mut drops, &mut out, &NoGate, 2);
-    same(rt, ended, Err(ScriptFault::Read));
-    same(rt, out.as_slice(), "fault 7 read\n".as_bytes());
+    holds(rt, ended == Err(ScriptFault::Read), calls);
+    holds(rt, out.as_slice() == "fault 7 read\n".as_bytes(), calls);
 }
 
 #[test]
@@ -48,9 +48,9 @@ fn check_writer(
     };
     let mut input = SUM.as_bytes();
     let ended = race_script(rt, rt.alloc(), &mut input, &mut sips, &NoGate, 2);
-    same(rt, ended, Err(ScriptFault::Write));
+    holds(rt, ended == Err(ScriptFault::Write), calls);
     holds(rt, whole.starts_with(sips.held.as_slice()), calls);
-    same(rt, sips.held.len() as u64, calls);
+    holds(rt, sips.held.len() as u64 == calls, calls);
 }
 
 #[test]

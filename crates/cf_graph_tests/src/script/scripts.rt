@@ -1,5 +1,5 @@
 //! Scripts that end early, devices that fail, and memory that is refused.
-use crate::checks::{holds, same, same_at};
+use crate::checks::holds;
 use crate::script::devices::{Dripping, Fixed, Sipping, Then};
 use crate::script::reports::{ADD_FIVE, ADD_FIVE_REPORT, lines};
 use cf_script::{Part, ScriptFault, run_script};
@@ -16,7 +16,7 @@ fn check_front(rt: &(impl Abort + AllocGlobal), mut front: &[u8]) {
     let mut out: Vec<u8> = Vec::new(rt.alloc());
     let result = run_script(rt.alloc(), &mut front, &mut out);
     holds(rt, result == Err(ScriptFault::NotJson), len);
-    same_at(rt, out.as_slice(), b"fault 2 not json\n".as_slice(), len);
+    holds(rt, out.as_slice() == b"fault 2 not json\n".as_slice(), len);
 }
 
 fn check_fronts(rt: &(impl Abort + AllocGlobal), script: &[u8]) {
@@ -47,7 +47,7 @@ fn check_reader(
     };
     let result = run_script(rt.alloc(), &mut input, &mut out);
     holds(rt, result == ended, calls);
-    same_at(rt, out.as_slice(), printed, calls);
+    holds(rt, out.as_slice() == printed, calls);
 }
 
 /// A reader that may be called once behind the end doesn't fail.
@@ -83,7 +83,7 @@ fn check_writer(
     let calls = out.calls;
     let result = run_script(rt.alloc(), &mut script.as_bytes(), &mut out);
     holds(rt, result == ended, calls);
-    same_at(rt, out.held.as_slice(), taken, calls);
+    holds(rt, out.held.as_slice() == taken, calls);
 }
 
 /// Whatever the script, a writer that fails holds a front of the text.
@@ -146,11 +146,11 @@ fn check_refused(rt: &impl Abort, alloc: Global) -> bool {
     holds(rt, out.count <= 128, out.count);
     let written = &out.held[..out.count];
     if result == Ok(()) {
-        same(rt, written, report);
+        holds(rt, written == report, "report");
         true
     } else {
-        same(rt, result, Err(ScriptFault::NoMemory));
-        same(rt, written, fault);
+        holds(rt, result == Err(ScriptFault::NoMemory), "memory");
+        holds(rt, written == fault, "fault");
         false
     }
 }

@@ -1,7 +1,7 @@
 //! What a gate is told in a race, and when functions are called.
 ghost use Rattle.std.specs.Prelude.{◌<◌, ◌≤◌};
 
-use crate::checks::{holds, must, same};
+use crate::checks::{holds, must};
 use cf_script::{Gate, race_script};
 use std::alloc::Global;
 use std::process::Abort;
@@ -133,13 +133,14 @@ fn race_before(
     let mut out: Vec<u8> = Vec::new(rt.alloc());
     let mut input = script.as_bytes();
     let ended = race_script(rt, rt.alloc(), &mut input, &mut out, gate, workers);
-    same(rt, ended, Ok(()));
+    holds(rt, ended == Ok(()), "ended");
     holds(
         rt,
         !gate.is_late.load(Ordering::SeqCst),
         (workers, "work at once"),
     );
-    same(rt, gate.count.load(Ordering::SeqCst), STAGES as u32 - 4);
+    let count = gate.count.load(Ordering::SeqCst);
+    holds(rt, count == STAGES as u32 - 4, count);
 }
 
 fn check_gate(rt: &(impl Abort + Threads + Wait + Sync + AllocGlobal), script: &str, workers: u8)
