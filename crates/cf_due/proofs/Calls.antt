@@ -14,7 +14,7 @@ use Rattle.cf_row.specs.Numbers.{FollowsRule}
 use Rattle.cf_row.specs.Puts.{IsWordFor, attached_by, pairs_of}
 use Rattle.cf_row.specs.Rows.{Replica, stages_of, state_of}
 use Rattle.cf_due.specs.Claiming.{CanCall, ClaimsBehind, ClaimsNext, IsNextCall, IsPlain, NoneToCall, is_known}
-use Rattle.cf_due.specs.Lookups.{function_at}
+use Rattle.cf_notes.specs.Noting.{function_of}
 
 -- none is there below a stage which is the next that could be claimed
 pub none_till : (r : Replica) (notes : List Noted) (ended : Option Held) (from to : ℕ) → NoneToCall r notes ended from → NoneToClaim r ended from to → NoneToCall r notes ended to
@@ -25,13 +25,13 @@ none_till r notes ended from to none free = λ k below can. split k below can (c
     split k below can (inr le) = free k le below can.claim
 
 -- nor up to that one, where its function isn't known
-pub none_with : (r : Replica) (notes : List Noted) (ended : Option Held) (stage : ℕ) → NoneToCall r notes ended stage → is_known (function_at notes stage) ≢ true →
+pub none_with : (r : Replica) (notes : List Noted) (ended : Option Held) (stage : ℕ) → NoneToCall r notes ended stage → is_known (function_of notes stage) ≢ true →
     NoneToCall r notes ended (stage + 1)
 none_with r notes ended stage none unknown = λ k below can. split k below can (cases_lt k stage)
   where
     split : (k : ℕ) → k < stage + 1 → CanCall r notes ended k → (k < stage) ⊎ (stage ≤ k) → ⊥
     split k below can (inl lt) = none k lt can
-    split k below can (inr le) = (let same : k ≡ stage = omega (arith, le, below) in unknown (subst (λ (i : ℕ). is_known (function_at notes i) ≡ true) same can.known))
+    split k below can (inr le) = (let same : k ≡ stage = omega (arith, le, below) in unknown (subst (λ (i : ℕ). is_known (function_of notes i) ≡ true) same can.known))
 
 -- a stage with an open claim is there
 pub claimed_there : (claims : List (Option ℕ)) (i who : ℕ) → unwrap_or (slice_get claims i) None ≡ Some who → i < length claims

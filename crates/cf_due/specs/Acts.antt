@@ -30,7 +30,7 @@ use Rattle.cf_due.specs.declared.acts.Act.TheVariants.{Complete, Fail, Cancel, L
 use Rattle.cf_due.specs.declared.acts.Acting.{Acting}
 use Rattle.cf_due.specs.declared.acts.NoAct.{NoAct}
 use Rattle.cf_due.specs.declared.acts.NoAct.TheVariants.{NoStage, NoRoom, NoTry, Settled, Runs}
-use Rattle.cf_due.specs.Lookups.{function_at, promise_at}
+use Rattle.cf_notes.specs.Noting.{function_of, promise_of}
 use Rattle.cf_due.specs.Settling.{IsOpen, SettlesAs, place_of}
 
 -- ---- what is asked for
@@ -46,8 +46,8 @@ tried_by notes i = unwrap_or (option_and_then (λ (n : Noted). n.tries) (slice_g
 
 -- it has a function, and doesn't compose
 pub record HasTryOf (notes : List Noted) (tried : ℕ) : Type 0 where
-  pub function : is_some (function_at notes tried) ≡ true
-  pub composes : promise_at notes tried ≡ None
+  pub function : is_some (function_of notes tried) ≡ true
+  pub composes : promise_of notes tried ≡ None
 
 abbrev pub HasTry : List Noted → ℕ → Type 0
 HasTry notes i = HasTryOf notes (tried_by notes i)

@@ -10,7 +10,7 @@ use Rattle.cf_row.specs.Puts.{AreWordsBehind, pairs_of}
 use Rattle.cf_row.specs.Next.{CanClaim, Finishes, IsGrant}
 use Rattle.cf_notes.specs.declared.note.Note.TheVariants.{Nothing}
 use Rattle.cf_notes.specs.declared.noted.Noted.{Noted}
-use Rattle.cf_due.specs.Lookups.{function_at}
+use Rattle.cf_notes.specs.Noting.{function_of}
 use Rattle.cf_notes.specs.declared.wants.Source.TheVariants.{Nothing as NoPayload}
 use Rattle.cf_notes.specs.declared.wants.Want.{Want}
 
@@ -22,7 +22,7 @@ is_known (Some function) = nat_lt 0 function
 -- a stage that this session could claim, as it is or behind a finish, and whose function the process knows
 pub record CanCall (r : Replica) (notes : List Noted) (ended : Option Held) (i : ℕ) : Type 0 where
   pub claim : CanClaim r ended i
-  pub known : is_known (function_at notes i) ≡ true
+  pub known : is_known (function_of notes i) ≡ true
 
 -- no stage below this one is such a one
 abbrev pub NoneToCall : Replica → List Noted → Option Held → ℕ → Type 0

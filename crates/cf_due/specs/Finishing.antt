@@ -1,5 +1,5 @@
 -- The finish of a stage whose function has ended, and the claim that goes with it.
-use Rattle.std.specs.Prelude.{◌≡◌, ℕ, ◌<◌, ◌==◌, ◌&&◌, Bool, true, false, not, nat_lt, Option, Some, None, List, if◌then◌else◌}
+use Rattle.std.specs.Prelude.{◌≡◌, ℕ, ◌<◌, ◌==◌, ◌&&◌, Bool, true, false, not, nat_lt, Option, Some, None, List, if◌then◌else◌, option_and_then, slice_get}
 use Rattle.std.specs.Int.{w32, cast_signed}
 use Rattle.cf_outcome.specs.declared.outcome.Value.TheVariants.{Nil, Int}
 use Rattle.cf_forms.specs.declared.forms.Answer.{Answer}
@@ -11,7 +11,7 @@ use Rattle.cf_notes.specs.declared.note.Note.{Note}
 use Rattle.cf_notes.specs.declared.note.Note.TheVariants.{Nothing, Gives as NotesGiven}
 use Rattle.cf_notes.specs.declared.noted.Noted.{Noted}
 use Rattle.cf_due.specs.Claiming.{ClaimsBehind, NoneToCall}
-use Rattle.cf_due.specs.Lookups.{owed_at, promise_at}
+use Rattle.cf_notes.specs.Noting.{promise_of}
 use Rattle.cf_due.specs.Settling.{place_of}
 use Rattle.cf_due.specs.declared.finishing.Finishing.{Finishing}
 use Rattle.cf_notes.specs.declared.wants.EndsWith.{EndsWith}
@@ -23,6 +23,10 @@ use Rattle.cf_notes.specs.declared.wants.Want.{Want}
 
 -- ---- what is put of what a function came to
 
+-- what a stage's function came to, if that is still to be put
+abbrev pub owed_at : List (Option Owed) → ℕ → Option Owed
+owed_at owed i = option_and_then (λ (o : Option Owed). o) (slice_get owed i)
+
 -- A stage that was given is there, and isn't the promise itself: then the promise can be settled as that one is.
 abbrev pub settled_as : ℕ → ℕ → Option ℕ → Option ℕ
 settled_as stages given None = None
@@ -30,7 +34,7 @@ settled_as stages given (Some promise) = if nat_lt given stages && not (given ==
 
 -- the promise of stage i that is settled as the stage that its function gave, where it gave such a one
 abbrev pub promise_by : Replica → List Noted → ℕ → EndsWith → Option ℕ
-promise_by r notes i (Links given) = settled_as (stages_of r) given (promise_at notes i)
+promise_by r notes i (Links given) = settled_as (stages_of r) given (promise_of notes i)
 promise_by r notes i ends = None
 
 -- What the words say of it. A value and an error stand at the place of the finish. A stage that was given links to the promise. Where no

@@ -1,5 +1,4 @@
 pub mod Settling
-pub mod Lookups
 pub mod Claiming
 pub mod Finishing
 pub mod Abandoning

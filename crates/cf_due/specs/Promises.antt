@@ -6,7 +6,7 @@ use Rattle.cf_outcome.specs.declared.outcome.Outcome.TheVariants.{Fault}
 use Rattle.cf_model.specs.States.{outcome_at}
 use Rattle.cf_row.specs.Rows.{Replica, state_of}
 use Rattle.cf_notes.specs.declared.noted.Noted.{Noted}
-use Rattle.cf_due.specs.Lookups.{given_at, promise_at}
+use Rattle.cf_notes.specs.Noting.{given_of, promise_of}
 use Rattle.cf_due.specs.Settling.{IsOpen, WantsAs}
 use Rattle.cf_notes.specs.declared.wants.Want.{Want}
 
@@ -16,7 +16,7 @@ use Rattle.cf_notes.specs.declared.wants.Want.{Want}
 pub record IsToLink (r : Replica) (notes : List Noted) (promise : ℕ) (o : Outcome) : Type 0 where
   pub is_open : IsOpen r promise
   pub given : ℕ
-  pub is : given_at notes promise ≡ Some given
+  pub is : given_of notes promise ≡ Some given
   pub ended : outcome_at (state_of r) given ≡ Some o
 
 abbrev pub NoneToLink : Replica → List Noted → ℕ → Type 0
@@ -36,8 +36,8 @@ pub record IsLinkDue (r : Replica) (notes : List Noted) (want : Want) : Type 0 w
 pub record IsToCancel (r : Replica) (notes : List Noted) (i promise : ℕ) : Type 0 where
   pub outcome : Outcome
   pub ended : outcome_at (state_of r) i ≡ Some outcome
-  pub composes : promise_at notes i ≡ Some promise
-  pub none : given_at notes promise ≡ None
+  pub composes : promise_of notes i ≡ Some promise
+  pub none : given_of notes promise ≡ None
   pub is_open : IsOpen r promise
 
 abbrev pub NoneToCancel : Replica → List Noted → ℕ → Type 0

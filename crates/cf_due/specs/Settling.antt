@@ -17,9 +17,13 @@ use Rattle.cf_notes.specs.declared.note.Note.TheVariants.{Nothing}
 use Rattle.cf_notes.specs.declared.wants.Want.{Want}
 use Rattle.cf_notes.specs.declared.wants.Source.TheVariants.{Nothing as NoPayload}
 
--- the number by which a word names the payload that stands beside it: the place of its entry, counted from 1
+-- the number by which a word names a place, counted from 1
+abbrev pub named_place : ℕ → ℕ
+named_place place = place % 2 ^ 32
+
+-- the number by which a word names the payload that stands beside it
 abbrev pub place_of : Replica → ℕ
-place_of r = (length r.seen + 1) % 2 ^ 32
+place_of r = named_place (length r.seen + 1)
 
 -- a stage that is there and isn't settled
 pub record IsOpen (r : Replica) (i : ℕ) : Type 0 where

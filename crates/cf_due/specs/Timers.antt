@@ -8,19 +8,19 @@ use Rattle.cf_outcome.specs.declared.outcome.Value.TheVariants.{Int}
 use Rattle.cf_row.specs.Rows.{Replica}
 use Rattle.cf_notes.specs.declared.noted.Noted.{Noted}
 use Rattle.cf_notes.specs.declared.noted.Timer.{Timer}
-use Rattle.cf_due.specs.Lookups.{timer_at}
-use Rattle.cf_due.specs.Settling.{IsOpen, WantsAs}
+use Rattle.cf_notes.specs.Noting.{timer_of}
+use Rattle.cf_due.specs.Settling.{IsOpen, WantsAs, named_place}
 use Rattle.cf_notes.specs.declared.wants.Want.{Want}
 
 -- what a timer settles its stage with: the payload that stands at the timer's place, or that its time has run out
 abbrev pub outcome_by : Bool → ℕ → Outcome
-outcome_by true place = Gives (Int (cast_signed w32 place))
+outcome_by true place = Gives (Int (cast_signed w32 (named_place place)))
 outcome_by false place = Fault (TimedOut 0) false
 
 -- a stage is open, and the moment of its timer has come by the store's clock
 pub record IsToTime (r : Replica) (notes : List Noted) (clock i : ℕ) (timer : Timer) : Type 0 where
   pub is_open : IsOpen r i
-  pub is : timer_at notes i ≡ Some timer
+  pub is : timer_of notes i ≡ Some timer
   pub has_come : timer.moment ≤ clock
 
 abbrev pub NoneToTime : Replica → List Noted → ℕ → ℕ → Type 0

@@ -7,10 +7,9 @@ ghost use Rattle.cf_row.specs.Rows.{stages_of, state_of};
 ghost use Rattle.cf_due.specs.Acts.{AttachesAlone, AttachesBoth, HasTryOf, IsAttaching, IsNoPlace, IsNoTry, TriesAgain, needed_by, tried_by};
 
 use crate::acts::{Acting, NoAct};
-use crate::lookups::{function_at, promise_at};
 use cf_event::{Event, encode};
 use cf_forms::{Form, Of, composes};
-use cf_notes::{Note, Noted, Source, Want};
+use cf_notes::{Note, Noted, Source, Want, function_of, promise_of};
 use cf_row::Replica;
 
 /// The words that attach a stage, with its promise where it composes.
@@ -168,5 +167,5 @@ fn has_try(notes: &[Noted], tried: u16) -> bool
     ensures has { OnTrue result (HasTryOf notes.now tried) }
     ensures none { OnFalse result (¬ HasTryOf notes.now tried) }
 {
-    function_at(notes, tried).is_some() && promise_at(notes, tried).is_none()
+    function_of(notes, tried).is_some() && promise_of(notes, tried).is_none()
 }

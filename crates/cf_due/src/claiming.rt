@@ -3,12 +3,10 @@ ghost use Rattle.std.specs.Prelude.{◌≡◌, ◌<◌, IfNone, IfSome, None, So
 ghost use Rattle.cf_row.specs.Next.{Finishes};
 ghost use Rattle.cf_row.specs.Rows.{stages_of};
 ghost use Rattle.cf_due.specs.Claiming.{ClaimsBehind, ClaimsNext, IsNextCall, NoneToCall, is_known};
-ghost use Rattle.cf_due.specs.Lookups.{function_at};
 
-use crate::lookups::function_at;
 use cf_event::{Event, encode};
 use cf_ledger::Held;
-use cf_notes::{Note, Noted, Source, Want};
+use cf_notes::{Note, Noted, Source, Want, function_of};
 use cf_row::Replica;
 use cf_row::laws::next_claims_are_granted;
 
@@ -57,7 +55,7 @@ fn next_call(view: &Replica, notes: &[Noted], ended: Option<Held>) -> Option<u16
     let _few = view.ledger().stages();
     let mut from = 0;
     while let Some(stage) = view.next_claim(ended, from) {
-        if is_known(function_at(notes, stage)) {
+        if is_known(function_of(notes, stage)) {
             return Some(stage);
         }
         from = stage + 1;

@@ -2,14 +2,13 @@
 ghost use Rattle.std.specs.Prelude.{◌≡◌, IfNone, IfSome};
 ghost use Rattle.cf_row.specs.Next.{Finishes, HasNoClaim};
 ghost use Rattle.cf_row.specs.Rows.{stages_of};
-ghost use Rattle.cf_due.specs.Finishing.{ClaimsIfMay, FinishesOwed, IsFinishDue, NoneToFinish, answer_by, held_by, note_by, promise_by, settled_as, source_by};
+ghost use Rattle.cf_due.specs.Finishing.{ClaimsIfMay, FinishesOwed, IsFinishDue, NoneToFinish, answer_by, held_by, note_by, owed_at, promise_by, settled_as, source_by};
 
 use crate::claiming::claim_behind;
-use crate::lookups::{owed_at, promise_at};
 use crate::settling::place_of;
 use cf_forms::Answer;
 use cf_ledger::Held;
-use cf_notes::{EndsWith, Note, Noted, Owed, Source, Want};
+use cf_notes::{EndsWith, Note, Noted, Owed, Source, Want, promise_of};
 use cf_outcome::Value;
 use cf_row::Replica;
 
@@ -46,6 +45,16 @@ pub(crate) fn finish_due(
         }
     }
     None
+}
+
+/// What a stage's function came to, if that is still to be put.
+fn owed_at(owed: &[Option<Owed>], stage: u16) -> Option<Owed>
+    ensures { result ≡ owed_at owed.now stage }
+{
+    match owed.get(stage as usize) {
+        Some(owed) => *owed,
+        None => None,
+    }
 }
 
 /// The claim behind a finish, if the process may claim a stage.
@@ -99,7 +108,7 @@ fn promise_by(view: &Replica, notes: &[Noted], stage: u16, ends: EndsWith) -> Op
 {
     match ends {
         EndsWith::Links { stage: given } => {
-            settled_as(view.ledger().stages(), given, promise_at(notes, stage))
+            settled_as(view.ledger().stages(), given, promise_of(notes, stage))
         }
         _ => None,
     }

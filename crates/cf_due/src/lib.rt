@@ -17,7 +17,6 @@ mod claiming;
 mod due;
 mod finishing;
 pub mod laws;
-mod lookups;
 mod promises;
 mod settling;
 #[cfg(test)]

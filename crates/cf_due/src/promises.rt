@@ -4,9 +4,8 @@ ghost use Rattle.cf_outcome.specs.declared.outcome.Outcome.{Outcome};
 ghost use Rattle.cf_row.specs.Rows.{stages_of};
 ghost use Rattle.cf_due.specs.Promises.{IsCancelDue, IsLinkDue, IsToCancel, IsToLink, NoneToCancel, NoneToLink};
 
-use crate::lookups::{given_at, promise_at};
 use crate::settling::settle;
-use cf_notes::{Noted, Want};
+use cf_notes::{Noted, Want, given_of, promise_of};
 use cf_outcome::{Cause, Outcome};
 use cf_row::Replica;
 
@@ -33,7 +32,7 @@ fn link_of(view: &Replica, notes: &[Noted], promise: u16) -> Option<Outcome>
     if ledger.outcome(promise).is_some() {
         return None;
     }
-    let given = given_at(notes, promise)?;
+    let given = given_of(notes, promise)?;
     if given >= ledger.stages() {
         return None;
     }
@@ -65,11 +64,11 @@ fn cancel_of(view: &Replica, notes: &[Noted], stage: u16) -> Option<u16>
 {
     let ledger = view.ledger();
     let _ended = ledger.outcome(stage)?;
-    let promise = promise_at(notes, stage)?;
+    let promise = promise_of(notes, stage)?;
     if promise >= ledger.stages() || ledger.outcome(promise).is_some() {
         return None;
     }
-    match given_at(notes, promise) {
+    match given_of(notes, promise) {
         Some(_) => None,
         None => Some(promise),
     }

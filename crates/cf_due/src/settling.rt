@@ -1,7 +1,7 @@
 //! Words that settle a stage.
 ghost use Rattle.std.specs.Prelude.{◌≡◌, ◌≤◌};
 ghost use Rattle.cf_event.specs.Words.{IsEvent};
-ghost use Rattle.cf_due.specs.Settling.{IsOpen, SettlesAs, WantsAs, fault_event, place_of, settle_event};
+ghost use Rattle.cf_due.specs.Settling.{IsOpen, SettlesAs, WantsAs, fault_event, named_place, place_of, settle_event};
 
 use cf_event::{Event, encode};
 use cf_model::Failure;
@@ -16,8 +16,14 @@ const PLACES: u64 = 1 << 32;
 pub(crate) fn place_of(view: &Replica) -> u32
     ensures { result ≡ place_of view.now }
 {
-    let next = view.seen().len() as u64 + 1;
-    (next % PLACES) as u32
+    named_place(view.seen().len() as u64 + 1)
+}
+
+/// The number by which a word names a place, counted from 1.
+pub(crate) fn named_place(place: u64) -> u32
+    ensures { result ≡ named_place place }
+{
+    (place % PLACES) as u32
 }
 
 /// What settles an open stage with this outcome. A fault is raw on the stage then.

@@ -4,9 +4,8 @@ ghost use Rattle.cf_notes.specs.declared.noted.Timer.{Timer};
 ghost use Rattle.cf_row.specs.Rows.{stages_of};
 ghost use Rattle.cf_due.specs.Timers.{IsTimerDue, IsToTime, NoneToTime, outcome_by};
 
-use crate::lookups::timer_at;
-use crate::settling::settle;
-use cf_notes::{Noted, Timer, Want};
+use crate::settling::{named_place, settle};
+use cf_notes::{Noted, Timer, Want, timer_of};
 use cf_outcome::{Cause, Outcome, Value};
 use cf_row::Replica;
 
@@ -16,7 +15,7 @@ pub(crate) fn timer_due(view: &Replica, notes: &[Noted], clock: u64) -> Option<W
     ensures none { IfNone result (NoneToTime view.now notes.now clock (stages_of view.now)) }
 {
     for stage in 0..view.ledger().stages() {
-        if let Some(timer) = timer_of(view, notes, clock, stage) {
+        if let Some(timer) = timer_come(view, notes, clock, stage) {
             return Some(settle(view, stage, outcome_by(timer)));
         }
     }
@@ -24,7 +23,7 @@ pub(crate) fn timer_due(view: &Replica, notes: &[Noted], clock: u64) -> Option<W
 }
 
 /// The timer of an open stage, if its moment has come.
-fn timer_of(view: &Replica, notes: &[Noted], clock: u64, stage: u16) -> Option<Timer>
+fn timer_come(view: &Replica, notes: &[Noted], clock: u64, stage: u16) -> Option<Timer>
     requires { stage < stages_of view.now }
     ensures timer { IfSome result (λ t. IsToTime view.now notes.now clock stage t) }
     ensures none { IfNone result ((t : Timer) → ¬ IsToTime view.now notes.now clock stage t) }
@@ -32,7 +31,7 @@ fn timer_of(view: &Replica, notes: &[Noted], clock: u64, stage: u16) -> Option<T
     if view.ledger().outcome(stage).is_some() {
         return None;
     }
-    let timer = timer_at(notes, stage)?;
+    let timer = timer_of(notes, stage)?;
     if timer.moment > clock {
         return None;
     }
@@ -44,7 +43,7 @@ fn outcome_by(timer: Timer) -> Outcome
     ensures { result ≡ outcome_by timer.gives timer.place }
 {
     if timer.gives {
-        Outcome::Value(Value::Int(timer.place.cast_signed()))
+        Outcome::Value(Value::Int(named_place(timer.place).cast_signed()))
     } else {
         Outcome::Fault {
             cause: Cause::TimedOut(0),

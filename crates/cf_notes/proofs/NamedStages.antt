@@ -223,7 +223,7 @@ count_kept : (s : State) (e : Event) → is_attach e ≡ false → added_by e ((
     length ((answered s e).1.plan.stages) ≡ length s.plan.stages + added_by e ((answered s e).0)
 count_kept s e other none = let plan = ap (λ (p : Planned). length p.stages) ((answered-frame s e other).plan) in omega arith
 
-count_answered : (s : State) (e : Event) → length ((answered s e).1.plan.stages) ≡ length s.plan.stages + added_by e ((answered s e).0)
+pub count_answered : (s : State) (e : Event) → length ((answered s e).1.plan.stages) ≡ length s.plan.stages + added_by e ((answered s e).0)
 count_answered s (Attaches who form of function) = count_attached s.plan.room s (attached_stage form of function)
 count_answered s (Completes who i v) = count_kept s (Completes who i v) refl refl
 count_answered s (Fails who i code) = count_kept s (Fails who i code) refl refl

@@ -17,6 +17,7 @@ use Rattle.cf_model.specs.Events.{answered, state_after}
 use Rattle.cf_notes.specs.declared.note.Note.{Note}
 use Rattle.cf_notes.specs.declared.note.Note.TheVariants.{Calls, Tries, Composes, Gives, Timer as Times, Abandons}
 use Rattle.cf_notes.specs.declared.noted.Noted.{Noted}
+use Rattle.cf_notes.specs.declared.noted.Timer.{Timer}
 
 -- ---- a stage
 
@@ -25,12 +26,18 @@ abbrev pub with_function : Option ℕ → Noted
 with_function function =
     record { function = function; tries = None; promise = None; given = None; timer = None; abandoned = None }
 
--- the function and the promise of stage i
+-- the function of stage i, the promise that it composes, the stage that it was given as a promise, and its timer
 abbrev pub function_of : List Noted → ℕ → Option ℕ
 function_of stages i = option_and_then (λ (n : Noted). n.function) (slice_get stages i)
 
 abbrev pub promise_of : List Noted → ℕ → Option ℕ
 promise_of stages i = option_and_then (λ (n : Noted). n.promise) (slice_get stages i)
+
+abbrev pub given_of : List Noted → ℕ → Option ℕ
+given_of stages i = option_and_then (λ (n : Noted). n.given) (slice_get stages i)
+
+abbrev pub timer_of : List Noted → ℕ → Option Timer
+timer_of stages i = option_and_then (λ (n : Noted). n.timer) (slice_get stages i)
 
 -- one that tries a stage again, which has this function
 abbrev pub with_try : ℕ → Option ℕ → Noted

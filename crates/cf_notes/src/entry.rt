@@ -1,7 +1,8 @@
 //! What the note of an entry says of the stages that are there.
 ghost use Rattle.std.specs.Prelude.{◌≡◌};
-ghost use Rattle.cf_notes.specs.Noting.{failed_by, finished_by, given_to, is_given, promise_of, timed_by};
+ghost use Rattle.cf_notes.specs.Noting.{failed_by, finished_by, given_to, is_given, timed_by};
 
+use crate::lookups::promise_of;
 use crate::note::Note;
 use crate::noted::{Noted, Timer};
 use cf_forms::Answer;
@@ -43,16 +44,6 @@ fn is_given(stages: &[Noted], stage: u16, promise: u16, given: u16) -> bool
         && given != promise
 }
 
-/// The promise that a stage composes.
-fn promise_of(stages: &[Noted], stage: u16) -> Option<u16>
-    ensures { result ≡ promise_of stages.now stage }
-{
-    match stages.get(stage as usize) {
-        None => None,
-        Some(noted) => noted.promise,
-    }
-}
-
 /// Takes the note of a fail.
 pub(crate) fn fail(stages: &mut [Noted], reply: &Reply, stage: u16, code: u32, note: Note)
     ensures { stages.new ≡ failed_by stages.old reply.now stage code note }
@@ -67,7 +58,7 @@ pub(crate) fn fail(stages: &mut [Noted], reply: &Reply, stage: u16, code: u32, n
 }
 
 /// Takes the note of a tick.
-pub(crate) fn time(stages: &mut [Noted], place: u32, note: Note)
+pub(crate) fn time(stages: &mut [Noted], place: u64, note: Note)
     ensures { stages.new ≡ timed_by stages.old place note }
 {
     let Note::Timer {

@@ -11,6 +11,7 @@
 
 mod entry;
 pub mod laws;
+mod lookups;
 mod note;
 mod noted;
 mod notes;
@@ -20,6 +21,7 @@ mod tests;
 mod wants;
 mod words;
 
+pub use lookups::{function_of, given_of, promise_of, timer_of};
 pub use note::Note;
 pub use noted::{Noted, Timer};
 pub use notes::Notes;

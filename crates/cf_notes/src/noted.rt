@@ -8,7 +8,7 @@ pub struct Timer {
     /// Whether the stage is completed with the payload at the place. Else it times out.
     pub gives: bool,
     /// The place of the timer's entry, counted from 1.
-    pub place: u32,
+    pub place: u64,
 }
 
 /// What the notes of a row say of one stage.

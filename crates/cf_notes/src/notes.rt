@@ -67,7 +67,7 @@ impl Notes {
 
     /// Takes the note of an entry: its place counted from 1, its event, and the reply to that. There has to be a place
     /// for a stage that it attaches.
-    pub fn take(&mut self, place: u32, event: &Event, reply: &Reply, note: Note)
+    pub fn take(&mut self, place: u64, event: &Event, reply: &Reply, note: Note)
         requires { added_by event.now reply.now ≤ self.old.room }
         ensures stages { self.new.stages ≡ noted_by self.old.stages place event.now reply.now note }
         ensures count { length self.new.stages ≡ length self.old.stages + added_by event.now reply.now }

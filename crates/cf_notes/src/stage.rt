@@ -1,7 +1,8 @@
 //! What a note says of a stage as it comes.
-ghost use Rattle.std.specs.Prelude.{◌≡◌, None, Some, length};
-ghost use Rattle.cf_notes.specs.Noting.{NamesStages, called_by, function_of, noted_as, with_function, with_promise, with_try};
+ghost use Rattle.std.specs.Prelude.{◌≡◌};
+ghost use Rattle.cf_notes.specs.Noting.{called_by, function_of, noted_as, with_function, with_try};
 
+use crate::lookups::function_of;
 use crate::note::Note;
 use crate::noted::Noted;
 use cf_forms::{Form, composes};
@@ -44,16 +45,6 @@ fn with_try(stages: &[Noted], of: u16) -> Noted
             tries: Some(of),
             ..with_function(Some(function))
         },
-    }
-}
-
-/// The function of a stage.
-fn function_of(stages: &[Noted], stage: u16) -> Option<u32>
-    ensures { result ≡ function_of stages.now stage }
-{
-    match stages.get(stage as usize) {
-        None => None,
-        Some(noted) => noted.function,
     }
 }
 

@@ -84,7 +84,7 @@ fn tick(note: Note) -> Entry {
 
 /// Takes these entries, from place 1 on.
 fn take(rt: &impl Abort, notes: &mut Notes, entries: &[Entry]) {
-    let mut place: u32 = 0;
+    let mut place: u64 = 0;
     for (event, reply, note) in entries {
         assert!(rt; notes.room() > 0, "no room");
         place = place.wrapping_add(1);

@@ -22,8 +22,6 @@ pub enum Source {
     Error { stage: u16 },
     /// An error that says that the session that has this stage is gone.
     Gone { stage: u16 },
-    /// An error that says how this stage ended, whose outcome has no payload.
-    Like { stage: u16 },
 }
 
 /// What the function of a stage came to, until the row has it.
