@@ -1,16 +1,15 @@
 -- What is due fits behind all that was seen.
-use Rattle.std.proofs.Common.{◌≡◌, ℕ, ◌<◌, ◌≤◌, ◌⊎◌, inl, inr, true, Bool, Option, Some, None, List, [], ◌∷◌, All, Contains, ap, sym, ◌∙◌, refl, subst, arith}
+use Rattle.std.proofs.Common.{◌≡◌, ℕ, ◌<◌, ◌≤◌, ◌⊎◌, inl, inr, Bool, Option, Some, None, List, [], ◌∷◌, All, Contains, sym, ◌∙◌, refl, subst, arith}
 use Rattle.std.specs.Prelude.{◌≢◌}
 use Rattle.std.proofs.lemmas.Bool.{cases_lt}
 use Rattle.std.proofs.lemmas.List.Elements.{All-contains}
 use Rattle.cf_ledger.specs.declared.step.Held.{Held}
 use Rattle.cf_notes.specs.declared.noted.Noted.{Noted}
 use Rattle.cf_notes.specs.declared.wants.Want.{Want}
-use Rattle.cf_row.specs.declared.faults.PutFault.{PutFault}
 use Rattle.cf_row.specs.declared.faults.PutFault.TheVariants.{NoMemory, NoTokens, NoWord}
 use Rattle.cf_row.specs.Next.{Finishes}
 use Rattle.cf_row.specs.Numbers.{FollowsRule, HaveOneEach, numbers_in}
-use Rattle.cf_row.specs.Puts.{AreWordsBehind, IsNoPut, pairs_of}
+use Rattle.cf_row.specs.Puts.{AreWordsBehind, pairs_of}
 use Rattle.cf_row.specs.Rows.{Replica}
 use Rattle.cf_row.proofs.Elements.{contains_cases, contains_first, contains_later, contains_none}
 use Rattle.cf_due.specs.Finishing.{ClaimsIfMay}

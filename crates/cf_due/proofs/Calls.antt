@@ -4,7 +4,7 @@ use Rattle.std.specs.Prelude.{◌≢◌, slice_get, unwrap_or}
 use Rattle.std.proofs.lemmas.Bool.{cases_lt}
 use Rattle.cf_model.specs.declared.events.Event.{Event}
 use Rattle.cf_model.specs.declared.events.Event.TheVariants.{Claim as Claims}
-use Rattle.cf_event.specs.Words.{IsEvent, word_of}
+use Rattle.cf_event.specs.Words.{word_of}
 use Rattle.cf_event.specs.Decoding.{event_of}
 use Rattle.cf_ledger.specs.declared.step.Held.{Held}
 use Rattle.cf_notes.specs.declared.noted.Noted.{Noted}

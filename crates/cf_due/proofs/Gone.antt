@@ -1,10 +1,10 @@
 -- The lowest stage that a session has which is gone.
-use Rattle.std.proofs.Common.{◌≡◌, ℕ, suc, ◌+◌, ◌<◌, ◌≤◌, ◌⊎◌, inl, inr, subst, sym, arith}
+use Rattle.std.proofs.Common.{◌≡◌, ℕ, ◌+◌, ◌<◌, ◌≤◌, ◌⊎◌, inl, inr, subst, arith}
 use Rattle.std.specs.Prelude.{◌≢◌, None}
 use Rattle.std.proofs.lemmas.Bool.{cases_lt}
 use Rattle.cf_model.specs.States.{claim_at, outcome_at}
 use Rattle.cf_row.specs.Abandoning.{Abandons}
-use Rattle.cf_row.specs.Grants.{ClaimsAreOnes, IsGrantedTo, IsHeldBy, NoneHeldBy, NoneOpen}
+use Rattle.cf_row.specs.Grants.{ClaimsAreOnes, IsGrantedTo, IsHeldBy, NoneOpen}
 use Rattle.cf_row.specs.Rows.{Replica, state_of}
 use Rattle.cf_watch.specs.Watches.{Watch}
 use Rattle.cf_due.specs.Abandoning.{IsOtherGone, NoneToAbandon}

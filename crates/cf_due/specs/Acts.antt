@@ -12,7 +12,6 @@ use Rattle.cf_forms.specs.declared.forms.Of.{Of}
 use Rattle.cf_forms.specs.declared.forms.Of.TheVariants.{None as NoSource, One}
 use Rattle.cf_forms.specs.Forms.{composes}
 use Rattle.cf_forms.specs.Plans.{AreBelow, fits_form, sources_of}
-use Rattle.cf_model.specs.declared.events.Event.{Event}
 use Rattle.cf_model.specs.declared.events.Event.TheVariants.{Tick as Ticks, Attach as AttachesAs}
 use Rattle.cf_model.specs.States.{claim_at, outcome_at}
 use Rattle.cf_event.specs.Words.{word_of}

@@ -1,5 +1,5 @@
 //! Stages that a user attaches.
-ghost use Rattle.std.specs.Prelude.{◌≡◌, ◌≤◌, IfErr, IfOk, IfSome, OnOk, Some, is_some, length, true, unwrap_or};
+ghost use Rattle.std.specs.Prelude.{◌≡◌, ◌≤◌, IfErr, IfOk, OnOk, Some, is_some, length, true, unwrap_or};
 ghost use Rattle.std.specs.Bool.{OnFalse, OnTrue};
 ghost use Rattle.cf_forms.specs.Forms.{composes};
 ghost use Rattle.cf_forms.specs.Plans.{AreBelow, fits_form, sources_of};

@@ -1,8 +1,7 @@
 -- Stages of which nothing is owed.
-use Rattle.std.proofs.Common.{◌≡◌, ℕ, ◌+◌, ◌<◌, ◌≤◌, inl, inr, Option, Some, None, List, Contains, subst, sym, arith}
+use Rattle.std.proofs.Common.{◌≡◌, ℕ, ◌+◌, inl, inr, Option, List, subst, arith}
 use Rattle.std.specs.Prelude.{◌≢◌}
 use Rattle.std.proofs.lemmas.Bool.{cases_lt}
-use Rattle.cf_model.specs.States.{claim_at}
 use Rattle.cf_row.specs.Rows.{Replica, state_of}
 use Rattle.cf_row.specs.Grants.{ClaimsAreOnes, IsGrantedTo, NoneOpen}
 use Rattle.cf_notes.specs.declared.wants.Owed.{Owed}

@@ -2,6 +2,8 @@ pub mod Lists
 pub mod Granted
 pub mod Debts
 pub mod Places
+pub mod Seen
+pub mod Kept
 pub mod Meeting
 pub mod Recorded
 pub mod Rows

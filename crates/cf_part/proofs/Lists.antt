@@ -1,5 +1,5 @@
 -- Lists in which no number stands twice, and places in lists.
-use Rattle.std.proofs.Common.{◌≡◌, ◌≢◌, ℕ, zero, suc, ◌<◌, ◌≤◌, inl, inr, List, [], ◌∷◌, ◌++◌, All, Contains, get_or, length, refl, sym, subst, arith}
+use Rattle.std.proofs.Common.{◌≢◌, ℕ, ◌<◌, inl, inr, List, [], ◌∷◌, ◌++◌, All, Contains, get_or, length, refl, sym, subst, arith}
 use Rattle.std.proofs.lemmas.Bool.{cases_lt}
 use Rattle.std.proofs.lemmas.List.{get_or_past}
 use Rattle.std.proofs.lemmas.List.Elements.{All-append, All-cons, All-nil, Contains-append_right}

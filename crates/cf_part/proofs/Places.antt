@@ -1,7 +1,7 @@
 -- There is a place for each stage that there may ever be.
-use Rattle.std.proofs.Common.{◌≡◌, ℕ, zero, suc, ◌+◌, ◌-◌, ◌<◌, ◌≤◌, List, [], ◌∷◌, ◌++◌, length, length-append, refl, ap, arith, Bool, true, false, Option, Some, None}
+use Rattle.std.proofs.Common.{◌≡◌, ℕ, zero, suc, ◌-◌, ◌<◌, ◌≤◌, List, [], ◌∷◌, length-append, refl, ap, arith, Bool, false, Option, Some, None}
 use Rattle.std.specs.Prelude.{is_some}
-use Rattle.cf_forms.specs.Plans.{Planned, PlannedStage, attached_stage}
+use Rattle.cf_forms.specs.Plans.{PlannedStage, attached_stage}
 use Rattle.cf_model.specs.declared.events.Event.{Event}
 use Rattle.cf_model.specs.declared.events.Event.TheVariants.{Complete as Completes, Fail as Fails, FailAs as FailsAs, Cancel as Cancels, Claim as Claims, Finish as Finishes, Tick as Ticks, Attach as Attaches}
 use Rattle.cf_model.specs.States.{State, start}

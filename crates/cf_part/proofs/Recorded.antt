@@ -1,10 +1,9 @@
 -- A session's claim that was granted is among its records, with what it was granted with.
-use Rattle.std.proofs.Common.{◌≡◌, ◌≢◌, ℕ, suc, ◌+◌, ◌-◌, ◌<◌, ◌≤◌, ◌⊎◌, inl, inr, Bool, true, false, cond, eqb, Option, Some, None, List, [], ◌∷◌, ◌++◌, All, Contains, get_or, length, take, refl, ap, sym, ◌∙◌, subst, append-nil, arith}
+use Rattle.std.proofs.Common.{◌≡◌, ℕ, suc, ◌+◌, ◌-◌, ◌⊎◌, inl, inr, Bool, true, false, cond, eqb, Option, Some, None, List, [], ◌∷◌, All, Contains, length, take, refl, ap, sym, ◌∙◌, subst, append-nil, arith}
 use Rattle.std.proofs.lemmas.Bool.{eq-eqb}
 use Rattle.std.proofs.lemmas.List.{take_all}
 use Rattle.std.proofs.lemmas.List.Elements.{All-contains, Contains-append_cases, Contains-append_right}
 use Rattle.cf_forms.specs.declared.forms.Args.{Args}
-use Rattle.cf_forms.specs.Plans.{Planned}
 use Rattle.cf_model.specs.declared.events.Event.{Event}
 use Rattle.cf_model.specs.declared.events.Event.TheVariants.{Complete as Completes, Fail as Fails, FailAs as FailsAs, Cancel as Cancels, Claim as Claims, Finish as Finishes, Tick as Ticks, Attach as Attaches}
 use Rattle.cf_model.specs.declared.events.Reply.{Reply}
@@ -18,7 +17,7 @@ use Rattle.cf_event.specs.Histories.{IsAnswered, dids}
 use Rattle.cf_row.specs.declared.entry.Entry.{Entry}
 use Rattle.cf_row.specs.declared.grants.Claim.{Claim}
 use Rattle.cf_row.specs.Rows.{FitsEachRow, FitsUpTo, Replica, history_of, own_from, own_in, session_of}
-use Rattle.cf_row.specs.Grants.{IsGrantedTo, claim_of, granted_by, granted_from, granted_in}
+use Rattle.cf_row.specs.Grants.{IsGrantedTo, claim_of, granted_by, granted_from}
 use Rattle.cf_row.proofs.Elements.{contains_cases, contains_first, contains_none}
 use Rattle.cf_part.specs.Steps.{IsGrantedWith, grant_of}
 

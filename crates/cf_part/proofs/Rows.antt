@@ -1,8 +1,8 @@
 -- Rows of a part's calls.
-use Rattle.std.proofs.Common.{◌≡◌, ◌≢◌, ℕ, zero, suc, ◌+◌, ◌<◌, ◌≤◌, ◌⊎◌, inl, inr, Bool, true, false, cond, Option, Some, None, List, [], ◌∷◌, ◌++◌, All, Contains, get_or, length, set, take, refl, ap, sym, ◌∙◌, subst, append-nil, append_assoc, arith}
+use Rattle.std.proofs.Common.{◌≡◌, ◌≢◌, ℕ, ◌+◌, ◌<◌, ◌≤◌, ◌⊎◌, inl, inr, Option, Some, None, List, [], ◌∷◌, ◌++◌, All, Contains, length, set, take, refl, ap, sym, ◌∙◌, subst, append-nil, append_assoc, arith}
 use Rattle.std.proofs.lemmas.Bool.{cases_lt}
 use Rattle.std.proofs.lemmas.List.{get_or-set_other, get_or-set_same}
-use Rattle.std.proofs.lemmas.List.Elements.{All-append, All-cons, All-contains, All-nil, All-weaker, Contains-append_cases, Contains-append_left, Contains-append_right}
+use Rattle.std.proofs.lemmas.List.Elements.{All-append, All-cons, All-contains, All-nil, All-weaker, Contains-append_left, Contains-append_right}
 use Rattle.cf_ledger.specs.declared.faults.LedgerFault.{LedgerFault}
 use Rattle.cf_ledger.specs.declared.faults.LedgerFault.TheVariants.{NoMemory, NoEvent, NoStage, NoRoom}
 use Rattle.cf_row.specs.declared.entry.Entry.{Entry}
@@ -10,6 +10,7 @@ use Rattle.cf_row.specs.declared.grants.Claim.{Claim}
 use Rattle.cf_row.specs.Rows.{BeginsWith, Replays, Replica}
 use Rattle.cf_row.specs.Puts.{Plans, Row}
 use Rattle.cf_row.specs.Grants.{IsGrantedTo, granted_in}
+use Rattle.cf_notes.specs.declared.note.Note.{Note}
 use Rattle.cf_notes.specs.declared.wants.EndsWith.{EndsWith}
 use Rattle.cf_notes.specs.declared.wants.Owed.{Owed}
 use Rattle.cf_part.specs.declared.progress.Progress.{Progress}
@@ -20,8 +21,8 @@ use Rattle.cf_part.specs.declared.step.Step.{Step}
 use Rattle.cf_part.specs.declared.step.Step.TheVariants.{Show, Stop, Call}
 use Rattle.cf_part.specs.Parts.{Part, call_in, owed_in, session_of}
 use Rattle.cf_part.specs.Steps.{Tells}
-use Rattle.cf_part.specs.Answers.{Ends, IsRunning, Mismeets, owed_after, owed_refused}
-use Rattle.cf_part.specs.Rows.{AreCalledOnce, AreCalls, AreStoppedOnce, CallsOnce, IsApart, IsCall, IsFresh, IsOwed, KeepsOwed, Out, StopsOnce, all_calls, all_of, all_stops, nothing, out_of}
+use Rattle.cf_part.specs.Answers.{BreaksOff, Ends, IsRunning, MismeetsBy, owed_after, owed_refused}
+use Rattle.cf_part.specs.Rows.{AreCalls, CallsOnce, IsApart, IsCall, IsFresh, IsOwed, KeepsOwed, Out, StopsOnce, all_calls, all_stops, nothing, out_of}
 use Rattle.cf_part.specs.Rows.IsCall.{tells, plans, asks, reads, misreads, lands, meets, mismeets, waits, refuses, closes, breaks, ends, wants, hears}
 use Rattle.cf_part.proofs.Granted.{granted_stays}
 use Rattle.cf_part.proofs.Lists.{apart_append, contains_head, there_by}
@@ -217,14 +218,14 @@ effect_ends : (old new : Part) (i : ℕ) (answer : EndsWith) → IsRunning old i
 effect_ends old new i answer (inl runs) h = effect_ended old new i answer Runs (omega arith) (omega arith) runs h
 effect_ends old new i answer (inr stopped) h = effect_ended old new i answer Stopped (omega arith) (omega arith) stopped h
 
-mismeet_broken : (old new : Part) → ((seen : List Entry) × Replays old.row.replica seen new.row.replica × (new.calls ≡ old.calls)) → Effect old nothing new
-mismeet_broken old new h = effect_quiet old nothing new refl (grows_by old.row.replica new.row.replica h.0 h.1) h.2
+effect_breaks_off : (old : Part) (entries : List Entry) (said : List Note) (place : ℕ) (new : Part) → BreaksOff old entries said place new → Effect old nothing new
+effect_breaks_off old entries said place new h = effect_quiet old nothing new refl (grows_by old.row.replica new.row.replica (take place entries) h.sees.replays) (ap (λ (p : Part). p.calls) h.rest)
 
-effect_mismeets : (old : Part) (now : ℕ) (entries : List Entry) (why : LedgerFault) (new : Part) → Mismeets old now entries why new → Effect old nothing new
-effect_mismeets old now entries NoMemory new h = effect_quiet old nothing new refl (grows_is old.row.replica new.row.replica (ap (λ (p : Part). p.row.replica) h)) (ap (λ (p : Part). p.calls) h)
-effect_mismeets old now entries NoEvent new (seen, replays, freed, rest) = mismeet_broken old new (seen, replays, ap (λ (p : Part). p.calls) rest)
-effect_mismeets old now entries NoStage new (seen, replays, freed, rest) = mismeet_broken old new (seen, replays, ap (λ (p : Part). p.calls) rest)
-effect_mismeets old now entries NoRoom new (seen, replays, freed, rest) = mismeet_broken old new (seen, replays, ap (λ (p : Part). p.calls) rest)
+effect_mismeets : (why : LedgerFault) (old : Part) (now : ℕ) (entries : List Entry) (said : List Note) (place : ℕ) (new : Part) → MismeetsBy why old now entries said place new → Effect old nothing new
+effect_mismeets NoMemory old now entries said place new h = effect_quiet old nothing new refl (grows_is old.row.replica new.row.replica (ap (λ (p : Part). p.row.replica) h)) (ap (λ (p : Part). p.calls) h)
+effect_mismeets NoEvent old now entries said place new h = effect_breaks_off old entries said place new h
+effect_mismeets NoStage old now entries said place new h = effect_breaks_off old entries said place new h
+effect_mismeets NoRoom old now entries said place new h = effect_breaks_off old entries said place new h
 
 -- where the row stays, or loses its put
 effect_still : (old : Part) (out : Out) (new : Part) → out ≡ nothing → new.row.replica ≡ old.row.replica → new.calls ≡ old.calls → Effect old out new
@@ -234,11 +235,11 @@ pub effect : (old : Part) (out : Out) (new : Part) → IsCall old out new → Ef
 effect old out new (tells step is h) = subst (λ (o : Out). Effect old o new) (sym is) (effect_step old step new h)
 effect old out new (plans ws of is h) = effect_quiet old out new is (grows_planned old.row new.row _ h.row) (ap (λ (p : Part). p.calls) h.rest)
 effect old out new (asks q is h) = effect_still old out new is (ap (λ (p : Part). p.row.replica) h) (ap (λ (p : Part). p.calls) h)
-effect old out new (reads entries is h) = effect_quiet old out new is (grows_by old.row.replica new.row.replica entries h.replays) (ap (λ (p : Part). p.calls) h.rest)
-effect old out new (misreads now entries m is h) = effect_quiet old out new is (grows_by old.row.replica new.row.replica (take m.place entries) h.replays) (ap (λ (p : Part). p.calls) h.rest)
-effect old out new (lands is h) = effect_quiet old out new is (grows_by old.row.replica new.row.replica old.row.put h.replays) (ap (λ (p : Part). p.calls) h.rest)
-effect old out new (meets entries landed is h) = effect_quiet old out new is (grows_by old.row.replica new.row.replica entries h.replays) (ap (λ (p : Part). p.calls) h.rest)
-effect old out new (mismeets now entries why is h) = subst (λ (o : Out). Effect old o new) (sym is) (effect_mismeets old now entries why new h)
+effect old out new (reads entries said is h) = effect_quiet old out new is (grows_by old.row.replica new.row.replica entries h.sees.replays) (ap (λ (p : Part). p.calls) h.rest)
+effect old out new (misreads now entries said m is h) = effect_quiet old out new is (grows_by old.row.replica new.row.replica (take m.place entries) h.sees.replays) (ap (λ (p : Part). p.calls) h.rest)
+effect old out new (lands is h) = effect_quiet old out new is (grows_by old.row.replica new.row.replica old.row.put h.sees.replays) (ap (λ (p : Part). p.calls) h.rest)
+effect old out new (meets entries said landed is h) = effect_quiet old out new is (grows_by old.row.replica new.row.replica entries h.sees.replays) (ap (λ (p : Part). p.calls) h.rest)
+effect old out new (mismeets now entries said m is h) = subst (λ (o : Out). Effect old o new) (sym is) (effect_mismeets m.why old now entries said m.place new h.done)
 effect old out new (waits now is h) = effect_still old out new is (ap (λ (p : Part). p.row.replica) h) (ap (λ (p : Part). p.calls) h)
 effect old out new (refuses now is h) = effect_still old out new is (ap (λ (p : Part). p.row.replica) h) (ap (λ (p : Part). p.calls) h)
 effect old out new (closes is_closed is h) = effect_still old out new is (ap (λ (p : Part). p.row.replica) h) (ap (λ (p : Part). p.calls) h)
@@ -428,21 +429,22 @@ owed_refuses old new i answer calls owed o =
       answers = s.answers ∙ o.answers;
     }
 
-owed_mismeets : (old : Part) (now : ℕ) (entries : List Entry) (why : LedgerFault) (new : Part) (i : ℕ) (answer : EndsWith) → Mismeets old now entries why new → IsOwed old i answer → IsOwed new i answer
-owed_mismeets old now entries NoMemory new i answer h o = owed_same old new i answer (ap (λ (p : Part). p.calls) h) (ap (λ (p : Part). p.owed) h) o
-owed_mismeets old now entries NoEvent new i answer (seen, replays, freed, rest) o = owed_same old new i answer (ap (λ (p : Part). p.calls) rest) (ap (λ (p : Part). p.owed) rest) o
-owed_mismeets old now entries NoStage new i answer (seen, replays, freed, rest) o = owed_same old new i answer (ap (λ (p : Part). p.calls) rest) (ap (λ (p : Part). p.owed) rest) o
-owed_mismeets old now entries NoRoom new i answer (seen, replays, freed, rest) o = owed_same old new i answer (ap (λ (p : Part). p.calls) rest) (ap (λ (p : Part). p.owed) rest) o
+owed_mismeets : (why : LedgerFault) (old : Part) (now : ℕ) (entries : List Entry) (said : List Note) (place : ℕ) (new : Part) (i : ℕ) (answer : EndsWith) → MismeetsBy why old now entries said place new → IsOwed old i answer →
+    IsOwed new i answer
+owed_mismeets NoMemory old now entries said place new i answer h o = owed_same old new i answer (ap (λ (p : Part). p.calls) h) (ap (λ (p : Part). p.owed) h) o
+owed_mismeets NoEvent old now entries said place new i answer h o = owed_same old new i answer (ap (λ (p : Part). p.calls) h.rest) (ap (λ (p : Part). p.owed) h.rest) o
+owed_mismeets NoStage old now entries said place new i answer h o = owed_same old new i answer (ap (λ (p : Part). p.calls) h.rest) (ap (λ (p : Part). p.owed) h.rest) o
+owed_mismeets NoRoom old now entries said place new i answer h o = owed_same old new i answer (ap (λ (p : Part). p.calls) h.rest) (ap (λ (p : Part). p.owed) h.rest) o
 
 owed_call : (old : Part) (out : Out) (new : Part) (i : ℕ) (answer : EndsWith) → IsCall old out new → IsOwed old i answer → IsOwed new i answer
 owed_call old out new i answer (tells step is h) o = owed_step old step new i answer h o
 owed_call old out new i answer (plans ws of is h) o = owed_same old new i answer (ap (λ (p : Part). p.calls) h.rest) (ap (λ (p : Part). p.owed) h.rest) o
 owed_call old out new i answer (asks q is h) o = owed_same old new i answer (ap (λ (p : Part). p.calls) h) (ap (λ (p : Part). p.owed) h) o
-owed_call old out new i answer (reads entries is h) o = owed_same old new i answer (ap (λ (p : Part). p.calls) h.rest) (ap (λ (p : Part). p.owed) h.rest) o
-owed_call old out new i answer (misreads now entries m is h) o = owed_same old new i answer (ap (λ (p : Part). p.calls) h.rest) (ap (λ (p : Part). p.owed) h.rest) o
+owed_call old out new i answer (reads entries said is h) o = owed_same old new i answer (ap (λ (p : Part). p.calls) h.rest) (ap (λ (p : Part). p.owed) h.rest) o
+owed_call old out new i answer (misreads now entries said m is h) o = owed_same old new i answer (ap (λ (p : Part). p.calls) h.rest) (ap (λ (p : Part). p.owed) h.rest) o
 owed_call old out new i answer (lands is h) o = owed_same old new i answer (ap (λ (p : Part). p.calls) h.rest) (ap (λ (p : Part). p.owed) h.rest) o
-owed_call old out new i answer (meets entries landed is h) o = owed_same old new i answer (ap (λ (p : Part). p.calls) h.rest) (ap (λ (p : Part). p.owed) h.rest) o
-owed_call old out new i answer (mismeets now entries why is h) o = owed_mismeets old now entries why new i answer h o
+owed_call old out new i answer (meets entries said landed is h) o = owed_same old new i answer (ap (λ (p : Part). p.calls) h.rest) (ap (λ (p : Part). p.owed) h.rest) o
+owed_call old out new i answer (mismeets now entries said m is h) o = owed_mismeets m.why old now entries said m.place new i answer h.done o
 owed_call old out new i answer (waits now is h) o = owed_same old new i answer (ap (λ (p : Part). p.calls) h) (ap (λ (p : Part). p.owed) h) o
 owed_call old out new i answer (refuses now is h) o = owed_refuses old new i answer (ap (λ (p : Part). p.calls) h) (ap (λ (p : Part). p.owed) h) o
 owed_call old out new i answer (closes is_closed is h) o = owed_same old new i answer (ap (λ (p : Part). p.calls) h) (ap (λ (p : Part). p.owed) h) o

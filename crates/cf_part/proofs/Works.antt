@@ -1,5 +1,5 @@
 -- Parts of several sessions in one request.
-use Rattle.std.proofs.Common.{◌≡◌, ◌≢◌, ℕ, ◌⊎◌, inl, inr, List, [], ◌∷◌, ◌++◌, All, Contains, ap, sym, ◌∙◌, subst, arith}
+use Rattle.std.proofs.Common.{◌≡◌, ◌≢◌, ℕ, ◌⊎◌, inl, inr, List, [], ◌∷◌, All, Contains, ◌∙◌, subst}
 use Rattle.std.proofs.lemmas.List.Elements.{All-contains, All-head, All-tail, Contains-append_cases}
 use Rattle.cf_forms.specs.Plans.{Planned}
 use Rattle.cf_row.specs.declared.entry.Entry.{Entry}
@@ -7,7 +7,7 @@ use Rattle.cf_row.specs.declared.grants.Claim.{Claim}
 use Rattle.cf_row.specs.Grants.{ClaimsAreOnes, IsGrantedTo, granted_in}
 use Rattle.cf_row.proofs.Elements.{contains_none}
 use Rattle.cf_part.specs.Parts.{session_of}
-use Rattle.cf_part.specs.Rows.{AllCallOnce, AreOfOneEach, IsApart, IsWork, Work, all_calls, called_by_all}
+use Rattle.cf_part.specs.Rows.{AllCallOnce, IsWork, Work, all_calls, called_by_all}
 use Rattle.cf_part.proofs.Granted.{granted_stays}
 use Rattle.cf_part.proofs.Lists.{apart_append}
 use Rattle.cf_part.proofs.Rows.{calls_once, effects}

@@ -1,10 +1,14 @@
 -- What a put, a question, an answer and the end of a function do to a part.
-use Rattle.std.specs.Prelude.{◌≡◌, ◌⊎◌, ℕ, Bool, cond, true, false, not, Option, Some, None, List, [], length, max, slice_get, slice_index_or, slice_set, take}
+use Rattle.std.specs.Prelude.{◌≡◌, ◌⊎◌, ℕ, Bool, cond, true, false, not, ◌+◌, Option, Some, None, List, [], length, slice_get, slice_set, take}
+use Rattle.cf_model.specs.declared.events.Event.{Event}
+use Rattle.cf_model.specs.Events.{answered}
+use Rattle.cf_event.specs.Words.{word_of}
+use Rattle.cf_event.specs.Decoding.{event_of}
 use Rattle.cf_ledger.specs.declared.faults.LedgerFault.{LedgerFault}
 use Rattle.cf_ledger.specs.declared.faults.LedgerFault.TheVariants.{NoMemory}
 use Rattle.cf_ledger.specs.declared.faults.Misfit.{Misfit}
 use Rattle.cf_row.specs.declared.entry.Entry.{Entry}
-use Rattle.cf_row.specs.Rows.{IsMisfit, Replays}
+use Rattle.cf_row.specs.Rows.{IsMisfit, Replays, Replica, Takes, history_of, state_of}
 use Rattle.cf_row.specs.Puts.{Plans, Row, TellsOf}
 use Rattle.cf_part.specs.declared.progress.Progress.{Progress}
 use Rattle.cf_part.specs.declared.progress.Progress.TheVariants.{Runs, Stopped, Ended}
@@ -12,13 +16,14 @@ use Rattle.cf_part.specs.declared.question.Fault.{Fault}
 use Rattle.cf_part.specs.declared.question.Fault.TheVariants.{Broken}
 use Rattle.cf_part.specs.declared.question.PutOf.{PutOf}
 use Rattle.cf_part.specs.declared.question.PutOf.TheVariants.{Finish, Act, Rest}
-use Rattle.cf_part.specs.declared.question.Question.{Question}
-use Rattle.cf_part.specs.declared.question.Question.TheVariants.{Close}
+use Rattle.cf_notes.specs.Noting.{noted_along, noted_by}
+use Rattle.cf_notes.specs.Tables.{Table}
+use Rattle.cf_notes.specs.declared.note.Note.{Note}
 use Rattle.cf_notes.specs.declared.wants.EndsWith.{EndsWith}
 use Rattle.cf_notes.specs.declared.wants.EndsWith.TheVariants.{Gives, NoValue, Throws, Passes, Links}
 use Rattle.cf_notes.specs.declared.wants.Owed.{Owed}
 use Rattle.cf_notes.specs.declared.wants.Want.{Want}
-use Rattle.cf_part.specs.Parts.{Part, call_in, later, owed_in, seen_by, words_wanted}
+use Rattle.cf_part.specs.Parts.{Part, call_in, later, notes_wanted, owed_in, words_wanted}
 
 -- a put of these words is planned, and what is known of it is kept
 pub record PlansWords (old : Part) (wants : List Want) (of : PutOf) (new : Part) : Type 0 where
@@ -32,11 +37,31 @@ pub record IsFreed (old new : Row) : Type 0 where
   pub put : new.put ≡ []
   pub next : new.next ≡ old.next
 
--- these entries are seen
-pub record Reads (old : Part) (entries : List Entry) (new : Part) : Type 0 where
-  pub replays : Replays old.row.replica entries new.row.replica
-  pub freed : IsFreed old.row new.row
-  pub rest : new ≡ record old { row = new.row; asked = None; is_stale = false }
+-- the notes of these entries are taken, which stand behind all that was seen
+pub record TakesNotes (r : Replica) (entries : List Entry) (said : List Note) (old new : Table) : Type 0 where
+  pub stages : new.stages ≡ noted_along old.stages (state_of r) (length r.seen) (history_of entries) said
+  pub places : length new.stages + new.room ≡ length old.stages + old.room
+
+-- one entry is seen, and its note is taken
+pub record SeesOne (old : Row) (table : Table) (x : Entry) (note : Note) (new : Row) (noted : Table) : Type 0 where
+  pub event : Event
+  pub read : event_of x.word ≡ Some event
+  pub named : word_of event ≡ x.word
+  pub takes : Takes old.replica x ((answered (state_of old.replica) event).0) new.replica
+  pub stages : noted.stages ≡ noted_by table.stages (length new.replica.seen) event ((answered (state_of old.replica) event).0) note
+  pub places : length noted.stages + noted.room ≡ length table.stages + table.room
+  pub freed : IsFreed old new
+
+-- these entries are seen with their notes
+pub record Sees (old : Row) (table : Table) (entries : List Entry) (said : List Note) (new : Row) (noted : Table) : Type 0 where
+  pub replays : Replays old.replica entries new.replica
+  pub notes : TakesNotes old.replica entries said table noted
+  pub freed : IsFreed old new
+
+-- those of a read are
+pub record Reads (old : Part) (entries : List Entry) (said : List Note) (new : Part) : Type 0 where
+  pub sees : Sees old.row old.notes entries said new.row new.notes
+  pub rest : new ≡ record old { row = new.row; notes = new.notes; asked = None; is_stale = false }
 
 -- a word that the graph doesn't take breaks the request
 abbrev pub fault_after : LedgerFault → Option Fault → Option Fault
@@ -44,35 +69,40 @@ fault_after NoMemory fault = fault
 fault_after why fault = Some Broken
 
 -- those before the first that isn't replayed are seen: for want of memory none is, and is asked for again later
-pub record Misreads (old : Part) (now : ℕ) (entries : List Entry) (m : Misfit) (new : Part) : Type 0 where
-  pub replays : Replays old.row.replica (take m.place entries) new.row.replica
+pub record Misreads (old : Part) (now : ℕ) (entries : List Entry) (said : List Note) (m : Misfit) (new : Part) : Type 0 where
+  pub sees : Sees old.row old.notes (take m.place entries) (take m.place said) new.row new.notes
   pub why : IsMisfit old.row.replica entries new.row.replica m.place m.why
-  pub freed : IsFreed old.row new.row
-  pub rest : new ≡ record old { row = new.row; asked = None; retry = later now; fault = fault_after m.why old.fault }
+  pub rest : new ≡ record old { row = new.row; notes = new.notes; asked = None; retry = later now; fault = fault_after m.why old.fault }
 
--- the put stands, and is seen
+-- the put stands, and is seen with the notes of its words
 pub record Lands (old new : Part) : Type 0 where
-  pub replays : Replays old.row.replica old.row.put new.row.replica
-  pub freed : IsFreed old.row new.row
-  pub rest : new ≡ record old { row = new.row; wants = []; asked = None }
+  pub sees : Sees old.row old.notes old.row.put (notes_wanted old.wants) new.row new.notes
+  pub rest : new ≡ record old { row = new.row; notes = new.notes; wants = []; asked = None }
 
 -- what is told of the put where these entries stand at its place
 abbrev pub TellsBy : Row → List Entry → Bool → Type 0
 TellsBy row entries landed = (first : Entry) → slice_get entries 0 ≡ Some first → TellsOf row.replica row.put first landed
 
 -- these entries stand where the put was to stand, and are seen
-pub record Meets (old : Part) (entries : List Entry) (landed : Bool) (new : Part) : Type 0 where
+pub record Meets (old : Part) (entries : List Entry) (said : List Note) (landed : Bool) (new : Part) : Type 0 where
   pub tells : TellsBy old.row entries landed
-  pub replays : Replays old.row.replica entries new.row.replica
-  pub freed : IsFreed old.row new.row
-  pub rest : new ≡ record old { row = new.row; wants = []; asked = None }
+  pub sees : Sees old.row old.notes entries said new.row new.notes
+  pub rest : new ≡ record old { row = new.row; notes = new.notes; wants = []; asked = None }
 
--- not all of them fit the graph, which breaks the request; or no memory is there, and the put stays under way, to be asked for again later
-abbrev pub Mismeets : Part → ℕ → List Entry → LedgerFault → Part → Type 0
-Mismeets old now entries NoMemory new = new ≡ record old { asked = None; retry = later now }
-Mismeets old now entries why new =
-    (seen : List Entry) × Replays old.row.replica seen new.row.replica × IsFreed old.row new.row
-    × (new ≡ record old { row = new.row; wants = []; asked = None; fault = Some Broken })
+-- those before one that doesn't fit the graph are seen, which breaks the request
+pub record BreaksOff (old : Part) (entries : List Entry) (said : List Note) (place : ℕ) (new : Part) : Type 0 where
+  pub sees : Sees old.row old.notes (take place entries) (take place said) new.row new.notes
+  pub rest : new ≡ record old { row = new.row; notes = new.notes; wants = []; asked = None; fault = Some Broken }
+
+-- for want of memory none is seen, and the put stays under way, to be asked for again later
+abbrev pub MismeetsBy : LedgerFault → Part → ℕ → List Entry → List Note → ℕ → Part → Type 0
+MismeetsBy NoMemory old now entries said place new = new ≡ record old { asked = None; retry = later now }
+MismeetsBy why old now entries said place new = BreaksOff old entries said place new
+
+-- not all of these entries are seen
+pub record Mismeets (old : Part) (now : ℕ) (entries : List Entry) (said : List Note) (m : Misfit) (new : Part) : Type 0 where
+  pub why : IsMisfit old.row.replica entries new.row.replica m.place m.why
+  pub done : MismeetsBy m.why old now entries said m.place new
 
 -- ---- no entries
 

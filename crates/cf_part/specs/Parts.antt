@@ -1,12 +1,16 @@
 -- One process's part in one request.
-use Rattle.std.specs.Prelude.{◌≡◌, ◌≢◌, ◌⊎◌, ℕ, ◌+◌, ◌*◌, ◌<◌, ◌≤◌, ◌||◌, Bool, true, false, cond, min, max, Option, Some, None, List, [], is_some, length, map, nat_lt, replicate, slice_index_or}
+use Rattle.std.specs.Prelude.{◌≡◌, ◌≢◌, ℕ, ◌+◌, ◌*◌, ◌<◌, ◌≤◌, ◌||◌, Bool, true, false, cond, min, Option, Some, None, List, [], is_some, length, map, nat_lt, replicate, slice_index_or}
 use Rattle.std.specs.declared.vec.Vec.{Vec}
 use Rattle.std.specs.Vec.{vec_capacity}
 use Rattle.cf_forms.specs.Plans.{Planned, with_room}
 use Rattle.cf_model.specs.States.{State, claim_at, outcome_at}
-use Rattle.cf_row.specs.Rows.{Replica, state_of, words_in}
+use Rattle.cf_row.specs.Rows.{Replica, stages_of, state_of, words_in}
 use Rattle.cf_row.specs.Puts.{Row}
+use Rattle.cf_row.specs.declared.entry.Entry.{Entry}
 use Rattle.cf_row.specs.Grants.{IsGrantedTo}
+use Rattle.cf_notes.specs.Noting.{noted_plan}
+use Rattle.cf_notes.specs.Tables.{Table}
+use Rattle.cf_notes.specs.declared.note.Note.{Note}
 use Rattle.cf_part.specs.declared.progress.Progress.{Progress}
 use Rattle.cf_part.specs.declared.progress.Progress.TheVariants.{NotCalled, Runs, Stopped, Ended}
 use Rattle.cf_part.specs.declared.question.Fault.{Fault}
@@ -18,11 +22,12 @@ use Rattle.cf_notes.specs.declared.wants.EndsWith.TheVariants.{NoValue}
 use Rattle.cf_notes.specs.declared.wants.Owed.{Owed}
 use Rattle.cf_notes.specs.declared.wants.Want.{Want}
 
--- What a contract sees: the session's view of the row with the put that is under way; of each stage how far its call has come, what is owed,
--- and whether somebody waits; the notes and payloads of the put, and what it is of; the question that is open; how many words the store has
+-- What a contract sees: the session's view of the row with the put that is under way; of each stage what the notes say, how far its call has
+-- come, what is owed, and whether somebody waits; the notes and payloads of the put, and what it is of; the question that is open; how many words the store has
 -- told of, and whether it has to be read besides; before which moment nothing is asked; and why nothing goes on any more.
 pub record Part : Type 0 where
   pub row : Row
+  pub notes : Table
   pub calls : List Progress
   pub owed : List (Option Owed)
   pub wanted : List Bool
@@ -71,23 +76,44 @@ FitsPut row (Some (Close at)) = row.put ≡ []
 abbrev pub words_wanted : List Want → List ℕ
 words_wanted wants = map (λ (w : Want). w.word) wants
 
+-- the notes of a put's words
+abbrev pub notes_wanted : List Want → List Note
+notes_wanted wants = map (λ (w : Want). w.note) wants
+
+-- a put has this many words at most
+abbrev pub most_wants : ℕ
+most_wants = 8
+
+-- what is known of the put is of its words, which are few, and memory was found for them
+pub record IsPutOfWants (row : Row) (wants : List Want) : Type 0 where
+  pub words : words_wanted wants ≡ words_in row.put
+  pub few : length wants ≤ most_wants
+  pub memory : length row.put ≤ row.replica.free
+
+-- the notes have an entry for each stage, and places for all that may come
+pub record AreOfStages (r : Replica) (notes : Table) : Type 0 where
+  pub each_stage : length notes.stages ≡ stages_of r
+  pub places : length notes.stages + notes.room ≡ places_of r.plan
+
 -- there is a place for each stage that there may ever be; what is known of the put is of its words; and the question fits
 pub record IsSound (row : Row) (calls : List Progress) (owed : List (Option Owed)) (wanted : List Bool) (wants : List Want) (asked : Option Question) : Type 0 where
   pub of_calls : length calls ≡ places_of row.replica.plan
   pub of_owed : length owed ≡ places_of row.replica.plan
   pub of_wanted : length wanted ≡ places_of row.replica.plan
   pub few : places_of row.replica.plan ≤ 4096
-  pub put : words_wanted wants ≡ words_in row.put
+  pub put : IsPutOfWants row wants
   pub fits : FitsPut row asked
 
--- a put has so many words at most
-pub record HasPlaces {Y : Type 0} {Z : Type 0} (words : Vec ℕ Y) (wants : Vec Want Z) : Type 0 where
-  pub of_words : 8 ≤ vec_capacity words
-  pub of_wants : 8 ≤ vec_capacity wants
+-- there are places for a put
+pub record HasPlaces {W : Type 0} {X : Type 0} {Y : Type 0} {Z : Type 0} (words : Vec ℕ W) (wants : Vec Want X) (landing : Vec Entry Y) (said : Vec Note Z) : Type 0 where
+  pub of_words : most_wants ≤ vec_capacity words
+  pub of_wants : most_wants ≤ vec_capacity wants
+  pub of_entries : most_wants ≤ vec_capacity landing
+  pub of_notes : most_wants ≤ vec_capacity said
 
 -- as it is opened
-abbrev pub opened : Planned → ℕ → ℕ → ℕ → Bool → Part
-opened plan room session first is_flow =
+abbrev pub opened : Planned → List Note → ℕ → ℕ → ℕ → Bool → Part
+opened plan notes room session first is_flow =
     let places = length plan.stages + room in
     record {
       row = record {
@@ -95,6 +121,7 @@ opened plan room session first is_flow =
         put = [];
         next = session * 8388608 + first;
       };
+      notes = record { stages = noted_plan [] plan.stages notes; room = room };
       calls = replicate places NotCalled;
       owed = replicate places None;
       wanted = replicate places false;
@@ -117,6 +144,15 @@ abbrev pub question_of : Part → ℕ → Option Question
 question_of p now =
     cond (is_some p.asked || is_some p.fault || nat_lt now p.retry) None (
     cond (nat_lt 0 (length p.row.put)) (Some (Put (seen_by p))) (cond (p.is_stale || nat_lt (seen_by p) p.words) (Some (Read (seen_by p))) None))
+
+-- a put may be planned: none is under way, no question is open, nothing is wrong, all is seen that the store has told of, and it is time
+pub record MayPlan (p : Part) (now : ℕ) : Type 0 where
+  pub none : p.row.put ≡ []
+  pub asked : p.asked ≡ None
+  pub sound : p.fault ≡ None
+  pub fresh : p.is_stale ≡ false
+  pub all_seen : p.words ≤ seen_by p
+  pub time : p.retry ≤ now
 
 abbrev pub IsRead : Option Question → Type 0
 IsRead (Some (Read at)) = Unit {0}

@@ -1,7 +1,6 @@
 -- Rows of a part's calls, and what may be concluded from any of them.
-use Rattle.std.specs.Prelude.{◌≡◌, ◌≢◌, ◌⊎◌, ℕ, ◌+◌, Bool, true, false, max, Option, Some, None, List, [], ◌∷◌, ◌++◌, All, Contains, map, replicate, length, slice_set}
+use Rattle.std.specs.Prelude.{◌≡◌, ◌≢◌, ℕ, Bool, max, Some, List, [], ◌∷◌, ◌++◌, All, Contains, slice_set}
 use Rattle.cf_forms.specs.Plans.{Planned}
-use Rattle.cf_ledger.specs.declared.faults.LedgerFault.{LedgerFault}
 use Rattle.cf_ledger.specs.declared.faults.Misfit.{Misfit}
 use Rattle.cf_row.specs.declared.entry.Entry.{Entry}
 use Rattle.cf_row.specs.Rows.{BeginsWith}
@@ -12,6 +11,7 @@ use Rattle.cf_part.specs.declared.question.PutOf.{PutOf}
 use Rattle.cf_part.specs.declared.question.Question.{Question}
 use Rattle.cf_part.specs.declared.step.Step.{Step}
 use Rattle.cf_part.specs.declared.step.Step.TheVariants.{Show, Stop, Call}
+use Rattle.cf_notes.specs.declared.note.Note.{Note}
 use Rattle.cf_notes.specs.declared.wants.EndsWith.{EndsWith}
 use Rattle.cf_notes.specs.declared.wants.Owed.{Owed}
 use Rattle.cf_notes.specs.declared.wants.Want.{Want}
@@ -37,11 +37,11 @@ pub data IsCall (old : Part) (out : Out) (new : Part) : Type 0 where
   tells : (step : Step) → out ≡ out_of step → Tells old step new → IsCall old out new
   plans : (wants : List Want) (of : PutOf) → out ≡ nothing → PlansWords old wants of new → IsCall old out new
   asks : (q : Question) → out ≡ nothing → new ≡ record old { asked = Some q } → IsCall old out new
-  reads : (entries : List Entry) → out ≡ nothing → Reads old entries new → IsCall old out new
-  misreads : (now : ℕ) (entries : List Entry) (m : Misfit) → out ≡ nothing → Misreads old now entries m new → IsCall old out new
+  reads : (entries : List Entry) (said : List Note) → out ≡ nothing → Reads old entries said new → IsCall old out new
+  misreads : (now : ℕ) (entries : List Entry) (said : List Note) (m : Misfit) → out ≡ nothing → Misreads old now entries said m new → IsCall old out new
   lands : out ≡ nothing → Lands old new → IsCall old out new
-  meets : (entries : List Entry) (landed : Bool) → out ≡ nothing → Meets old entries landed new → IsCall old out new
-  mismeets : (now : ℕ) (entries : List Entry) (why : LedgerFault) → out ≡ nothing → Mismeets old now entries why new → IsCall old out new
+  meets : (entries : List Entry) (said : List Note) (landed : Bool) → out ≡ nothing → Meets old entries said landed new → IsCall old out new
+  mismeets : (now : ℕ) (entries : List Entry) (said : List Note) (m : Misfit) → out ≡ nothing → Mismeets old now entries said m new → IsCall old out new
   waits : (now : ℕ) → out ≡ nothing → Waits old now new → IsCall old out new
   refuses : (now : ℕ) → out ≡ nothing → Refuses old now new → IsCall old out new
   closes : (is_closed : Bool) → out ≡ nothing → Closes old is_closed new → IsCall old out new

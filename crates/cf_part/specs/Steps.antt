@@ -7,7 +7,7 @@ use Rattle.cf_model.specs.declared.replies.Claimed.TheVariants.{Granted}
 use Rattle.cf_model.specs.States.{State, outcome_at}
 use Rattle.cf_event.specs.declared.record.Record.{Record}
 use Rattle.cf_event.specs.declared.record.Record.TheVariants.{Did}
-use Rattle.cf_row.specs.Rows.{Replica, stages_of, state_of}
+use Rattle.cf_row.specs.Rows.{Replica, stages_of}
 use Rattle.cf_row.specs.Grants.{IsHeldBy}
 use Rattle.cf_part.specs.declared.progress.Progress.{Progress}
 use Rattle.cf_part.specs.declared.progress.Progress.TheVariants.{NotCalled, Runs, Stopped}
@@ -16,7 +16,7 @@ use Rattle.cf_part.specs.declared.step.Shown.{Shown}
 use Rattle.cf_part.specs.declared.step.Shown.TheVariants.{Outcome as ShowsOutcome, Fault as ShowsFault}
 use Rattle.cf_part.specs.declared.step.Step.{Step}
 use Rattle.cf_part.specs.declared.step.Step.TheVariants.{Show, Stop, Call}
-use Rattle.cf_part.specs.Parts.{Part, call_in, is_wanted_in, seen_by, session_of, state_in}
+use Rattle.cf_part.specs.Parts.{Part, call_in, is_wanted_in, seen_by, state_in}
 
 -- ---- which stages
 

@@ -1,10 +1,10 @@
 //! Which stage is to be told of next.
-ghost use Rattle.std.specs.Prelude.{◌≡◌, ℕ, ◌≢◌, ◌⊎◌, ◌<◌, ◌≤◌, All, IfNone, IfSome, IsSome, None, Some, is_some, length, true};
+ghost use Rattle.std.specs.Prelude.{◌≡◌, ◌≢◌, ◌⊎◌, ◌<◌, ◌≤◌, All, IfNone, IfSome, None, Some, is_some, length, true};
 ghost use Rattle.std.specs.Bool.{OnFalse, OnTrue};
-ghost use Rattle.cf_model.specs.States.{claim_at, outcome_at};
+ghost use Rattle.cf_model.specs.States.{outcome_at};
 ghost use Rattle.cf_ledger.specs.Ledgers.{stages_of as ledger_stages, state_of as ledger_state};
 ghost use Rattle.cf_row.specs.Grants.{IsGrantedTo};
-ghost use Rattle.cf_row.specs.Rows.{stages_of, state_of};
+ghost use Rattle.cf_row.specs.Rows.{stages_of};
 ghost use Rattle.cf_part.specs.Answers.{IsRunningIn};
 ghost use Rattle.cf_part.specs.Steps.{IsGrantedWith, IsToCall, IsToShow, IsToStop, NoneToCall, NoneToShow, NoneToStop, ShowsIn, grant_of};
 

@@ -1,6 +1,6 @@
 //! Which finishes are owed to a row.
-ghost use Rattle.std.specs.Prelude.{◌≡◌, ◌≢◌, ◌<◌, ◌≤◌, ℕ, IfNone, IfSome, None, length};
-ghost use Rattle.cf_model.specs.States.{claim_at, outcome_at};
+ghost use Rattle.std.specs.Prelude.{◌≡◌, ◌≢◌, ◌<◌, ◌≤◌, IfNone, IfSome, None, length};
+ghost use Rattle.cf_model.specs.States.{claim_at};
 ghost use Rattle.cf_row.specs.Grants.{IsGrantedTo};
 ghost use Rattle.cf_row.specs.Rows.{stages_of, state_of};
 ghost use Rattle.cf_part.specs.Parts.{OwesIn, OwesNone, debt_in};

@@ -1,21 +1,23 @@
 //! A process's part in a request.
-ghost use Rattle.std.specs.Prelude.{◌≡◌, ◌≢◌, ◌⊎◌, ℕ, ◌+◌, ◌<◌, ◌≤◌, [], IfErr, IfNone, IfOk, IfSome, None, OnErr, OnOk, Some, false, length, max, slice_set, true};
+ghost use Rattle.std.specs.Prelude.{◌≡◌, ◌<◌, ◌≤◌, [], IfErr, IfNone, IfOk, IfSome, None, OnErr, OnOk, Some, false, length, max, slice_set, true};
 ghost use Rattle.std.specs.Bool.{OnFalse, OnTrue};
 ghost use Rattle.cf_forms.specs.Plans.{has_place};
 ghost use Rattle.cf_row.specs.Puts.{IsNoPut};
 ghost use Rattle.cf_row.specs.Rows.{stages_of};
-ghost use Rattle.cf_part.specs.Parts.{IsClose, IsPut, IsRead, Owes, OwesNone, opened, question_of, seen_by, words_wanted};
+ghost use Rattle.cf_notes.specs.Noting.{AreNotes};
+ghost use Rattle.cf_part.specs.Parts.{IsClose, IsPut, IsRead, MayPlan, Owes, OwesNone, most_wants, opened, question_of, seen_by, words_wanted};
 ghost use Rattle.cf_part.specs.Steps.{NothingToTell, Tells};
 ghost use Rattle.cf_part.specs.Answers.{Breaks, Closes, Ends, IsRunning, Lands, Meets, Mismeets, Misreads, PlansWords, Reads, Refuses, Waits};
 
 use crate::finding::{args_for, is_running, shown, to_call, to_show, to_stop};
 use crate::owing::{Debt, first_owed};
 use crate::progress::Progress;
-use crate::putting::{fault_after, refuse, write_wants, write_words};
-use crate::question::{Fault, PutOf, Question};
+use crate::putting::{fault_after, refuse, write_entries, write_notes, write_wants, write_words};
+use crate::question::{Fault, PutOf, Question, later};
+use crate::seeing::{see, see_all, see_own};
 use crate::step::Step;
 use cf_ledger::{LedgerFault, Misfit};
-use cf_notes::{EndsWith, Owed, Want};
+use cf_notes::{EndsWith, Note, Noted, Notes, Owed, Want};
 use cf_plan::Plan;
 use cf_row::{Entry, PutFault, Replica, Row};
 use std::alloc::{AllocError, Global};
@@ -24,18 +26,18 @@ use std::marker::Model;
 /// How many words a put has at most.
 pub const MOST_WANTS: usize = 8;
 
-/// How long nothing is asked behind a question that was refused or had no answer, in milliseconds.
-const PAUSE: u64 = 20;
-
 /// A session's view of a request's row, with what its process has to do there.
 #[derive(Drop)]
 pub struct Part {
     row: Row,
+    notes: Notes,
     calls: Vec<Progress>,
     owed: Vec<Option<Owed>>,
     wanted: Vec<bool>,
     numbers: Vec<u64>,
     wants: Vec<Want>,
+    landing: Vec<Entry>,
+    said: Vec<Note>,
     of: PutOf,
     asked: Option<Question>,
     words: usize,
@@ -51,10 +53,11 @@ impl Model for Part {
 
     ghost Value = { Part };
 
-    ghost use Rattle.cf_part.specs.Parts.{HasPlaces, IsSound};
+    ghost use Rattle.cf_part.specs.Parts.{AreOfStages, HasPlaces, IsSound};
 
     ghost view = { λ p. record {
       row = p.row;
+      notes = p.notes;
       calls = p.calls.items;
       owed = p.owed.items;
       wanted = p.wanted.items;
@@ -71,25 +74,28 @@ impl Model for Part {
 
     ghost invariant = { λ p. record {
       sound : IsSound p.row p.calls.items p.owed.items p.wanted.items p.wants.items p.asked;
-      places : HasPlaces p.numbers p.wants;
+      noted : AreOfStages p.row.replica p.notes;
+      places : HasPlaces p.numbers p.wants p.landing p.said;
     } };
 }
 
 impl Part {
-    /// A session's part in a request of which nothing was read yet. Its tokens count from `first` on, as those of a
-    /// `Row`. It fails only where there is no memory.
+    /// A session's part in a request of which nothing was read yet. The notes are those of the plan's stages. Its tokens
+    /// count from `first` on, as those of a `Row`. It fails only where there is no memory.
     pub fn new(
         alloc: Global,
         plan: &Plan,
+        notes: &[Note],
         room: u16,
         session: u64,
         first: u32,
         is_flow: bool,
     ) -> Result<Part, AllocError>
+        requires each_stage { length notes.now ≡ length plan.now.stages }
         requires place { has_place plan.now.stages room ≡ true }
         requires session { session < 549755813888 }
         requires first { first ≤ 8388608 }
-        ensures { IfOk result (λ p. p ≡ opened plan.now room session first is_flow) }
+        ensures { IfOk result (λ p. p ≡ opened plan.now notes.now room session first is_flow) }
     {
         let places = plan.stages() as usize + room as usize;
         let calls = vec![in alloc; Progress::NotCalled; places]?;
@@ -97,14 +103,20 @@ impl Part {
         let wanted = vec![in alloc; false; places]?;
         let numbers: Vec<u64> = Vec::with_capacity(alloc, MOST_WANTS)?;
         let wants: Vec<Want> = Vec::with_capacity(alloc, MOST_WANTS)?;
+        let landing: Vec<Entry> = Vec::with_capacity(alloc, MOST_WANTS)?;
+        let said: Vec<Note> = Vec::with_capacity(alloc, MOST_WANTS)?;
+        let notes = Notes::new(alloc, plan, notes, room)?;
         let row = Row::new(alloc, plan, room, session, first)?;
         Ok(Part {
             row,
+            notes,
             calls,
             owed,
             wanted,
             numbers,
             wants,
+            landing,
+            said,
             of: PutOf::Rest,
             asked: None,
             words: 0,
@@ -123,6 +135,21 @@ impl Part {
         self.row.replica()
     }
 
+    /// What the notes say of each stage.
+    pub fn notes(&self) -> &[Noted]
+        ensures notes { result.now ≡ self.now.notes.stages }
+        ensures are { AreNotes (stages_of self.now.row.replica) result.now }
+    {
+        self.notes.stages()
+    }
+
+    /// Of each stage what its function came to, until the row has it.
+    pub fn owed(&self) -> &[Option<Owed>]
+        ensures { result.now ≡ self.now.owed }
+    {
+        self.owed.as_slice()
+    }
+
     /// The put that is under way.
     pub fn put(&self) -> &[Entry]
         ensures { result.now ≡ self.now.row.put }
@@ -137,11 +164,25 @@ impl Part {
         self.wants.as_slice()
     }
 
+    /// What the put is of.
+    pub fn put_of(&self) -> PutOf
+        ensures { result ≡ self.now.of }
+    {
+        self.of
+    }
+
     /// The question that is open.
     pub fn asked(&self) -> Option<Question>
         ensures { result ≡ self.now.asked }
     {
         self.asked
+    }
+
+    /// Before which moment nothing is asked.
+    pub fn retry(&self) -> u64
+        ensures { result ≡ self.now.retry }
+    {
+        self.retry
     }
 
     /// Why nothing goes on in the request any more, if so.
@@ -196,13 +237,33 @@ impl Part {
         self.wanted[stage as usize] = false;
     }
 
+    /// Whether a put may be planned by now, or the close be asked for.
+    pub fn may_plan(&self, now: u64) -> bool
+        ensures may { OnTrue result (MayPlan self.now now) }
+        ensures none { OnFalse result (¬ MayPlan self.now now) }
+    {
+        self.row.put().is_empty()
+            && self.asked.is_none()
+            && self.fault.is_none()
+            && self.has_seen_all()
+            && self.retry <= now
+    }
+
+    /// Whether all is seen that the store has told of.
+    fn has_seen_all(&self) -> bool
+        ensures all { OnTrue result ((self.now.is_stale ≡ false) × (self.now.words ≤ seen_by self.now)) }
+        ensures none { OnFalse result (¬ ((self.now.is_stale ≡ false) × (self.now.words ≤ seen_by self.now))) }
+    {
+        !self.is_stale && self.words <= self.row.replica().seen().len()
+    }
+
     /// Plans a put of these words, and is told what it is of. It is refused as a `Row` refuses it, and all stays as it
     /// was then.
     #[tactic(auto, using(cf_row::proofs::Tokens::stamped_words))]
     pub fn plan(&mut self, wants: &[Want], of: PutOf) -> Result<(), PutFault>
         requires none { self.old.row.put ≡ [] }
         requires asked { self.old.asked ≡ None }
-        requires few { length wants.now ≤ 8 }
+        requires few { length wants.now ≤ most_wants }
         ensures planned { OnOk result (PlansWords self.old wants.now of self.new) }
         ensures unchanged { OnErr result (self.new ≡ self.old) }
         ensures why { IfErr result (λ fault.
@@ -251,58 +312,66 @@ impl Part {
         question
     }
 
-    /// A read was answered: these entries stand behind all that was seen. Where one of them doesn't fit the graph, the
-    /// request is broken. For want of memory none is seen, and it is asked again later.
-    pub fn read(&mut self, now: u64, entries: &[Entry]) -> Result<(), Misfit>
-        requires { IsRead self.old.asked }
-        ensures all { OnOk result (Reads self.old entries.now self.new) }
-        ensures front { IfErr result (λ m. Misreads self.old now entries.now m self.new) }
+    /// A read was answered: these entries stand behind all that was seen, with these notes. Where one of them doesn't fit
+    /// the graph, the request is broken. For want of memory none is seen, and it is asked again later.
+    pub fn read(&mut self, now: u64, entries: &[Entry], notes: &[Note]) -> Result<(), Misfit>
+        requires asked { IsRead self.old.asked }
+        requires each { length notes.now ≡ length entries.now }
+        ensures all { OnOk result (Reads self.old entries.now notes.now self.new) }
+        ensures front { IfErr result (λ m. Misreads self.old now entries.now notes.now m self.new) }
     {
-        let read = self.row.saw_all(entries);
         self.asked = None;
-        match read {
+        match see_all(&mut self.row, &mut self.notes, entries, notes) {
             Ok(()) => {
                 self.is_stale = false;
                 Ok(())
             }
             Err(misfit) => {
-                self.retry = now.saturating_add(PAUSE);
+                self.retry = later(now);
                 self.fault = fault_after(misfit.why, self.fault);
                 Err(misfit)
             }
         }
     }
 
-    /// The put stands.
+    /// The put stands. It is seen with the notes of its words.
     pub fn stands(&mut self)
         requires { IsPut self.old.asked }
         ensures { Lands self.old self.new }
     {
-        self.row.landed();
+        write_entries(&mut self.landing, self.row.put());
+        write_notes(&mut self.said, &self.wants);
+        self.row.give_up();
         self.wants.clear();
         self.asked = None;
+        see_own(&mut self.row, &mut self.notes, &self.landing, &self.said);
     }
 
-    /// Entries stand where the put was to stand, these and no more. Whether they are the put's own, which had landed
-    /// before. For want of memory none is seen, and the put is asked for again later.
-    pub fn others(&mut self, now: u64, entries: &[Entry]) -> Result<bool, LedgerFault>
+    /// Entries stand where the put was to stand, these and no more, with these notes. Whether they are the put's own,
+    /// which had landed before. Where one of them doesn't fit the graph, the request is broken. For want of memory none
+    /// is seen, and the put is asked for again later.
+    pub fn others(&mut self, now: u64, entries: &[Entry], notes: &[Note]) -> Result<bool, Misfit>
         requires asked { IsPut self.old.asked }
         requires some { 0 < length entries.now }
-        ensures met { IfOk result (λ landed. Meets self.old entries.now landed self.new) }
-        ensures refused { IfErr result (λ why. Mismeets self.old now entries.now why self.new) }
+        requires each { length notes.now ≡ length entries.now }
+        ensures met { IfOk result (λ landed. Meets self.old entries.now notes.now landed self.new) }
+        ensures refused { IfErr result (λ m. Mismeets self.old now entries.now notes.now m self.new) }
     {
         self.asked = None;
         if self.row.reserve(entries.len()).is_err() {
-            self.retry = now.saturating_add(PAUSE);
-            return Err(LedgerFault::NoMemory);
+            self.retry = later(now);
+            return Err(Misfit {
+                place: 0,
+                why: LedgerFault::NoMemory,
+            });
         }
         let landed = self.row.met(entries[0]);
         self.wants.clear();
-        match self.row.saw_all(entries) {
+        match see(&mut self.row, &mut self.notes, entries, notes) {
             Ok(()) => Ok(landed),
             Err(misfit) => {
                 self.fault = Some(Fault::Broken);
-                Err(misfit.why)
+                Err(misfit)
             }
         }
     }
@@ -313,7 +382,7 @@ impl Part {
         ensures { Waits self.old now self.new }
     {
         self.asked = None;
-        self.retry = now.saturating_add(PAUSE);
+        self.retry = later(now);
     }
 
     /// The put was refused. It is given up. Where it was the finish of a stage with a payload, an error is put in its
@@ -327,7 +396,7 @@ impl Part {
         self.asked = None;
         let is_error_due = refuse(&mut self.owed, self.of);
         if !is_error_due {
-            self.retry = now.saturating_add(PAUSE);
+            self.retry = later(now);
         }
     }
 

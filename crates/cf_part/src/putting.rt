@@ -1,11 +1,12 @@
 //! What is kept of a put, and what its refusal leaves owed.
-ghost use Rattle.std.specs.Prelude.{◌≡◌, ◌≤◌, [], length, vec_capacity};
+ghost use Rattle.std.specs.Prelude.{◌≡◌, ◌≤◌, length, vec_capacity};
 ghost use Rattle.cf_part.specs.Answers.{fault_after, is_error_due, is_error_next, has_payload, owed_refused};
-ghost use Rattle.cf_part.specs.Parts.{words_wanted};
+ghost use Rattle.cf_part.specs.Parts.{notes_wanted, words_wanted};
 
 use crate::question::{Fault, PutOf};
 use cf_ledger::LedgerFault;
-use cf_notes::{EndsWith, Owed, Want};
+use cf_notes::{EndsWith, Note, Owed, Want};
+use cf_row::Entry;
 
 /// Writes the words of a put in place of others.
 pub(crate) fn write_words(words: &mut Vec<u64>, wants: &[Want])
@@ -28,6 +29,30 @@ pub(crate) fn write_wants(kept: &mut Vec<Want>, wants: &[Want])
     kept.clear();
     for want in wants {
         kept.push_reserved(*want);
+    }
+}
+
+/// Writes the notes of a put's words in place of others.
+pub(crate) fn write_notes(notes: &mut Vec<Note>, wants: &[Want])
+    requires { length wants.now ≤ vec_capacity notes.old }
+    ensures items { notes.new.items ≡ notes_wanted wants.now }
+    ensures kept { vec_capacity notes.new ≡ vec_capacity notes.old }
+{
+    notes.clear();
+    for want in wants {
+        notes.push_reserved(want.note);
+    }
+}
+
+/// Writes the entries of a put in place of others.
+pub(crate) fn write_entries(entries: &mut Vec<Entry>, put: &[Entry])
+    requires { length put.now ≤ vec_capacity entries.old }
+    ensures items { entries.new.items ≡ put.now }
+    ensures kept { vec_capacity entries.new ≡ vec_capacity entries.old }
+{
+    entries.clear();
+    for entry in put {
+        entries.push_reserved(*entry);
     }
 }
 

@@ -1,4 +1,9 @@
 //! What is asked of a request's row, and what a put is of.
+ghost use Rattle.std.specs.Prelude.{◌≡◌};
+ghost use Rattle.cf_part.specs.Parts.{later};
+
+/// How long nothing is asked behind a question that was refused or had no answer, in milliseconds.
+const PAUSE: u64 = 20;
 
 /// A question about the row of a request. At most one is open.
 #[derive(Clone, Copy, Debug, PartialEq, Eq)]
@@ -31,4 +36,11 @@ pub enum Fault {
     Dropped,
     /// A payload that a function is to be called with is lost.
     Payload,
+}
+
+/// The moment from which on something is asked again.
+pub(crate) fn later(now: u64) -> u64
+    ensures { result ≡ later now }
+{
+    now.saturating_add(PAUSE)
 }

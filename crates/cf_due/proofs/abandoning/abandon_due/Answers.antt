@@ -1,4 +1,4 @@
-use Rattle.std.proofs.Common.{◌≡◌, ℕ, ap, refl, sym, subst, rules}
+use Rattle.std.proofs.Common.{ℕ, ap, refl, sym, subst}
 use Rattle.cf_notes.specs.declared.wants.Source.TheVariants.{Gone}
 use Rattle.cf_row.specs.Abandoning.{Abandons}
 use Rattle.cf_due.specs.Abandoning.{NoneToAbandon}

@@ -1,8 +1,6 @@
-use Rattle.std.proofs.Common.{◌≡◌, Bool, true, false, ◌⊎◌, rules}
+use Rattle.std.proofs.Common.{◌⊎◌, rules}
 use Rattle.std.specs.Prelude.{◌≢◌, None}
-use Rattle.std.specs.Bool.{OnFalse}
 use Rattle.cf_model.specs.States.{outcome_at}
-use Rattle.cf_row.specs.Grants.{IsGrantedTo, NoneOpen}
 use Rattle.cf_row.specs.Rows.{state_of}
 use Rattle.cf_due.specs.Abandoning.{IsOtherGone, NoneToAbandon}
 use Rattle.cf_due.proofs.Gone.{none_till, none_with}

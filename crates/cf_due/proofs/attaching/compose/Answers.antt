@@ -1,5 +1,5 @@
 -- The words of a promise, and of the stage that composes it, fit behind all that was seen.
-use Rattle.std.proofs.Common.{◌≡◌, ℕ, ◌+◌, ◌-◌, ◌<◌, ◌≤◌, None, Some, [], ◌∷◌, ap, refl, sym, ◌∙◌, subst, arith}
+use Rattle.std.proofs.Common.{◌≡◌, ℕ, ◌+◌, ◌-◌, ◌<◌, None, Some, [], ◌∷◌, ap, refl, sym, ◌∙◌, subst, arith}
 use Rattle.std.proofs.lemmas.List.Elements.{All-nil}
 use Rattle.cf_forms.specs.declared.forms.Form.TheVariants.{Source}
 use Rattle.cf_forms.specs.declared.forms.Of.TheVariants.{None as NoSource}

@@ -1,4 +1,4 @@
-use Rattle.std.proofs.Common.{◌≡◌, ℕ, ◌<◌, ◌≤◌, ◌∙◌, ap, refl, rules, sym}
+use Rattle.std.proofs.Common.{◌≡◌, ℕ, ◌∙◌, ap, refl, rules, sym}
 use Rattle.std.specs.Prelude.{Some}
 use Rattle.cf_event.specs.Words.{word_of}
 use Rattle.cf_model.specs.States.{claim_at}

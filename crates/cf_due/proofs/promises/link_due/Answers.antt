@@ -1,4 +1,3 @@
-use Rattle.std.proofs.Common.{ℕ}
 use Rattle.cf_outcome.specs.declared.outcome.Outcome.{Outcome}
 use Rattle.cf_due.specs.Promises.{IsToLink}
 use Rattle.cf_due.proofs.Below.{none_more}

@@ -1,4 +1,4 @@
-use Rattle.std.proofs.Common.{◌-◌, ◌≤◌}
+use Rattle.std.proofs.Common.{◌-◌}
 use Rattle.cf_part.specs.Steps.{NoneToCall}
 use Rattle.cf_part.proofs.finding.to_call.Given as goal
 

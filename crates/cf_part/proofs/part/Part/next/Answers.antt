@@ -1,4 +1,4 @@
-use Rattle.std.proofs.Common.{◌≡◌, ◌<◌, ◌≤◌, List, length, set, ap, subst, sym, ◌∙◌, arith}
+use Rattle.std.proofs.Common.{◌≤◌, List, length, set, ap, subst, sym, ◌∙◌, arith}
 use Rattle.cf_row.specs.Rows.{Replica, stages_of}
 use Rattle.cf_part.specs.declared.progress.Progress.{Progress}
 use Rattle.cf_part.specs.declared.progress.Progress.TheVariants.{Runs}

@@ -1,4 +1,4 @@
-use Rattle.std.proofs.Common.{◌≡◌, ap, length, sym, ◌∙◌}
+use Rattle.std.proofs.Common.{ap, length, sym, ◌∙◌}
 use Rattle.cf_row.specs.Rows.{Replica}
 use Rattle.cf_part.specs.Parts.{places_of}
 use Rattle.cf_part.proofs.Places.{stages_have_places}
