@@ -206,6 +206,13 @@ impl Part {
         self.is_closed
     }
 
+    /// Of each stage, how far the call of its function has come.
+    pub fn calls(&self) -> &[Progress]
+        ensures { result.now ≡ self.now.calls }
+    {
+        self.calls.as_slice()
+    }
+
     /// Whether the function of a stage was called and hasn't ended.
     pub fn is_running(&self, stage: u16) -> bool
         ensures runs { OnTrue result (IsRunning self.now stage) }
@@ -219,6 +226,14 @@ impl Part {
         ensures { self.new ≡ record self.old { words = max self.old.words words } }
     {
         self.words = self.words.max(words);
+    }
+
+    /// Whether there is a place for a stage.
+    pub fn has_place(&self, stage: u16) -> bool
+        ensures there { OnTrue result (stage < length self.now.wanted) }
+        ensures none { OnFalse result (¬ (stage < length self.now.wanted)) }
+    {
+        (stage as usize) < self.wanted.len()
     }
 
     /// Somebody waits for a stage.
