@@ -16,7 +16,7 @@ use Rattle.cf_event.specs.declared.record.Record.TheVariants.{Did}
 use Rattle.cf_ledger.specs.Ledgers.{AreTaken}
 use Rattle.cf_row.specs.declared.entry.Entry.{Entry}
 use Rattle.cf_row.specs.Rows.{Replays, Replica, Takes, history_of, is_call, session_of, stages_of, state_of, words_in}
-use Rattle.cf_row.specs.Puts.{OnlyFinds, Row}
+use Rattle.cf_row.specs.Puts.{Row}
 use Rattle.cf_row.proofs.Own.{history_append, history_count, history_push}
 use Rattle.cf_notes.specs.declared.note.Note.{Note}
 use Rattle.cf_notes.specs.declared.noted.Noted.{Noted}
@@ -24,7 +24,7 @@ use Rattle.cf_notes.specs.Noting.{added_by, noted_along, noted_by}
 use Rattle.cf_notes.specs.Tables.{Table}
 use Rattle.cf_notes.proofs.NamedStages.{count_answered}
 use Rattle.cf_part.specs.Parts.{AreOfStages, places_of}
-use Rattle.cf_part.specs.Answers.{IsFreed, Sees, SeesOne, TakesNotes}
+use Rattle.cf_part.specs.Answers.{Sees, SeesOne, TakesNotes}
 use Rattle.cf_part.proofs.Places.{stages_have_places}
 
 -- the words of these entries are those of events

@@ -249,7 +249,8 @@ impl Part {
         requires { stage < length self.old.wanted }
         ensures { self.new ≡ record self.old { wanted = slice_set self.old.wanted stage false } }
     {
-        self.wanted[stage as usize] = false;
+        let place = stage as usize;
+        self.wanted[place] = false;
     }
 
     /// Whether a put may be planned by now, or the close be asked for.
@@ -396,8 +397,9 @@ impl Part {
     pub fn unknown(&mut self, now: u64)
         ensures { Waits self.old now self.new }
     {
+        let again = later(now);
         self.asked = None;
-        self.retry = later(now);
+        self.retry = again;
     }
 
     /// The put was refused. It is given up. Where it was the finish of a stage with a payload, an error is put in its

@@ -1,9 +1,8 @@
-use Rattle.std.proofs.Common.{◌≡◌, ◌≤◌, ap, length, subst, sym, ◌∙◌}
+use Rattle.std.proofs.Common.{◌≡◌, ap, length, subst, sym, ◌∙◌}
 use Rattle.std.specs.Prelude.{Some}
 use Rattle.cf_event.specs.Decoding.{event_of}
 use Rattle.cf_ledger.specs.Ledgers.{AreTaken}
 use Rattle.cf_model.specs.States.{start}
-use Rattle.cf_notes.specs.Noting.{added_by}
 use Rattle.cf_row.specs.Rows.{Replica, history_of}
 use Rattle.cf_part.proofs.Seen.{AreNamed, room_left, sees_one, stages_then}
 use Rattle.cf_part.proofs.seeing.see_one.Goals as goal

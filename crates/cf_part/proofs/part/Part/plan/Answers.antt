@@ -1,4 +1,4 @@
-use Rattle.std.proofs.Common.{◌≡◌, List, ap, rules, subst, sym, ◌∙◌}
+use Rattle.std.proofs.Common.{List, ap, rules, subst, sym, ◌∙◌}
 use Rattle.cf_notes.specs.declared.wants.Want.{Want}
 use Rattle.cf_row.specs.Puts.{Plans}
 use Rattle.cf_part.specs.Parts.{IsSound, Part, words_wanted}
