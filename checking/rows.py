@@ -500,6 +500,7 @@ def rows(tools: Tools, made: Path, is_gate: bool) -> List[Row]:
         *(rows_of_edits() if is_gate else []),
         Row("the edits of the crates, read", ["python3"], [["sweeps/edits/crates", "--read"]]),
         Row("the edits that spoil the clients, read", ["python3"], [["sweeps/edits/clients", "--read"]]),
+        Row("the lines of clients that answer what the library knows", ["python3"], [["sweeps/boundary"]]),
         *rows_of_mutants(tools, made),
         *rows_of_lint(),
         Row("rows that fail", ["python3"], [[tools["python3"], "-m", "unittest", "checking.test_running"]]),
