@@ -1,4 +1,5 @@
 import cf.service.Request;
+import cf.service.Scope;
 import cf.service.Service;
 import cf.service.Stage;
 import com.sun.net.httpserver.HttpExchange;
@@ -23,11 +24,12 @@ public class Handler {
     static void handle(HttpExchange exchange) {
         long wait = Long.parseLong(exchange.getRequestURI().getQuery()); // of the second backend, in ms
         Request request = SERVICE.request("quote " + wait);
-        Stage<Integer> price = request.supplyAsync(() -> 4900).named("price");
-        Stage<Integer> postage = request.supplyAsync(() -> 500, request.delayedExecutor(wait, TimeUnit.MILLISECONDS)).named("postage");
+        Scope scope = request.scope();
+        Stage<Integer> price = scope.supplyAsync(() -> 4900).named("price");
+        Stage<Integer> postage = scope.supplyAsync(() -> 500, request.delayedExecutor(wait, TimeUnit.MILLISECONDS)).named("postage");
         Stage<Integer> total = price.thenCombine(postage, Integer::sum).named("total").orTimeout(1, TimeUnit.SECONDS);
-        request.cancelRestAfter(total); // but not the answer behind it
-        Stage<Boolean> sent = total.handleAsync((cents, error) -> error == null ? send(exchange, 200, cents + " cents\n")
+        scope.endsWith(total); // but not the answer, which isn't of it
+        Stage<Boolean> sent = request.allOf(total).handleAsync((none, error) -> error == null ? send(exchange, 200, total.join() + " cents\n")
                 : send(exchange, 504, "no quote in time\n")).named("send");
         CompletableFuture.allOf(sent).whenComplete((none, error) -> { // (by the JDK's class: it is no stage of the request)
             System.out.println(request.history().line());

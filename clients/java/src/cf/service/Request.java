@@ -25,7 +25,6 @@ import java.util.concurrent.TimeUnit;
 import java.util.concurrent.atomic.AtomicInteger;
 import java.util.function.Supplier;
 import java.util.stream.Collectors;
-import java.util.stream.IntStream;
 
 /**
  * Stages that belong together, of which one history is kept. Any thread may use it; calls on one request wait for one another at its lock, under
@@ -156,7 +155,6 @@ public final class Request extends StageFactory implements AutoCloseable {
     private static final Link[] NO_LINKS = {};
     private static final Object[] NO_VALUES = {};
     private static final long[] NO_MOMENTS = {};
-    private static final int[] NO_NUMBERS = {};
 
     final Service service;
     /** The test that runs it, or null. */
@@ -181,9 +179,6 @@ public final class Request extends StageFactory implements AutoCloseable {
     private int valueCount;
     private Faults faults;
     private Sources sources;
-    /** The stage at whose end the stages are cancelled that nothing behind it needs, or null. Whether it is settled. */
-    private Stage<?> lastNeeded;
-    private boolean isLastNeededSettled;
     private long thread = Long.MIN_VALUE;
     private long[] threads;
     private String[] threadNames = new String[1];
@@ -574,11 +569,6 @@ public final class Request extends StageFactory implements AutoCloseable {
         synchronized (lock()) {
             return machine.isOver() || machine.isSettled(number);
         }
-    }
-
-    /** The same, also of a stage that only the machine knows, as many of those that wait for all. The lock is held. */
-    private boolean isPending(int number) {
-        return isOpen(number) || !machine.isOver() && !machine.isSettled(number);
     }
 
     /** Hands the history to the service's hook and meter, once. It throws nothing, and doesn't wait. */
@@ -1168,53 +1158,17 @@ public final class Request extends StageFactory implements AutoCloseable {
         checkDepth();
         FollowUps followUps = new FollowUps(watch);
         synchronized (lock()) {
-            cancelAllBut(new BitSet(), callerNumber(), followUps);
-        }
-        tell(followUps);
-    }
-
-    /**
-     * Once that stage of this request is settled, in whichever way, cancels what is open by then, as {@link #cancelAll} does. Stages behind that
-     * one go on, and so do those that these still wait for: so the answer is sent. Whoever sees that the stage is settled finds the rest cancelled.
-     * A later call names another stage instead. With a limit of that stage it is one of the request:
-     *
-     * <pre>{@code request.cancelRestAfter(last.orTimeout(5, TimeUnit.SECONDS));}</pre>
-     *
-     * It costs nothing before; then all events are read once, and each stage that is cancelled is an event.
-     *
-     * @throws IllegalArgumentException where the stage is of another request
-     */
-    public void cancelRestAfter(Stage<?> stage) {
-        if (stage.request != this) {
-            throw new IllegalArgumentException("the stage is of another request: this is to be asked of stage.request()");
-        }
-        checkDepth();
-        FollowUps followUps = new FollowUps(watch);
-        synchronized (lock()) {
-            lastNeeded = stage.outcome == null ? stage : null;
-            if (lastNeeded == null) {
-                machine.flush();
-                cancelRest(stage, callerNumber(), followUps);
+            int who = callerNumber();
+            if (watch != null) {
+                watch.historyRead(this);
+            }
+            for (int k = machine.stages() - 1; k >= 0; k--) {
+                if (isOpen(k) && (whole == null || whole.stage.number != k)) {
+                    applyWord(Words.cancel(who, k), who, followUps);
+                }
             }
         }
         tell(followUps);
-    }
-
-    /** Cancels what is open, but what stands behind this stage and what that needs. The lock is held. */
-    private void cancelRest(Stage<?> stage, int who, FollowUps followUps) {
-        cancelAllBut(sources().needed(stage.number, this::isPending, this::followedStages, this::holdingStages), who, followUps);
-    }
-
-    /** Cancels what is open but these, the last stage first. The lock is held. */
-    private void cancelAllBut(BitSet but, int who, FollowUps followUps) {
-        if (watch != null) {
-            watch.historyRead(this);
-        }
-        for (int k = machine.stages() - 1; k >= 0; k--) {
-            if (isOpen(k) && !but.get(k) && (whole == null || whole.stage.number != k)) {
-                applyWord(Words.cancel(who, k), who, followUps);
-            }
-        }
     }
 
     /** Does one word and its follow-ups, and says whether it settled the stage. */
@@ -1489,12 +1443,6 @@ public final class Request extends StageFactory implements AutoCloseable {
                     }
                 }
             } while (machine.fetchMore(who));
-            if (isLastNeededSettled) {
-                Stage<?> stage = lastNeeded;
-                lastNeeded = null;
-                isLastNeededSettled = false;
-                cancelRest(stage, who, followUps);
-            }
         } catch (OutOfMemoryError refused) {
             followUps.failure = refused;
         }
@@ -1535,7 +1483,6 @@ public final class Request extends StageFactory implements AutoCloseable {
                     told instanceof Fault ? ((Fault) told).rawError() : null, told instanceof Fault && ((Fault) told).isWrapped());
         }
         if (stage != null) {
-            isLastNeededSettled |= stage == lastNeeded;
             stages[at] = null;
             if (stage.hasUnwritten()) {
                 unwritten -= stage.extras.unwritten;
@@ -1566,24 +1513,6 @@ public final class Request extends StageFactory implements AutoCloseable {
     private int followedStage(int number) {
         Stage<?> stage = number < stages.length ? stages[number] : null;
         return stage == null || stage.extras == null ? -1 : stage.extras.followedStage;
-    }
-
-    /** The stages of this request that a relay follows, or that a join waits for, while it is open. */
-    private int[] followedStages(int number) {
-        int followed = followedStage(number);
-        return followed >= 0 ? new int[] {followed} : joinedStages(number, false);
-    }
-
-    /** The stages with which an open one is cancelled. */
-    private int[] holdingStages(int number) {
-        return joinedStages(number, true);
-    }
-
-    private int[] joinedStages(int number, boolean cancels) {
-        Stage<?> stage = number < stages.length ? stages[number] : null;
-        List<Stage.Join> joins = stage == null || stage.extras == null ? null : stage.extras.joins;
-        return joins == null ? NO_NUMBERS
-                : joins.stream().filter(join -> join.cancels == cancels).flatMapToInt(join -> IntStream.range(0, join.of.length).map(k -> join.of[k])).toArray();
     }
 
     /** The exception of a stage's failed source. It may have to be made: no lock is held. */

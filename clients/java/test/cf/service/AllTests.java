@@ -103,10 +103,6 @@ public final class AllTests {
         test("requests closed by others in every order", ClosingTest::closedAtAnyMoment);
         test("requests closed before time", ClosingTest::closedBefore);
         test("all that is cancelled", ClosingTest::cancelsAll);
-        test("a limit of a request at its edges", ClosingTest::cancelsRest);
-        test("what goes on where a request ends", ClosingTest::goesOn);
-        test("what goes on where a flow's request ends", ClosingTest::goesOnInFlow);
-        test("a limit of a request in every order", ClosingTest::cancelsRestAtAnyMoment);
         test("users' code under a lock", UserCodeTest::unlocked);
         test("calls by states", EndsTest::byStates);
         test("ends behind relays that nothing needs", EndsTest::toldWithoutRelays);

@@ -7,17 +7,13 @@ import cf.testing.Orders;
 import java.util.ArrayList;
 import java.util.Arrays;
 import java.util.Collections;
-import java.util.HashSet;
 import java.util.List;
-import java.util.Set;
 import java.util.concurrent.CompletableFuture;
-import java.util.concurrent.CompletionException;
 import java.util.concurrent.CountDownLatch;
 import java.util.concurrent.ExecutorService;
 import java.util.concurrent.Executors;
 import java.util.concurrent.Future;
 import java.util.concurrent.TimeUnit;
-import java.util.function.BiConsumer;
 
 /** Requests that are closed, once or twice, by their functions and by threads that race. */
 final class ClosingTest {
@@ -202,138 +198,5 @@ final class ClosingTest {
         Request started = SERVICE.start(flow);
         started.cancelAll();
         is(started.stage(first).isCancelled() && started.stage(second).isCancelled(), true);
-    }
-
-    /** How a stage of the request that is to be its last one ends. */
-    private enum Edge {
-        VALUE("3 null", (source, last) -> source.complete(2)),
-        ALL_FAIL("null IllegalStateException", (source, last) -> source.completeExceptionally(new IllegalStateException())),
-        LIMIT("null TimeoutException", (source, last) -> Checks.timeOut(last)),
-        HANGS_UP("null CancellationException", (source, last) -> last.cancel(true)),
-        BY_HAND("4 null", (source, last) -> last.complete(4)),
-        BY_HAND_TOO_LATE("3 null", (source, last) -> is(source.complete(2) && last.complete(5), false)),
-        LIMIT_TOO_LATE("3 null", (source, last) -> is(source.complete(2) && Checks.timeOut(last), false));
-
-        final String sent;
-        final BiConsumer<Stage<Integer>, Stage<Integer>> act;
-
-        Edge(String sent, BiConsumer<Stage<Integer>, Stage<Integer>> act) {
-            this.sent = sent;
-            this.act = act;
-        }
-    }
-
-    private static String sent(Object value, Throwable error) {
-        return value + " " + (error == null ? null : (error instanceof CompletionException ? error.getCause() : error).getClass().getSimpleName());
-    }
-
-    /** The rest is cancelled and the answer is sent, in whichever way the last stage ends, and wherever the limit is set. */
-    static void cancelsRest() {
-        for (Edge edge : Edge.values()) {
-            for (int place = 0; place < 3; place++) {
-                Request request = SERVICE.request(edge + " " + place);
-                Stage<Integer> source = request.promise(), last = source.thenApply(x -> x + 1), hedge = request.promise(), other = hedge.thenApply(x -> x);
-                List<Runnable> tasks = new ArrayList<>();
-                List<String> sent = new ArrayList<>();
-                if (place == 0) {
-                    request.cancelRestAfter(last);
-                }
-                Stage<Integer> now = last.whenComplete((value, error) -> sent.add(sent(value, error)));
-                Stage<Boolean> soon = last.handleAsync((value, error) -> sent.add(sent(value, error)), tasks::add);
-                if (place == 1) {
-                    request.cancelRestAfter(last);
-                }
-                edge.act.accept(source, last);
-                if (place == 2) {
-                    request.cancelRestAfter(last);
-                }
-                is(source.isDone() && hedge.isCancelled() && other.isCancelled(), true);
-                tasks.forEach(Runnable::run);
-                is(sent, Arrays.asList(edge.sent, edge.sent));
-                is(now.isDone() && soon.join(), true);
-                is(request.history().line().endsWith("0 open"), true);
-                is(request.promise().isDone(), false);
-            }
-        }
-        // A good request isn't told as failed.
-        Request good = SERVICE.request();
-        Stage<Integer> source = good.promise(), last = source.thenApply(x -> x + 1).orTimeout(1, TimeUnit.DAYS);
-        good.cancelRestAfter(last);
-        Stage<Integer> sends = last.thenApply(x -> x);
-        source.complete(1);
-        is(sends.join(), 2);
-        is(good.history().line().endsWith("; 0 failed; 0 open"), true);
-        is(good.history().spans().get(0).status().toString(), "OK");
-        is(Checks.thrown(IllegalArgumentException.class, () -> SERVICE.request().cancelRestAfter(last)).getMessage().contains("stage.request()"), true);
-    }
-
-    /** What stands behind the last stage needs more than that: sources, what a function gave, stages that wait for many, those of a flow. */
-    static void goesOn() {
-        Request request = SERVICE.request(), elsewhere = SERVICE.request();
-        Stage<Integer> last = request.promise(), user = request.promise(), sending = elsewhere.promise(), alone = request.promise();
-        List<Stage<Integer>> given = new ArrayList<>();
-        Stage<Integer> composed = last.thenCompose(x -> sending), combined = last.thenCombine(user.thenApply(x -> x), Integer::sum);
-        Stage<Integer> foreign = last.thenCombine(sending, Integer::sum), inside = last.thenCompose(x -> given.get(0)), any = last.applyToEither(alone, x -> x);
-        Stage<Void> all = request.allOf(last, user, sending, composed);
-        given.add(request.promise());
-        given.add(composed.thenCompose(x -> given.get(0)));
-        request.cancelRestAfter(last);
-        last.complete(1);
-        is(alone.isCancelled() && given.get(0).isCancelled(), true);
-        is(inside.isCompletedExceptionally(), true);
-        is(combined.isDone() || composed.isDone() || foreign.isDone() || all.isDone() || user.isDone(), false);
-        is(any.join(), 1);
-        sending.complete(10);
-        user.complete(100);
-        is(Arrays.asList(composed.join(), combined.join(), foreign.join(), all.join()), Arrays.asList(10, 101, 11, null));
-        // Named once it is settled, where a function behind it has given a stage by then.
-        Request later = SERVICE.request();
-        Stage<Integer> first = later.promise(), answer = later.promise(), rest = later.promise();
-        List<Stage<Integer>> gives = new ArrayList<>();
-        Stage<Integer> follows = first.thenCompose(x -> gives.get(0));
-        gives.add(later.promise());
-        first.complete(1);
-        later.cancelRestAfter(answer);
-        later.cancelRestAfter(first);
-        is(rest.isCancelled() && answer.isCancelled() && !follows.isDone() && gives.get(0).complete(7), true);
-        is(follows.join(), 7);
-        Flow flow = new Flow("order");
-        Flow.Step<Integer> start = flow.promise(), beside = flow.promise(), end = start.thenApply(x -> x + 1), behind = end.thenApply(x -> x + 1);
-        Request begun = SERVICE.start(flow);
-        begun.cancelRestAfter(begun.stage(end));
-        begun.stage(start).complete(1);
-        is(begun.stage(beside).isCancelled(), true);
-        is(begun.stage(behind).join(), 3);
-    }
-
-    /** Whoever sees that the last stage is settled finds the rest cancelled, and the answer is sent once, in every order. */
-    static void cancelsRestAtAnyMoment() {
-        Set<String> seen = new HashSet<>();
-        Orders.of(world -> {
-            Request request = world.service().request();
-            List<String> sent = new ArrayList<>();
-            Stage<Integer> last = request.adopt(world.arrivesOrFails(1, new IllegalStateException(), "price")).thenApplyAsync(x -> x + 1)
-                    .orTimeout(1, TimeUnit.SECONDS);
-            Stage<Integer> rest = request.adopt(world.arrives(2, "hedge"));
-            request.cancelRestAfter(last);
-            world.settles(last.handleAsync((value, error) -> sent.add(sent(value, error))), rest);
-            world.calls("the client hangs up", last, it -> it.cancel(true));
-            world.check(() -> !last.isDone() || rest.isDone(), "the rest is cancelled");
-            world.atEnd(() -> sent.size() == 1 && seen.add(sent.get(0) + " " + rest.isCancelled()) | true, "the answer is sent");
-        }).seconds(600).whole().check();
-        is(seen.size(), 8);
-    }
-
-    /** What a function of a flow has given is needed by what stands behind that. */
-    static void goesOnInFlow() {
-        List<Stage<Integer>> gives = new ArrayList<>();
-        Flow flow = new Flow("order");
-        Flow.Step<Integer> first = flow.promise(), follows = first.thenCompose(x -> gives.get(0));
-        Request request = SERVICE.start(flow);
-        gives.add(request.promise());
-        request.stage(first).complete(1);
-        request.cancelRestAfter(request.stage(first));
-        is(gives.get(0).complete(7), true);
-        is(request.stage(follows).join(), 7);
     }
 }

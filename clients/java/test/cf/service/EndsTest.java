@@ -61,8 +61,6 @@ final class EndsTest {
         "a context behind that            | - | | | | |",
         "a context behind that, of a pool | - | | | RejectedExecutionException | RejectedExecutionException |",
         "cancelAll                        | true 0 open | | | | |",
-        "cancelRestAfter, settled         | true 0 open | | | | |",
-        "cancelRestAfter, settled later   | true 0 open | | | | |",
         "close                            | [by cf-ends, for which the JVM waits] | | | | |",
     };
 
@@ -214,18 +212,6 @@ final class EndsTest {
         calls.put("cancelAll", it -> () -> {
             it.request.cancelAll();
             return it.left();
-        });
-        calls.put("cancelRestAfter, settled", it -> () -> {
-            it.request.cancelRestAfter(it.settled);
-            return it.left();
-        });
-        calls.put("cancelRestAfter, settled later", it -> {
-            Stage<Integer> last = it.request.promise();
-            it.request.cancelRestAfter(last);
-            return () -> {
-                last.complete(1);
-                return it.left();
-            };
         });
         calls.put("close", it -> () -> {
             it.open.cancel(true);

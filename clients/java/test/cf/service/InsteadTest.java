@@ -26,9 +26,9 @@ final class InsteadTest {
     /** A limit for a whole request, a scope, a limit in a flow; and parts that go on. */
     static void ends() throws Exception {
         Request limited = SERVICE.request();
-        Stage<Integer> backend = limited.promise(), last = backend.thenApply(x -> x + 1);
-        limited.cancelRestAfter(last.orTimeout(10, TimeUnit.MILLISECONDS));
-        Stage<Boolean> sent = last.handleAsync((value, error) -> error instanceof TimeoutException);
+        Scope within = limited.scope();
+        Stage<Integer> backend = within.promise(), last = within.endsWith(backend.thenApply(x -> x + 1).orTimeout(10, TimeUnit.MILLISECONDS));
+        Stage<Boolean> sent = limited.allOf(last).handleAsync((none, error) -> error.getCause() instanceof TimeoutException);
         is(timesOut(last), true);
         thrown(CancellationException.class, () -> backend.get(20, TimeUnit.SECONDS));
         is(sent.get(20, TimeUnit.SECONDS), true);

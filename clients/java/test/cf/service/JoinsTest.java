@@ -125,7 +125,7 @@ final class JoinsTest {
         is(behind.join(), Arrays.asList(5, 5));
     }
 
-    /** A request that is closed and opened again knows its joins; what no stage behind needs is cancelled. */
+    /** A request that is closed and opened again knows its joins. */
     static void closed() {
         Request request = INLINE.request();
         List<Stage<Integer>> some = promises(request, 3);
@@ -134,24 +134,6 @@ final class JoinsTest {
         request.close();
         some.get(2).complete(6);
         is(votes.join(), Arrays.asList(4, 6));
-
-        Request limited = INLINE.request();
-        List<Stage<Integer>> parts = promises(limited, 3);
-        Stage<Integer> won = limited.first(parts.get(0), parts.get(1));
-        Stage<Integer> answer = won.thenApply(value -> value + 1);
-        limited.cancelRestAfter(won);
-        parts.get(1).complete(1);
-        is(answer.join() + " " + parts.get(0).isCancelled() + " " + parts.get(2).isCancelled(), "2 true true");
-
-        Request needing = INLINE.request();
-        List<Stage<Integer>> two = promises(needing, 2);
-        Stage<Integer> first = needing.first(two.get(0)), done = needing.promise();
-        Stage<Integer> sum = done.thenCombine(first, Integer::sum);
-        needing.cancelRestAfter(done);
-        done.complete(1);
-        is(two.get(0).isCancelled() + " " + two.get(1).isCancelled(), "false true");
-        two.get(0).complete(2);
-        is(sum.join(), 3);
     }
 
     /** In histories the relay settles a join, and its words do the same again. A meter doesn't tell that it waits. */

@@ -179,10 +179,6 @@ final class LeftTest {
             case 0:
                 stage.request().cancelAll();
                 break;
-            case 1:
-            case 2:
-                stage.request().cancelRestAfter(stage);
-                break;
             case 3:
                 Thread.currentThread().interrupt();
                 break;

@@ -224,7 +224,7 @@ final class ScopesTest {
         with.join();
     }
 
-    /** A request that is closed and opened again knows its scopes; what a scope holds that goes on isn't cancelled with the rest. */
+    /** A request that is closed and opened again knows its scopes. */
     static void closed() {
         Request request = INLINE.request();
         Scope scope = request.scope(), inner = scope.scope();
@@ -236,17 +236,6 @@ final class ScopesTest {
         request.close();
         last.complete(1);
         is(states(two, three, composed), "ccf");
-
-        Request limited = INLINE.request();
-        Scope kept = limited.scope(), gone = limited.scope();
-        Stage<Integer> asked = kept.promise(), answer = limited.promise(), loser = kept.promise(), other = gone.promise();
-        Stage<Integer> sent = answer.thenCombine(asked, Integer::sum), end = limited.promise();
-        kept.endsWith(end);
-        limited.cancelRestAfter(answer);
-        answer.complete(1);
-        is(states(asked, loser, other, end, sent) + kept.hasEnded() + gone.hasEnded(), "-cc--falsetrue");
-        asked.complete(2);
-        is(sent.join(), 3);
     }
 
     /** A full request refuses what is of a scope, also where other stages go to a further one. */

@@ -113,7 +113,7 @@ final class UserCodeTest {
                 request.adopt(somebodys(outside)).thenApply(x -> x);
                 acts.add(Arrays.<Runnable>asList(() -> source.complete(new Value()), () -> source.completeExceptionally(new Loud()), () -> source.cancel(true),
                         () -> Checks.timeOut(source), () -> outside.completeExceptionally(new Loud()), () -> source.completeAsync(this::loud),
-                        () -> request.cancelRestAfter(source), request::cancelAll).get(k));
+                        () -> request.scope().endsWith(source), request::cancelAll).get(k));
             }
             acts.forEach(Runnable::run);
             for (Request each : Arrays.asList(request, other)) {

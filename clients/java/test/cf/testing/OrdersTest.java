@@ -442,20 +442,10 @@ public final class OrdersTest {
             List<Stage<?>> attached = new ArrayList<>();
             world.calls("completes", one, it -> it.complete(1));
             world.calls("attaches", one, it -> attached.add(it.thenApply(x -> x)));
-            Stage<Integer> last = request.<Integer>promise().orTimeout(1, SECONDS);
-            request.cancelRestAfter(last);
+            world.calls("cancels", request::cancelAll);
             world.atEnd(() -> seen.add(one.isCancelled() + " " + attached.get(0).isCancelled()) || true, "seen");
         }).seconds(600).whole().check();
         is(seen, new HashSet<>(Arrays.asList("false false", "false true", "true false", "true true")));
-        seen.clear();
-        Orders.of(world -> {
-            Request request = world.service().request();
-            Stage<Integer> one = request.promise();
-            world.calls("completes", one, it -> it.complete(1));
-            world.calls("cancels", request::cancelAll);
-            world.atEnd(() -> seen.add(one.isCancelled() + "") || true, "seen");
-        }).seconds(600).whole().check();
-        is(seen, new HashSet<>(Arrays.asList("false", "true")));
     }
 
     public static void limits() {
