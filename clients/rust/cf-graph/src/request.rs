@@ -538,6 +538,11 @@ impl Request {
         ledger::words(&mut self.handle)
     }
 
+    /// The number of these words.
+    pub fn word_count(&mut self) -> Result<usize, Refused> {
+        ledger::word_count(&mut self.handle)
+    }
+
     /// The state of a stage. `NO_STAGE`.
     pub fn stage(&mut self, stage: u16) -> Result<Stage, Refused> {
         ledger::stage(&mut self.handle, stage)

@@ -252,7 +252,11 @@ impl Core {
 
     /// Attaches a stage that ends once so many of these have values, or too few can have them still.
     pub(crate) fn join(self: &Arc<Core>, by: (u8, Option<u16>), wanted: u16, of: &[u16], made: Made) -> Result<u16, Refusal> {
-        self.change(|inner, after| inner.join(by, wanted, of, made, after))
+        self.change(|inner, after| {
+            let stage = inner.join(by, wanted, of, made, after)?;
+            inner.scopes.note_taken(of);
+            Ok(stage)
+        })
     }
 
     /// Attaches a composing stage behind another one, in the scope of that.
@@ -292,7 +296,7 @@ impl Core {
             }
             None => {
                 own.extra(stage).feeds.push(StageOf { core: Arc::clone(&to), stage: relay });
-                own.scopes.note_asked(stage);
+                own.scopes.note_taken(&[stage]);
                 drop(own);
                 if !to.stand_for(relay, self, stage) {
                     self.unhang_relay(stage, &to, relay);
@@ -398,7 +402,7 @@ impl Core {
         // A waker is cloned and dropped by code of others.
         let waker = waker.clone();
         let mut guard = self.lock();
-        guard.scopes.note_asked(stage);
+        guard.scopes.note_taken(&[stage]);
         if let Some(told) = guard.end_of(stage) {
             drop(guard);
             return (Poll::Ready(told), None);
@@ -429,7 +433,7 @@ impl Core {
 
     pub(crate) fn peek(&self, stage: u16) -> Option<Result<Val, Error>> {
         let mut inner = self.lock();
-        inner.scopes.note_asked(stage);
+        inner.scopes.note_taken(&[stage]);
         inner.end_of(stage)
     }
 

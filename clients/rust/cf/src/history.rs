@@ -5,12 +5,13 @@ use crate::describe::{escape_text, shorten, Describe};
 use crate::error::Error;
 #[cfg(feature = "serde")]
 use crate::json::Json;
-use crate::ledger::{is_replayed, new_tale, replay, Followed, Joined, Replayed};
+use crate::ledger::{is_replayed, new_tale, replay, How, Joined, Replayed};
 use crate::record::EventTimes;
 use crate::spawn::{CALLER, CLOCK, FIRST_WORKER, RELAY};
 use crate::value::Val;
-use crate::word::{self, ATTACH, CANCEL, COMPLETE, FAIL, FAIL_AS, FINISH, SOME, THROWS};
+use crate::word::{self, Parts, ATTACH, CANCEL, COMPLETE, FAIL, FAIL_AS, FINISH, SOME, THROWS};
 use cf_graph::{Cause, Finished, Label, Outcome, Refused, Reply, TaleFormat};
+use std::collections::BTreeSet;
 use std::ffi::OsStr;
 use std::fmt;
 use std::io::{self, Write as _};
@@ -42,7 +43,6 @@ pub struct History {
     /// What stages gave, by their numbers, and what they failed with, by the codes.
     values: Vec<Option<KeptEnd<Val>>>,
     errors: Vec<Option<KeptEnd<Error>>>,
-    relays: Vec<Followed>,
     joins: Vec<Joined>,
     /// The stages that are scopes.
     scopes: Vec<u16>,
@@ -91,15 +91,15 @@ impl History {
         let slots = inner.slots.iter();
         let (of, kept): (Vec<u16>, Vec<_>) = slots.map(|slot| (slot.made, (slot.value().cloned(), slot.error().cloned()))).unzip();
         let made = inner.made.clone();
-        let (given, relays, describe) = (inner.names.clone(), inner.ledger.relays.clone(), inner.describe.clone());
-        let (joins, scopes) = (inner.ledger.waiting_joins().cloned().collect(), inner.scopes.all().collect());
+        let (given, describe) = (inner.names.clone(), inner.describe.clone());
+        let (joins, scopes) = (inner.ledger.joins.clone(), inner.scopes.all.iter().copied().collect());
         drop(inner);
         let mut names: Vec<String> = of.into_iter().map(|of| made[usize::from(of)].to_string()).collect();
         given.into_iter().for_each(|(stage, name)| names[usize::from(stage)] = name.into_owned());
         let (values, errors) = kept.into_iter().unzip();
         let (values, mut errors) = (KeptEnd::keep_all(values), KeptEnd::keep_all(errors));
         errors.insert(0, None);
-        (History { name: core.name.to_string(), words, record, outcomes, names, values, errors, relays, joins, scopes, since }, describe)
+        (History { name: core.name.to_string(), words, record, outcomes, names, values, errors, joins, scopes, since }, describe)
     }
 
     /// The same, which keeps what is told of values and errors alone, where that isn't all.
@@ -126,14 +126,9 @@ impl History {
         replay(&self.words, self.names.len() as u16).expect("memory for a ledger")
     }
 
-    /// The stages for which relays stand, and those that are joined.
-    pub(crate) fn relayed_stages(&self) -> impl Iterator<Item = u16> + '_ {
-        self.relays.iter().map(|followed| followed.stage).chain(self.joins.iter().flat_map(|joined| joined.of.iter().copied()))
-    }
-
-    /// The stages that end by others.
-    pub(crate) fn joining_stages(&self) -> impl Iterator<Item = u16> + '_ {
-        self.joins.iter().map(|joined| joined.stage)
+    /// The stages that end by others, but for those that are only cancelled then.
+    pub(crate) fn joins(&self) -> impl Iterator<Item = &Joined> {
+        self.joins.iter().filter(|it| it.how != How::IsCancelled)
     }
 
     /// The stages that are scopes.
@@ -239,9 +234,9 @@ impl History {
     #[must_use]
     pub fn account(&self) -> String {
         let mut account = trim_newline(self.tell(TaleFormat::Account));
-        if !self.relays.is_empty() {
-            // The library doesn't tell which stages stand in for others.
-            let relays: Vec<String> = self.relays.iter().map(|Followed { relay, stage }| format!("[{relay},{stage}]")).collect();
+        // The library doesn't tell which stages stand in for others.
+        let relays: Vec<_> = self.joins().filter(|it| it.how == How::Follows).map(|it| format!("[{},{}]", it.stage, it.of[0])).collect();
+        if !relays.is_empty() {
             account.truncate(account.len() - 1);
             account += &format!(",\"relays\":[{}]}}", relays.join(","));
         }
@@ -299,7 +294,7 @@ impl History {
 
     fn try_tell(&self, telling: TaleFormat) -> Result<String, Refused> {
         let is_for_people = matches!(telling, TaleFormat::Lines | TaleFormat::Line);
-        let words = if is_for_people { self.words_without_late()? } else { self.words.clone() };
+        let words = if is_for_people { self.words_for_people()? } else { self.words.clone() };
         let mut tale = new_tale(&words, self.names.len() as u16)?;
         if matches!(telling, TaleFormat::Script | TaleFormat::Report) {
             return tale.text(telling);
@@ -315,9 +310,8 @@ impl History {
     }
 
     /// The words, of which those that came too late name no value and no error of a stage, since nobody keeps theirs: the number in them is the one
-    /// behind those of all stages, or 0 for a time-out and a bad answer. What settles a relay or a join of this request is a relay's, and so is what a
-    /// scope cancels, though the machine does it as the clock.
-    fn words_without_late(&self) -> Result<Vec<u64>, Refused> {
+    /// behind those of all stages, or 0 for a time-out and a bad answer.
+    fn words_for_people(&self) -> Result<Vec<u64>, Refused> {
         let lost = self.names.len() as u64;
         let apart = |Replayed { word, reply, .. }| {
             let parts = word::decode(word);
@@ -330,18 +324,14 @@ impl History {
                 _ => word,
             }
         };
-        let mut is_relay = vec![false; self.names.len()];
-        self.relays.iter().map(|followed| followed.relay).chain(self.joining_stages()).for_each(|stage| is_relay[usize::from(stage)] = true);
-        let by_relay = |word| {
-            let parts = word::decode(word);
-            let is_relays = parts.who == CLOCK && parts.kind != ATTACH && (parts.kind == CANCEL || is_relay[usize::from(parts.stage)]);
-            if is_relays {
-                word::with_caller(RELAY, word)
-            } else {
-                word
-            }
-        };
-        Ok(replay(&self.words, self.names.len() as u16)?.into_iter().map(apart).map(by_relay).collect())
+        Ok(self.by_relays(replay(&self.words, self.names.len() as u16)?.into_iter().map(apart)))
+    }
+
+    /// These words, with those as a relay's by which the machine settles one of this request, or a join, or cancels with a scope.
+    fn by_relays(&self, words: impl Iterator<Item = u64>) -> Vec<u64> {
+        let relays: BTreeSet<u16> = self.joins().map(|it| it.stage).collect();
+        let is_relays = |parts: Parts| parts.who == CLOCK && (parts.kind == CANCEL || parts.kind != ATTACH && relays.contains(&parts.stage));
+        words.map(|word| if is_relays(word::decode(word)) { word::with_caller(RELAY, word) } else { word }).collect()
     }
 }
 

@@ -8,7 +8,7 @@
 use crate::core::{Core, First, Needs};
 use crate::ends::Ending;
 use crate::error::{Error, Refusal};
-use crate::ledger::{Dependencies, Ledger};
+use crate::ledger::{How, Ledger};
 use crate::meter::Metered;
 use crate::name::Made;
 use crate::scopes::Scopes;
@@ -18,7 +18,7 @@ use crate::task::StageFuture;
 use crate::value::{CallArgs, Returned, StageFn, Val};
 use crate::wakers::Wakers;
 use crate::word::{self, WordForm, BAD_ANSWER, CANCEL, CLAIM, COMPLETE, FAIL, FAIL_AS, FINISH, LINKS, SOME, THROWS, TIMED_OUT};
-use cf_graph::{Answer, Args, Cause, Claimed, Finished, Outcome, Refused, Reply, SettledStage, Task as Claim, Value};
+use cf_graph::{Answer, Args, Cause, Claimed, Finished, Outcome, Refused, Reply, SettledStage, State, Task as Claim, Value};
 #[cfg(feature = "tokio")]
 use std::any::Any;
 use std::borrow::Cow;
@@ -60,8 +60,6 @@ pub(crate) struct Inner {
     limits: Vec<StageLimit>,
     pub(crate) awaited: AwaitedAlarm,
     pub(crate) scopes: Scopes,
-    /// The stage that a word cancels now. What else is cancelled by the same call has an event of its own.
-    cancels: Option<u16>,
 }
 
 /// The last alarm for which the clock was asked.
@@ -261,7 +259,6 @@ impl Inner {
             limits: Vec::new(),
             awaited: AwaitedAlarm::default(),
             scopes: Scopes::default(),
-            cancels: None,
         }
     }
 
@@ -338,6 +335,7 @@ impl Inner {
             Ok(stage) => {
                 let made = self.place_of_name(made);
                 self.slots.push(Slot::new(made, call));
+                self.scopes.note_taken(of);
                 self.is_more |= !waits;
                 self.show_settled(after);
                 if let Some(scope) = within {
@@ -384,6 +382,7 @@ impl Inner {
         let root = self.ledger.gather(who, form, of)?;
         let made = self.place_of_name(made);
         self.slots.resize_with(usize::from(root) + 1, || Slot::new(made, None));
+        self.scopes.note_taken(of);
         self.show_settled(after);
         if let Some(scope) = within {
             (first..=root).try_for_each(|stage| self.put_in(stage, scope, after))?;
@@ -394,13 +393,19 @@ impl Inner {
     /// Attaches a stage that ends once so many of these have values, or too few can have them still.
     pub(crate) fn join(&mut self, by: (u8, Option<u16>), wanted: u16, of: &[u16], made: Made, after: &mut After) -> Result<u16, Refusal> {
         let stage = self.attach(by, WordForm::Source, &[], None, made, after)?;
-        self.slot(stage).follows = true;
-        match self.ledger.join(stage, wanted, of) {
-            Ok(()) => self.show_settled(after),
-            Err(Refused::NO_MEMORY) => return Err(Refusal::NoLedger), // nobody has it
+        match self.end_by(stage, of, How::Joins(wanted), after) {
+            Ok(()) => Ok(stage),
+            Err(Refused::NO_MEMORY) => Err(Refusal::NoLedger), // nobody has it
             Err(why) => unreachable!("{why}, of so many stages that are there"),
         }
-        Ok(stage)
+    }
+
+    /// Lets a stage end by others.
+    pub(crate) fn end_by(&mut self, stage: u16, of: &[u16], how: How, after: &mut After) -> Result<(), Refused> {
+        self.slot(stage).has_extra = true; // Where it is settled, the machine has done an event of its own.
+        self.ledger.join(stage, of, how)?;
+        self.show_settled(after);
+        Ok(())
     }
 
     /// Attaches a composing stage, and right below it a relay. A stage can only link to lower ones, and the stage that its function makes is higher
@@ -450,18 +455,14 @@ impl Inner {
                 (kind, tail, Held::Error(Box::new(error)))
             }
         };
-        let follows = take(&mut self.slot(stage).follows); // (this event is counted once)
         match self.ledger.act(word::encode(kind, who, stage, tail)) {
             Ok(Reply::Flag(true)) => {
                 self.keep_content(stage, holds, after);
-                self.cancels = Some(stage);
                 self.show_settled(after);
-                self.cancels = None;
                 return Ok(());
             }
             Ok(_) => {}
             Err(why) => {
-                self.slot(stage).follows = follows;
                 Inner::drop_later(holds, after);
                 panic_refused(why)
             }
@@ -511,7 +512,7 @@ impl Inner {
             let slot = &mut self.slots[usize::from(told.stage)];
             // Most have a value, and nobody waits for them.
             if !matches!(told.outcome, Outcome::Value(_)) || slot.needs_more_than_outcome() || self.waiting.has_waker(told.stage) {
-                return self.show_from(at, after, |_, _, _| false);
+                return self.show_from(at, after);
             }
             self.is_more = true;
             slot.settle(told.outcome);
@@ -519,17 +520,12 @@ impl Inner {
         }
     }
 
-    /// Writes the settled stages to their slots, from the one at `first` on. Counts an event for each relay, for each stage that a scope cancels, and
-    /// for each stage with `has_event`: it is the lowest one that its event settled.
+    /// Writes the settled stages to their slots, from the one at `first` on. If stages end by others, the machine may have settled some by itself.
     #[cold]
-    fn show_from(&mut self, first: usize, after: &mut After, has_event: impl Fn(&mut Inner, SettledStage, &mut After) -> bool) {
-        for at in first..self.ledger.settled_count() {
-            let told = self.ledger.settled_at(at);
-            let follows = self.slots[usize::from(told.stage)].follows;
-            if has_event(self, told, after) || follows || self.is_cancelled_by_scope(told) {
-                self.ledger.record.note_events(1);
-            }
-            self.mark_settled(told, after);
+    fn show_from(&mut self, first: usize, after: &mut After) {
+        (first..self.ledger.settled_count()).for_each(|at| self.mark_settled(self.ledger.settled_at(at), after));
+        if !self.ledger.joins.is_empty() {
+            self.ledger.note_own_events();
         }
     }
 
@@ -569,12 +565,6 @@ impl Inner {
         for relay in extra.feeds {
             after.notices().feeds.push(Feed { relay, told: self.end_of(stage).expect("the stage is settled") });
         }
-    }
-
-    /// Whether a stage was cancelled by an event of its own, since its scope has ended.
-    fn is_cancelled_by_scope(&self, told: SettledStage) -> bool {
-        let is_cancelled = told.outcome == Outcome::Fault { cause: Cause::Cancelled, wrapped: false };
-        is_cancelled && self.cancels != Some(told.stage) && self.scopes.knows(told.stage)
     }
 
     /// Cancels relays that nobody needs any more.
@@ -662,23 +652,22 @@ impl Inner {
     /// Passes time to a moment.
     pub(crate) fn pass_time_to(&mut self, moment: u64, after: &mut After) {
         let passed = self.ledger.pass_time_to(moment);
-        self.show_from(0, after, Inner::keep_due_value);
+        (0..self.ledger.settled_count()).for_each(|at| self.keep_due_value(self.ledger.settled_at(at), after));
+        self.show_from(0, after);
         passed.unwrap_or_else(|why| panic_refused(why));
     }
 
-    /// Whether a stage was settled by its own limit. Then keeps the value or the error of that.
-    fn keep_due_value(&mut self, told: SettledStage, after: &mut After) -> bool {
+    /// Keeps the value or the error of a stage's limit, if that has settled the stage.
+    fn keep_due_value(&mut self, told: SettledStage, after: &mut After) {
         let is_own = match told.outcome {
             Outcome::Value(Value::Int(number)) => number == i32::from(told.stage),
             Outcome::Fault { cause: Cause::TimedOut(code), .. } => code == code_of_error(told.stage),
             _ => false,
         };
-        let held = match self.limit_of(told.stage).filter(|_| is_own) {
-            Some(limit) => limit.gives.take().map_or_else(|| Held::Error(Box::new(Error::TimedOut(limit.wait))), Held::Value),
-            None => return false,
-        };
-        self.keep_content(told.stage, held, after);
-        true
+        if let Some(limit) = self.limit_of(told.stage).filter(|_| is_own) {
+            let held = limit.gives.take().map_or_else(|| Held::Error(Box::new(Error::TimedOut(limit.wait))), Held::Value);
+            self.keep_content(told.stage, held, after);
+        }
     }
 
     /// Fails the stages that have limits, since their alarm never rings.
@@ -759,38 +748,26 @@ impl Inner {
     /// Finds, among the open stages that a stage depends on, one for which a worker of the request's executor can do something; if there is none,
     /// what the stage waits for.
     pub(crate) fn find_need(&mut self, stage: u16, is_own: bool) -> Needs {
-        let mut needs = Needs::default();
-        if self.slot(stage).is_settled() {
-            return needs;
-        }
-        if is_own && self.ledger.is_ready(stage) {
-            needs.first = Some(First::Function(stage));
-            return needs;
-        }
-        let hangs = self.ledger.dependencies();
-        let (mut row, mut seen) = (vec![stage], vec![false; self.slots.len()]);
-        let mut follow: BTreeMap<u16, Vec<u16>> = self.ledger.relays.iter().map(|followed| (followed.relay, vec![followed.stage])).collect();
-        follow.extend(self.ledger.waiting_joins().map(|joined| (joined.stage, joined.of.clone())));
+        let (mut needs, mut row, mut seen, mut hangs) = (Needs::default(), vec![stage], vec![false; self.slots.len()], None);
         while let Some(stage) = row.pop() {
             if self.slot(stage).is_settled() || replace(&mut seen[usize::from(stage)], true) {
                 continue;
             }
-            if is_own && self.ledger.is_ready(stage) {
-                needs.first = Some(First::Function(stage));
-                return needs;
-            }
-            let Dependencies { is_source, sources, target } = hangs[usize::from(stage)];
-            row.extend(sources.into_iter().flatten().chain(target));
-            let own = follow.get(&stage);
-            row.extend(own.into_iter().flatten());
-            match self.extras.get(&stage) {
-                Some(Extra { task: Some(task), .. }) if is_own && task.is_queued() => {
-                    needs.first = Some(First::Future(Arc::clone(task)));
-                    return needs;
+            match (self.ledger.state(stage), self.extras.get(&stage)) {
+                (State::Ready, _) if is_own => needs.first = Some(First::Function(stage)),
+                (_, Some(Extra { task: Some(task), .. })) if is_own && task.is_queued() => needs.first = Some(First::Future(Arc::clone(task))),
+                (_, Some(Extra { task: Some(_), .. })) => needs.is_open = true,
+                (_, Some(Extra { of: Some(of), .. })) => needs.elsewhere.extend(of.upgrade()),
+                (State::Linked(target), _) => row.push(target),
+                (State::Pending, _) => {
+                    let its = &hangs.get_or_insert_with(|| self.ledger.dependencies())[usize::from(stage)];
+                    needs.is_open |= its.is_empty();
+                    row.extend(its);
                 }
-                Some(Extra { task: Some(_), .. }) => needs.is_open = true,
-                Some(Extra { of: Some(of), .. }) => needs.elsewhere.extend(of.upgrade()),
-                _ => needs.is_open |= is_source && own.is_none(),
+                _ => {}
+            }
+            if needs.first.is_some() {
+                break;
             }
         }
         needs
@@ -840,6 +817,7 @@ impl Inner {
         self.show_settled(after);
         // Who waits for this stage may have to run what it hangs on now.
         after.notices().wakers.append(&mut self.helpers);
+        self.scopes.note_taken(&[target]);
         if reply != Ok(Reply::Finished(Finished::Won)) || (is_own && target == number) {
             // It may be the other request's last handle.
             after.notices().dropped.push(Held::Core(of));
@@ -852,9 +830,8 @@ impl Inner {
             return;
         }
         self.names.insert(target, format!("relay of {number}").into());
-        self.slot(target).follows = true;
-        self.ledger.follow(target, number).unwrap_or_else(|why| panic_refused(why));
-        self.show_settled(after);
+        self.scopes.note_taken(&[number]);
+        self.end_by(target, &[number], How::Follows, after).unwrap_or_else(|why| panic_refused(why));
     }
 
     /// Does what the machine says is to be done next, at the end of a hold: asks for one more job if more stages are ready than jobs are coming, and

@@ -27,8 +27,7 @@ pub(crate) struct Ledger {
     /// has no machine, which takes three times as much. If something is done to it nevertheless, a new machine does all words again.
     words: Vec<u64>,
     rests_from: u16,
-    /// The relays of this request's own stages.
-    pub(crate) relays: Vec<Followed>,
+    /// How stages end by others, which the words don't tell.
     pub(crate) joins: Vec<Joined>,
     pub(crate) record: EventTimes,
     /// The last moment up to which time has passed for deadlines.
@@ -42,19 +41,23 @@ struct Spare {
     moments: Vec<u32>,
 }
 
-/// A relay, and the stage of the same request that it follows.
-#[derive(Clone, Copy, Debug)]
-pub(crate) struct Followed {
-    pub(crate) relay: u16,
-    pub(crate) stage: u16,
-}
-
-/// A stage that ends by others of the same request, or that is cancelled once these are settled.
+/// A stage that ends by others of the same request.
 #[derive(Clone, Debug)]
 pub(crate) struct Joined {
     pub(crate) stage: u16,
     pub(crate) of: Vec<u16>,
-    pub(crate) cancels: bool,
+    pub(crate) how: How,
+}
+
+/// How a stage ends by others.
+#[derive(Clone, Copy, Debug, PartialEq, Eq)]
+pub(crate) enum How {
+    /// As the only one of them does, which it follows as a relay.
+    Follows,
+    /// Once so many of them have values, or too few can have them still.
+    Joins(u16),
+    /// Cancelled, once the only one of them is settled.
+    IsCancelled,
 }
 
 /// A word that was done again, what it was answered, which stages it made ready, and what it settled.
@@ -63,14 +66,6 @@ pub(crate) struct Replayed {
     pub(crate) reply: Reply,
     pub(crate) ready: Vec<u16>,
     pub(crate) settled: Vec<(u16, Outcome)>,
-}
-
-/// What a stage hangs on.
-pub(crate) struct Dependencies {
-    pub(crate) is_source: bool,
-    pub(crate) sources: [Option<u16>; 2],
-    /// The stage to which a finish linked it.
-    pub(crate) target: Option<u16>,
 }
 
 /// The plan that has no stages, of which all requests are.
@@ -135,7 +130,6 @@ impl Ledger {
             settled: 0,
             words: Vec::new(),
             rests_from: SLOTS + 1,
-            relays: Vec::new(),
             joins: Vec::new(),
             record: EventTimes::with_room_of(moments),
             passed: 0,
@@ -220,30 +214,16 @@ impl Ledger {
         Ok(())
     }
 
-    /// Lets a stage end as another one does.
-    pub(crate) fn follow(&mut self, relay: u16, stage: u16) -> Result<(), Refused> {
-        self.machine()?.follow(relay, stage)?;
-        self.relays.push(Followed { relay, stage });
+    /// Lets a stage end by others.
+    pub(crate) fn join(&mut self, stage: u16, of: &[u16], how: How) -> Result<(), Refused> {
+        let machine = self.machine()?;
+        match how {
+            How::Follows => machine.follow(stage, of[0])?,
+            How::Joins(wanted) => machine.join(stage, wanted, of)?,
+            How::IsCancelled => machine.cancel_with(stage, of[0])?,
+        }
+        self.joins.push(Joined { stage, of: of.into(), how });
         Ok(())
-    }
-
-    /// Lets a stage end once so many of these have values, or too few can have them still.
-    pub(crate) fn join(&mut self, stage: u16, wanted: u16, of: &[u16]) -> Result<(), Refused> {
-        self.machine()?.join(stage, wanted, of)?;
-        self.joins.push(Joined { stage, of: of.into(), cancels: false });
-        Ok(())
-    }
-
-    /// Lets a stage be cancelled once another one is settled.
-    pub(crate) fn cancel_with(&mut self, stage: u16, of: u16) -> Result<(), Refused> {
-        self.machine()?.cancel_with(stage, of)?;
-        self.joins.push(Joined { stage, of: vec![of], cancels: true });
-        Ok(())
-    }
-
-    /// The stages of this request that end by others, with these.
-    pub(crate) fn waiting_joins(&self) -> impl Iterator<Item = &Joined> {
-        self.joins.iter().filter(|it| !it.cancels)
     }
 
     /// Sets a deadline of a stage, at which that gets the value of its own number, or times out with the code of its error.
@@ -256,7 +236,17 @@ impl Ledger {
     pub(crate) fn pass_time_to(&mut self, moment: u64) -> Result<(), Refused> {
         let passed = self.passed.max(moment);
         self.passed = passed;
-        self.machine_if_awake().map_or(Ok(()), |machine| machine.pass_time_to(passed))
+        let told = self.machine_if_awake().map_or(Ok(()), |machine| machine.pass_time_to(passed));
+        self.note_own_events();
+        told
+    }
+
+    /// Counts what the machine has done by itself: as time passed, or since stages end by others.
+    pub(crate) fn note_own_events(&mut self) {
+        if let Some(machine) = &mut self.machine {
+            let done = machine.word_count().expect("the words are there");
+            self.record.note_events((done - self.record.event_count()) as u64);
+        }
     }
 
     /// The number of stages that the last call settled.
@@ -299,8 +289,9 @@ impl Ledger {
         self.machine_if_awake()?.lowest_ready(from).expect("the machine is there")
     }
 
-    pub(crate) fn is_ready(&mut self, stage: u16) -> bool {
-        self.machine_if_awake().map_or(false, |machine| machine.stage(stage).expect("the stage is there").state == State::Ready)
+    /// What an open stage is.
+    pub(crate) fn state(&mut self, stage: u16) -> State {
+        self.machine_if_awake().expect("a stage is open").stage(stage).expect("the stage is there").state
     }
 
     /// A stage was shown as settled.
@@ -326,15 +317,14 @@ impl Ledger {
         }
         let word = word::encode_attach(who, form, of, if has_function { number } else { 0 });
         let machine = self.machine().map_err(|_| Refusal::NoLedger)?;
-        let mut applied = machine.apply(word, LANE);
-        if applied == Err(Refused::NO_ROOM) {
-            machine.grow().map_err(|_| Refusal::NoLedger)?;
-            applied = machine.apply(word, LANE);
+        loop {
+            match machine.apply(word, LANE) {
+                Ok(_) => break,
+                Err(Refused::NO_ROOM) => machine.grow().map_err(|_| Refusal::NoLedger)?,
+                Err(Refused::NO_MEMORY) => return Err(Refusal::NoLedger),
+                Err(why) => unreachable!("{why}, of a form and sources that are there"),
+            }
         }
-        if applied == Err(Refused::NO_MEMORY) {
-            return Err(Refusal::NoLedger);
-        }
-        applied.expect("a form, and sources that are there");
         self.record.note_events(1);
         self.stages = number + 1;
         Ok(number)
@@ -363,19 +353,11 @@ impl Ledger {
         MOST_STAGES - self.stages
     }
 
-    /// What each stage hangs on.
-    pub(crate) fn dependencies(&mut self) -> Vec<Dependencies> {
-        let mut hangs: Vec<Dependencies> = Vec::with_capacity(usize::from(self.stages));
-        for word in self.words() {
-            let parts = word::decode(word);
-            if parts.kind == word::ATTACH {
-                let (form, of, _) = parts.attach_parts();
-                let sources = [of.first().copied(), of.get(1).copied()];
-                hangs.push(Dependencies { is_source: form == WordForm::Source as usize, sources, target: None });
-            } else if parts.kind == word::FINISH && parts.tag == word::LINKS {
-                hangs[usize::from(parts.stage)].target = Some(parts.low as u16);
-            }
-        }
+    /// Of each stage those by which it ends, but for one to which it is linked.
+    pub(crate) fn dependencies(&mut self) -> Vec<Vec<u16>> {
+        let attached = self.words().into_iter().map(word::decode).filter(|it| it.kind == word::ATTACH);
+        let mut hangs: Vec<Vec<u16>> = attached.map(|it| it.attach_parts().1).collect();
+        self.joins.iter().filter(|it| it.how != How::IsCancelled).for_each(|it| hangs[usize::from(it.stage)].extend(&it.of));
         hangs
     }
 
@@ -513,10 +495,7 @@ mod tests {
 
         // It is asked, and goes on resting.
         ledger.pass_time_to(5).unwrap();
-        assert_eq!(
-            (ledger.settled_count(), ledger.wants_job(), ledger.lowest_ready(0), ledger.is_ready(late), ledger.next_moment()),
-            (0, false, None, false, None)
-        );
+        assert_eq!((ledger.settled_count(), ledger.wants_job(), ledger.lowest_ready(0), ledger.next_moment()), (0, false, None, None));
         let events = 2 * usize::from(SLOTS + 1);
         assert_eq!((ledger.words().len(), ledger.dependencies().len()), (events, usize::from(SLOTS + 1)));
         assert!(ledger.machine.is_none());

@@ -3,6 +3,7 @@ use crate::aside::Aside;
 use crate::core::Core;
 use crate::describe::escape_text;
 use crate::history::{caller, History};
+use crate::ledger::How;
 use crate::request::Request;
 use crate::word::{self, WordForm, ATTACH, CLAIM, FINISH, LINKS};
 use cf_graph::{Claimed, Finished, Reply};
@@ -220,7 +221,8 @@ impl Marks {
             }
             done.settled.iter().for_each(|(stage, _)| marks[usize::from(*stage)].settled = Some(place));
         }
-        history.joining_stages().chain(history.scopes().iter().copied()).for_each(|stage| marks[usize::from(stage)].promised = None); // (others settle it)
+        let joins = history.joins().filter(|it| it.how != How::Follows).map(|it| it.stage);
+        joins.chain(history.scopes().iter().copied()).for_each(|stage| marks[usize::from(stage)].promised = None); // (others settle it)
         marks
     }
 }

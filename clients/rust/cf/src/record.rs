@@ -8,9 +8,11 @@ pub(crate) struct EventTimes {
     moments: Vec<u32>,
     /// The last one of these moments.
     before: u64,
-    /// The moment of what is done at present, in nanoseconds since the request began, and how many events there were at it.
+    /// The moment of what is done at present, in nanoseconds since the request began.
     now: u64,
-    lately: u64,
+    /// How many events there were, and how many of them were at the moments that are written down.
+    count: u64,
+    written: u64,
 }
 
 /// How many bits say how many events there were, the most that they say, and the longest while that the others do, 134 ms.
@@ -34,7 +36,7 @@ impl EventTimes {
     #[inline]
     pub(crate) fn advance(&mut self, now: u64) {
         if now > self.now {
-            if self.lately > 0 {
+            if self.count > self.written {
                 self.write_moment();
             }
             self.now = now;
@@ -49,17 +51,15 @@ impl EventTimes {
     /// So many events are done now.
     #[inline]
     pub(crate) fn note_events(&mut self, events: u64) {
-        self.lately += events;
+        self.count += events;
     }
 
     #[inline]
     fn write_moment(&mut self) {
-        if self.now - self.before > LONGEST || self.lately > MOST {
+        if self.now - self.before > LONGEST || self.count - self.written > MOST {
             self.write_parts();
         }
-        self.write(self.now - self.before, self.lately);
-        self.before = self.now;
-        self.lately = 0;
+        self.write(self.now - self.before, self.count - self.written);
     }
 
     /// Writes down what one number can't hold, so that one is enough for what is left.
@@ -67,13 +67,12 @@ impl EventTimes {
     fn write_parts(&mut self) {
         while self.now - self.before > LONGEST {
             let units = LONGEST.min((self.now - self.before) / (LONGEST + 1));
+            let reached = self.before + units * (LONGEST + 1);
             self.write(units, 0);
-            self.before += units * (LONGEST + 1);
+            self.before = reached;
         }
-        while self.lately > MOST {
+        while self.count - self.written > MOST {
             self.write(self.now - self.before, MOST);
-            self.before = self.now;
-            self.lately -= MOST;
         }
     }
 
@@ -83,6 +82,8 @@ impl EventTimes {
             self.make_room();
         }
         self.moments.push((later << BITS | events) as u32);
+        self.before = self.now;
+        self.written += events;
     }
 
     /// The row grows by a quarter, since there are many that grow no more.
@@ -99,12 +100,13 @@ impl EventTimes {
             at += if events > 0 { later } else { later * (LONGEST + 1) };
             (at, events)
         });
-        written.chain([(self.now, self.lately)]).flat_map(|(at, count)| (0..count).map(move |_| at))
+        written.chain([(self.now, self.count - self.written)]).flat_map(|(at, count)| (0..count).map(move |_| at))
     }
 
     /// How many events there were.
+    #[inline]
     pub(crate) fn event_count(&self) -> usize {
-        (self.moments.iter().map(|moment| unpack(*moment).1).sum::<u64>() + self.lately) as usize
+        self.count as usize
     }
 }
 
@@ -126,7 +128,7 @@ mod tests {
                 at += later;
                 for _ in 0..count {
                     record.advance(at);
-                    record.lately += 1;
+                    record.note_events(1);
                     wanted.push(at);
                 }
             }
@@ -135,7 +137,7 @@ mod tests {
         let mut one = EventTimes::default();
         for _ in 0..MOST {
             one.advance(1);
-            one.lately += 1;
+            one.note_events(1);
         }
         one.advance(2);
         assert_eq!(one.moments, [(1 << BITS | MOST) as u32]);

@@ -5,11 +5,11 @@
 use crate::core::Core;
 use crate::error::{Error, Refusal};
 use crate::inner::{panic_refused, After, Inner};
-use crate::ledger::Dependencies;
+use crate::ledger::How;
 use crate::name::Made;
 use crate::spawn::RELAY;
 use crate::word::WordForm;
-use cf_graph::{Cause, Outcome, Refused};
+use cf_graph::Refused;
 use std::collections::{BTreeMap, BTreeSet};
 use std::iter::successors;
 use std::sync::Arc;
@@ -17,13 +17,12 @@ use std::sync::Arc;
 /// The scopes of a request. A request without scopes has nothing to look up.
 #[derive(Default)]
 pub(crate) struct Scopes {
-    all: BTreeSet<u16>,
+    /// The stages that are scopes.
+    pub(crate) all: BTreeSet<u16>,
     /// The scope of each stage that is of one.
     of: BTreeMap<u16, u16>,
-    /// The stages of scopes whose result somebody has asked for.
-    asked: BTreeSet<u16>,
-    /// The stages that wait for scopes: they take no failure over.
-    joins: BTreeSet<u16>,
+    /// The stages of scopes whose failure somebody takes over: a stage behind it, or who has asked for its result.
+    taken: BTreeSet<u16>,
 }
 
 impl Scopes {
@@ -32,21 +31,11 @@ impl Scopes {
         self.of.get(&stage).copied()
     }
 
-    /// The stages that are scopes.
-    pub(crate) fn all(&self) -> impl Iterator<Item = u16> + '_ {
-        self.all.iter().copied()
-    }
-
-    /// Whether a stage is a scope, or of one.
-    pub(crate) fn knows(&self, stage: u16) -> bool {
-        self.all.contains(&stage) || self.of.contains_key(&stage)
-    }
-
-    /// Somebody has asked for the result of a stage.
+    /// Somebody takes the failures of these stages over.
     #[inline]
-    pub(crate) fn note_asked(&mut self, stage: u16) {
-        if self.of.contains_key(&stage) {
-            self.asked.insert(stage);
+    pub(crate) fn note_taken(&mut self, stages: &[u16]) {
+        if !self.of.is_empty() {
+            self.taken.extend(stages.iter().filter(|stage| self.of.contains_key(stage)));
         }
     }
 
@@ -79,7 +68,7 @@ impl Inner {
     #[cold]
     pub(crate) fn put_in(&mut self, stage: u16, scope: u16, after: &mut After) -> Result<(), Refusal> {
         self.scopes.of.insert(stage, scope);
-        match self.ledger.cancel_with(stage, scope) {
+        match self.ledger.join(stage, &[scope], How::IsCancelled) {
             Ok(()) => self.show_settled(after),
             Err(Refused::NO_MEMORY) => {
                 // Nobody has it, and its function isn't called.
@@ -93,52 +82,27 @@ impl Inner {
 
     /// What is left of a scope, unless a stage of it failed that nobody takes over: with this it fails.
     fn left_of_scope(&mut self, who: u8, scope: u16, after: &mut After) -> Left {
-        let waited = self.waited_stages();
-        let stages: Vec<u16> = self.scopes.within(scope).collect();
-        let (settled, open): (Vec<u16>, Vec<u16>) = stages.into_iter().partition(|stage| self.slot(*stage).is_settled());
-        let is_lost = |stage: &u16| !waited.contains(stage) && !self.scopes.asked.contains(stage);
-        if let Some(error) = settled.into_iter().filter(is_lost).find_map(|stage| self.own_failure(stage)) {
+        let (settled, open): (Vec<u16>, Vec<u16>) = self.scopes.within(scope).partition(|stage| self.slots[usize::from(*stage)].is_settled());
+        let is_lost = |stage: &u16| !self.scopes.taken.contains(stage);
+        let mut failures = settled.into_iter().filter(is_lost).filter_map(|stage| self.end_of(stage)?.err());
+        if let Some(error) = failures.find(|error| !error.is_cancelled()) {
             return Left::Nothing(Err(error));
         }
         if open.is_empty() {
             return Left::Nothing(self.end_of_scope(scope));
         }
-        let last: Vec<u16> = open.iter().copied().filter(|stage| !waited.contains(stage)).collect();
+        let last: Vec<u16> = open.iter().copied().filter(is_lost).collect();
         let of = if last.is_empty() { open } else { last };
-        match self.join((who, None), of.len() as u16, &of, Made::without_function(|| "join"), after) {
-            Ok(join) => {
-                self.scopes.joins.insert(join);
-                Left::Open(join)
-            }
-            Err(why) => Left::Nothing(Err(why.into())),
-        }
-    }
-
-    /// The stages behind which others stand.
-    fn waited_stages(&mut self) -> BTreeSet<u16> {
-        let hangs = self.ledger.dependencies();
-        let mut waited: BTreeSet<u16> =
-            hangs.into_iter().flat_map(|Dependencies { sources, target, .. }| sources.into_iter().flatten().chain(target)).collect();
-        waited.extend(self.ledger.relays.iter().map(|followed| followed.stage));
-        waited.extend(self.ledger.waiting_joins().filter(|it| !self.scopes.joins.contains(&it.stage)).flat_map(|it| it.of.iter().copied()));
-        waited
-    }
-
-    /// What a stage failed with, unless it was cancelled.
-    fn own_failure(&self, stage: u16) -> Option<Error> {
-        match self.slots[usize::from(stage)].outcome()? {
-            Outcome::Fault { cause: Cause::Cancelled, .. } | Outcome::Value(_) => None,
-            Outcome::Fault { .. } => self.end_of(stage)?.err(),
-        }
+        let join = self.join((who, None), of.len() as u16, &of, Made::without_function(|| "join"), after);
+        join.map_or_else(|why| Left::Nothing(Err(why.into())), Left::Open)
     }
 
     /// How a scope ended: well, if it is open or has ended with a stage.
     fn end_of_scope(&self, scope: u16) -> Result<(), Error> {
-        let outer = self.scopes.scope_of(scope);
-        let mut ends_with = self.ledger.joins.iter().filter(|it| it.cancels && it.stage == scope && Some(it.of[0]) != outer);
+        let (outer, mut joins) = (self.scopes.scope_of(scope), self.ledger.joins.iter());
+        let is_over = joins.any(|it| it.stage == scope && Some(it.of[0]) != outer && self.slots[usize::from(it.of[0])].is_settled());
         match self.end_of(scope) {
-            Some(Err(Error::Cancelled)) if ends_with.any(|it| self.slots[usize::from(it.of[0])].is_settled()) => Ok(()),
-            Some(Err(error)) => Err(error),
+            Some(Err(error)) if !(is_over && error.is_cancelled()) => Err(error),
             _ => Ok(()),
         }
     }
@@ -157,8 +121,7 @@ impl Core {
     /// Lets a scope end once a stage is settled.
     pub(crate) fn end_scope_with(self: &Arc<Core>, scope: u16, stage: u16) {
         self.change(|inner, after| {
-            inner.ledger.cancel_with(scope, stage).unwrap_or_else(|why| panic_refused(why));
-            inner.show_settled(after);
+            inner.end_by(scope, &[stage], How::IsCancelled, after).unwrap_or_else(|why| panic_refused(why));
         });
     }
 

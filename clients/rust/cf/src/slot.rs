@@ -13,10 +13,8 @@ pub(crate) struct Slot {
     /// The stage from which its value came, or the code of its error.
     number: u16,
     told: SlotState,
-    /// Whether it has an [`Extra`](crate::inner::Extra).
+    /// Whether it may have an [`Extra`](crate::inner::Extra), or ends by others of its request.
     pub(crate) has_extra: bool,
-    /// Whether it follows another stage of its request.
-    pub(crate) follows: bool,
 }
 
 /// A stage's function, and then what it returned.
@@ -77,7 +75,7 @@ impl Slot {
             Some(call) => Held::Call(call),
             None => Held::Nothing,
         };
-        Slot { held, made, number: 0, told: SlotState::Waits, has_extra: false, follows: false }
+        Slot { held, made, number: 0, told: SlotState::Waits, has_extra: false }
     }
 
     /// Drops what it holds.
@@ -90,10 +88,10 @@ impl Slot {
         }
     }
 
-    /// Whether settling it takes more than keeping the outcome: it still has its function, or an extra.
+    /// Whether settling it takes more than keeping the outcome: it still has its function, or more.
     #[inline]
     pub(crate) fn needs_more_than_outcome(&self) -> bool {
-        self.has_extra || self.follows || matches!(self.held, Held::Call(_))
+        self.has_extra || matches!(self.held, Held::Call(_))
     }
 
     #[inline]

@@ -241,7 +241,7 @@ impl<'a> Reading<'a> {
             it.read(place, word::decode(done.word), done.reply, &mut running);
             it.ends.extend(done.settled);
         }
-        let waited = it.shapes.iter().flat_map(|(_, of)| of.clone()).chain(history.relayed_stages());
+        let waited = it.shapes.iter().flat_map(|(_, of)| of.clone()).chain(history.joins().flat_map(|it| it.of.iter().copied()));
         let inner: Vec<u16> = waited.chain(history.scopes().iter().copied()).collect();
         inner.into_iter().for_each(|stage| it.inner[usize::from(stage)] = true);
         it

@@ -8,7 +8,7 @@ use super::moves::{Place, Who};
 use super::stored::Sharing;
 use crate::core::Core;
 use crate::error::Error;
-use crate::ledger::{replay, Replayed};
+use crate::ledger::{replay, How, Joined, Replayed};
 use crate::task::Polling;
 use crate::value::{CallArgs, Returned, StageFn, Val};
 use crate::word::{self, ATTACH, CLAIM, FINISH, LINKS};
@@ -43,8 +43,8 @@ pub(crate) struct OpenedRequest {
     /// The moment of its clock, in nanoseconds.
     pub(crate) now: u64,
     pub(crate) timers_made: u32,
-    /// How many events, relays and joins were looked at.
-    seen: (usize, usize, usize),
+    /// How many events and joins were looked at.
+    seen: (usize, usize),
 }
 
 /// What may come from outside.
@@ -234,7 +234,7 @@ impl State {
 
     pub(crate) fn add_request(&mut self, core: Arc<Core>) {
         self.touch(Thing::Open, Access::Changes);
-        self.requests.push(OpenedRequest { core, is_dirty: false, ready: Vec::new(), now: 0, timers_made: 0, seen: (0, 0, 0) });
+        self.requests.push(OpenedRequest { core, is_dirty: false, ready: Vec::new(), now: 0, timers_made: 0, seen: (0, 0) });
     }
 
     pub(crate) fn request(&mut self, number: u16) -> &mut OpenedRequest {
@@ -290,21 +290,26 @@ impl State {
     }
 
     fn scan_request(&mut self, number: u16) {
-        let (events, relays, joins) = self.request(number).seen;
+        let (events, joins) = self.request(number).seen;
         let core = Arc::clone(&self.request(number).core);
         let mut inner = core.lock();
         let words = inner.ledger.words();
         let stages = inner.slots.len() as u16;
-        let followed = inner.ledger.relays[relays..].to_vec();
         let joined = inner.ledger.joins[joins..].to_vec();
         let ready: Vec<u16> = std::iter::successors(inner.ledger.lowest_ready(0), |stage| inner.ledger.lowest_ready(stage + 1)).collect();
         drop(inner);
-        self.request(number).seen = (words.len(), relays + followed.len(), joins + joined.len());
-        for (stage, of) in joined.iter().flat_map(|it| it.of.iter().map(|of| (it.stage, *of))) {
-            self.behind.add(Place::new(number, stage), Place::new(number, of));
-            self.touch(Thing::Stage(Place::new(number, of)), Access::Reads);
+        self.request(number).seen = (words.len(), joins + joined.len());
+        for Joined { stage, of, how } in joined {
+            let stage = Place::new(number, stage);
+            for other in of.into_iter().map(|other| Place::new(number, other)) {
+                if how == How::Follows {
+                    self.note_link(stage, other);
+                } else {
+                    self.behind.add(stage, other);
+                    self.touch(Thing::Stage(other), Access::Reads);
+                }
+            }
         }
-        followed.iter().for_each(|it| self.note_link(Place::new(number, it.relay), Place::new(number, it.stage)));
         let mut news = Vec::new();
         let replies = if words.len() > events { replay(&words, stages).expect("memory for a ledger") } else { Vec::new() };
         for Replayed { word, reply, settled, .. } in replies.into_iter().skip(events) {
