@@ -2,10 +2,13 @@ package cf.service;
 
 import cf.internal.Layout;
 import java.util.Arrays;
+import java.util.HashMap;
+import java.util.Map;
 import java.util.concurrent.CancellationException;
 import java.util.concurrent.CompletionException;
 import java.util.concurrent.TimeoutException;
 import java.util.concurrent.atomic.AtomicReferenceFieldUpdater;
+import java.util.stream.IntStream;
 
 /**
  * The exceptions of a request: those that codes stand for, and the one that each failed stage is told by. As in CompletableFuture, each stage that
@@ -13,13 +16,11 @@ import java.util.concurrent.atomic.AtomicReferenceFieldUpdater;
  * what is added to one, as a suppressed exception, no other stage is told. The request's lock guards it.
  */
 final class Faults {
-    private static final Fault[] NONE = {};
-
     private final Sources sources;
     private Throwable[] errors = new Throwable[2];
     private int count;
-    /** Of each stage that has failed what it is told by. */
-    private Fault[] stageFaults = NONE;
+    /** Of stages that have failed what they are told by. */
+    private final Map<Integer, Fault> stageFaults = new HashMap<>();
 
     /** What an exception is told by: the stage's outcome, and what functions behind it are called with. */
     static final class Fault {
@@ -90,51 +91,28 @@ final class Faults {
         return count++;
     }
 
-    /** What a stage is told by that was settled so, from now on. */
+    /**
+     * What a stage is told by that was settled so, from now on. Who takes it of a source that wraps passes that on. Others wrap what the source has,
+     * or what their function has thrown.
+     */
     Fault faultOfSettled(int stage, int kind, boolean isWrapped, int code) {
-        if (stage < stageFaults.length && stageFaults[stage] != null) {
-            return stageFaults[stage];
-        }
-        Fault told = isWrapped ? wrappedFault(stage, kind, code) : newFault(kind, code);
-        keep(stage, told);
-        return told;
-    }
-
-    /** What the source of a stage is told by that handles it. */
-    Fault faultOfSource(int stage, int kind, boolean isWrapped, int code) {
-        return faultOfSettled(sources.sourcesOf(stage)[0], kind, isWrapped, code);
+        return stageFaults.computeIfAbsent(stage, none -> {
+            IntStream of = isWrapped ? Arrays.stream(sources.sourcesOf(stage)) : IntStream.empty();
+            Fault its = of.mapToObj(stageFaults::get).filter(each -> isOf(each, kind, code)).findFirst().orElseGet(() -> newFault(kind, code));
+            return isWrapped && !its.isWrapped() ? new Fault(its) : its;
+        });
     }
 
     /** A stage that stands for another one, and is yet to be told, is told by the same, if it fails in the same way. */
     void shareFault(int stage, int kind, int code, Fault other) {
-        if (other != null && isOf(other, kind, code)) {
-            keep(stage, other);
+        if (isOf(other, kind, code)) {
+            stageFaults.put(stage, other);
         }
     }
 
     /** What a failed stage is told by; else null. */
     Fault faultOf(int stage) {
-        return stage < stageFaults.length ? stageFaults[stage] : null;
-    }
-
-    private void keep(int stage, Fault told) {
-        if (stage >= stageFaults.length) {
-            stageFaults = Arrays.copyOf(stageFaults, Math.max(stage + 1, Math.min(Machine.MOST_STAGES, 2 * stageFaults.length)));
-        }
-        stageFaults[stage] = told;
-    }
-
-    /** Who takes it of a source that wraps passes that on. Others wrap what the source has, or what their function has thrown. */
-    private Fault wrappedFault(int stage, int kind, int code) {
-        Fault of = null;
-        for (int source : sources.sourcesOf(stage)) {
-            Fault its = faultOf(source);
-            if (of == null && its != null && isOf(its, kind, code)) {
-                of = its;
-            }
-        }
-        of = of != null ? of : newFault(kind, code);
-        return of.isWrapped() ? of : new Fault(of);
+        return stageFaults.get(stage);
     }
 
     private Fault newFault(int kind, int code) {
@@ -151,8 +129,8 @@ final class Faults {
     }
 
     private boolean isOf(Fault fault, int kind, int code) {
-        return kind == Layout.THROWN ? fault.isCoded && fault.rawError() == errors[code]
-                : !fault.isCoded && fault.isTimeout == (kind == Layout.TIMED_OUT);
+        return fault != null && (kind == Layout.THROWN ? fault.isCoded && fault.rawError() == errors[code]
+                : !fault.isCoded && fault.isTimeout == (kind == Layout.TIMED_OUT));
     }
 
     /** A completion exception. If its cause throws when it is asked for a text, it has none. */

@@ -328,6 +328,7 @@ public final class Flow {
 
     <U> Stage<U> stage(Request request, int number) {
         PlannedStage row = fixedStages[number];
-        return new Stage<>(request, number, row.form, row.function, row.executor == OF_SERVICE ? request.service.executor() : row.executor);
+        boolean isRelay = number + 1 < fixedStages.length && fixedStages[number + 1].form.composes;
+        return new Stage<>(request, number, row.form, isRelay ? Stage.ASIDE : row.function, row.executor == OF_SERVICE ? request.service.executor() : row.executor);
     }
 }

@@ -178,7 +178,7 @@ final class FollowUps implements Watch.Turn {
     static boolean isStopping() {
         Object[] place = CALLING.get();
         FollowUps it = place == null ? null : (FollowUps) place[0];
-        return it != null && (it.calledStage != null ? it.calledStage.readOutcome() != null : it.caller.isSettled(it.called));
+        return it != null && (it.calledStage != null ? it.calledStage.readOutcome() != null : !it.caller.isOpen(it.called));
     }
 
     // For a watch.

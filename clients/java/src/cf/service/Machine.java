@@ -436,13 +436,14 @@ final class Machine {
         accept(link(core().address, waitingWords, 0, relay, stage, NOBODY));
     }
 
-    /** Lets a stage end by others. */
-    void join(int stage, Stage.Join join, int who) {
-        accept(join(core().address, waitingWords, stage, join.wanted, join.of, join.cancels, who));
+    /** Lets a stage end once so many of those have values, or too few can have them still; or cancels it then. */
+    void join(int stage, int wanted, short[] of, boolean cancels, int who) {
+        accept(join(core().address, waitingWords, stage, wanted, of, cancels, who));
     }
 
-    void setDeadline(int stage, Stage.Limit limit) {
-        accept(setDeadline(core().address, waitingWords, stage, limit.moment, limit.hasValue, limit.number));
+    /** Sets a deadline, at which a stage gets the value of a number, or times out. */
+    void setDeadline(int stage, long moment, boolean gives, int number) {
+        accept(setDeadline(core().address, waitingWords, stage, moment, gives, number));
     }
 
     /** Lets time pass up to a moment. */

@@ -115,7 +115,7 @@ public final class Request extends StageFactory implements AutoCloseable {
      *
      * Scopes. A scope is a source, and a stage is put into it by a join that cancels, in the same hold of the lock as its attach, before
      * anybody can claim it (`putIn`). So the machine alone ends what is in a scope. Stage.Extras has the scope, which stages that are attached
-     * behind inherit, and these joins with the others (`setJoin`).
+     * behind inherit.
      *
      * Interrupts. Where the service interrupts, a function that begins is a Running of its stage (`enterFunction`). Whoever settles the stage
      * otherwise stops it once the lock is free.
@@ -126,8 +126,8 @@ public final class Request extends StageFactory implements AutoCloseable {
      *
      * Memory. Where the system refuses memory, an OutOfMemoryError is thrown, and the words that were done by then stand
      * (Machine.throwRefusal). `close` keeps the words in the heap and gives the core to the next request; a later word makes
-     * another core do all words again. Relays and deadlines aren't in the words: the stages that have any (`unwritten`)
-     * know them, and `restoreUnwritten` sets them again. Most likely a request whose stages are all settled isn't needed any
+     * another core do all words again. Relays, joins and deadlines aren't in the words: each stage keeps what tells
+     * the machine of its own (`keepUnwritten`), and `restoreUnwritten` does that again. Most likely a request whose stages are all settled isn't needed any
      * more, so the next such request of its thread has its core given back, too (`publish` notes it, Machine.giveBackLater).
      * Where it is needed nevertheless, it keeps the core that it has then. Cores of requests that nobody can reach are freed by
      * the threads that open the next ones (Freed).
@@ -541,7 +541,7 @@ public final class Request extends StageFactory implements AutoCloseable {
             machine.flush();
             for (int k = 0; k < machine.stages() && !isEndTold; k++) {
                 // A relay that the stage above it doesn't need stays open for good, and a scope until somebody ends it.
-                if (isOpen(k) && !sources().isRelay(k) && !stageAt(k).isAside()) {
+                if (isOpen(k) && stageAt(k).function != Stage.ASIDE) {
                     open.add(stageAt(k));
                 }
             }
@@ -556,18 +556,11 @@ public final class Request extends StageFactory implements AutoCloseable {
         settled.run();
     }
 
-    /** Whether a stage isn't settled. The lock is held. */
-    private boolean isOpen(int number) {
-        if (number < stages.length && stages[number] != null || flow == null || number >= flow.stageCount()) {
-            return number < stages.length && stages[number] != null;
-        }
-        return !machine.isOver() && !machine.isSettled(number);
-    }
-
-    /** Whether a stage of the flow is settled. */
-    boolean isSettled(int number) {
+    /** Whether a stage that has an object, or is of the flow, isn't settled. */
+    boolean isOpen(int number) {
         synchronized (lock()) {
-            return machine.isOver() || machine.isSettled(number);
+            boolean isKnown = number < stages.length && stages[number] != null;
+            return isKnown || flow != null && number < flow.stageCount() && !machine.isOver() && !machine.isSettled(number);
         }
     }
 
@@ -771,7 +764,7 @@ public final class Request extends StageFactory implements AutoCloseable {
         int who = callerNumber();
         Stage<?> join = attachHere(scope, Form.SOURCE, null, null, null, null, false, null);
         setName(join.number, wanted + " of " + of.length);
-        setJoin(join, new Stage.Join(wanted, numbersOf(of), false), who);
+        setJoin(join, wanted, numbersOf(of), false, who);
         joins = joins == null ? new BitSet() : joins;
         joins.set(join.number);
         for (Stage<?> each : of) {
@@ -782,14 +775,11 @@ public final class Request extends StageFactory implements AutoCloseable {
     }
 
     /** Sets a join of this stage, which the caller publishes. The lock is held. */
-    private void setJoin(Stage<?> stage, Stage.Join join, int who) {
-        machine.join(stage.number, join, who);
-        Stage.Extras more = stage.extras();
-        more.joins = more.joins != null ? more.joins : new ArrayList<>(1);
-        more.joins.add(join);
-        countUnwritten(stage); // Also where the machine has just settled it, which is yet to be told.
-        for (int k = 0; watch != null && k < join.of.length; k++) {
-            watch.stageFollows(this, stage.number, join.of[k]);
+    private void setJoin(Stage<?> stage, int wanted, short[] of, boolean cancels, int who) {
+        machine.join(stage.number, wanted, of, cancels, who);
+        keepUnwritten(stage, () -> machine.join(stage.number, wanted, of, cancels, Machine.NOBODY));
+        for (int k = 0; watch != null && k < of.length; k++) {
+            watch.stageFollows(this, stage.number, of[k]);
         }
     }
 
@@ -805,8 +795,7 @@ public final class Request extends StageFactory implements AutoCloseable {
         synchronized (lock()) {
             requireOpen(outer);
             if (machine.hasPlace(1)) {
-                stage = attachHere(outer, Form.SOURCE, null, null, null, null, false, null);
-                stage.extras().isAside = true;
+                stage = attachHere(outer, Form.SOURCE, null, null, Stage.ASIDE, null, false, null);
             }
         }
         if (stage == null) {
@@ -832,10 +821,9 @@ public final class Request extends StageFactory implements AutoCloseable {
     private void putIn(Scope scope, Stage<?> relay, Stage<?> stage, int who, FollowUps followUps) {
         stage.extras().scope = scope;
         if (stage.outcome == null) {
-            setJoin(stage, new Stage.Join(1, new short[] {scope.stage.number}, true), relay == null && followUps != null ? who : Machine.NOBODY);
+            setJoin(stage, 1, new short[] {scope.stage.number}, true, relay == null && followUps != null ? who : Machine.NOBODY);
         }
         if (relay != null) { // It comes second: where the scope ends, the stage is cancelled itself, and not since its relay is.
-            relay.extras().isAside = true;
             putIn(scope, null, relay, who, followUps);
         } else if (followUps != null && stage.outcome == null) {
             publish(followUps, who);
@@ -849,7 +837,7 @@ public final class Request extends StageFactory implements AutoCloseable {
         synchronized (lock()) {
             if (scope.stage.outcome == null) {
                 int who = callerNumber();
-                setJoin(scope.stage, new Stage.Join(1, new short[] {stage.number}, true), who);
+                setJoin(scope.stage, 1, new short[] {stage.number}, true, who);
                 publish(followUps, who);
             } else if (watch != null) {
                 watch.settlingTried(this, scope.stage.number, false);
@@ -862,7 +850,7 @@ public final class Request extends StageFactory implements AutoCloseable {
     List<Stage<?>> openStages(Scope scope) {
         List<Stage<?>> open = new ArrayList<>();
         for (Stage<?> stage : stages) {
-            if (stage != null && !stage.isAside() && scope.holds(stage)) {
+            if (stage != null && stage.function != Stage.ASIDE && scope.holds(stage)) {
                 open.add(stage);
             }
         }
@@ -1024,7 +1012,7 @@ public final class Request extends StageFactory implements AutoCloseable {
         int who = callerNumber();
         Stage<?> relay = null;
         if (form.composes) {
-            relay = new Stage<>(this, machine.stages(), Form.SOURCE, null, null);
+            relay = new Stage<>(this, machine.stages(), Form.SOURCE, Stage.ASIDE, null);
             putStage(relay);
             reserve(who);
             if (watch != null) {
@@ -1211,12 +1199,10 @@ public final class Request extends StageFactory implements AutoCloseable {
             if (stage.outcome != null) {
                 return;
             }
-            Stage.Limit limit = new Stage.Limit(moment, gives, gives ? numberOf(value) : 0);
-            machine.setDeadline(stage.number, limit);
-            Stage.Extras more = stage.extras();
-            more.limits = more.limits != null ? more.limits : new ArrayList<>(1);
-            more.limits.add(limit);
-            countUnwritten(stage);
+            long due = moment;
+            int number = gives ? numberOf(value) : 0;
+            machine.setDeadline(stage.number, due, gives, number);
+            keepUnwritten(stage, () -> machine.setDeadline(stage.number, due, gives, number));
             alarm = alarm != null ? alarm : new Alarm(this);
             alarm.setDue(machine.nextDeadline());
             moment = alarm.missing();
@@ -1261,26 +1247,20 @@ public final class Request extends StageFactory implements AutoCloseable {
         tell(followUps);
     }
 
-    /** Sets relays, joins and deadlines in a machine that was opened again. */
+    /** Tells a machine that was opened again what isn't in the words. */
     private void restoreUnwritten() {
         for (Stage<?> stage : stages) {
             if (stage != null && stage.hasUnwritten()) {
-                if (stage.extras.limits != null) {
-                    stage.extras.limits.forEach(limit -> machine.setDeadline(stage.number, limit));
-                }
-                if (stage.extras.followedStage >= 0) {
-                    machine.follow(stage.number, stage.extras.followedStage);
-                }
-                if (stage.extras.joins != null) {
-                    stage.extras.joins.forEach(join -> machine.join(stage.number, join, Machine.NOBODY));
-                }
+                stage.extras.unwritten.forEach(Runnable::run);
             }
         }
     }
 
-    /** Counts one more relay or deadline of this stage. */
-    private void countUnwritten(Stage<?> stage) {
-        stage.extras().unwritten++;
+    /** Keeps what tells a machine that is opened again one thing more of this stage, which the machine may just have settled. */
+    private void keepUnwritten(Stage<?> stage, Runnable tells) {
+        Stage.Extras more = stage.extras();
+        more.unwritten = more.unwritten != null ? more.unwritten : new ArrayList<>(1);
+        more.unwritten.add(tells);
         unwritten++;
     }
 
@@ -1485,9 +1465,8 @@ public final class Request extends StageFactory implements AutoCloseable {
         if (stage != null) {
             stages[at] = null;
             if (stage.hasUnwritten()) {
-                unwritten -= stage.extras.unwritten;
-                stage.extras.limits = null;
-                stage.extras.joins = null;
+                unwritten -= stage.extras.unwritten.size();
+                stage.extras.unwritten = Collections.emptyList();
             }
             if (told instanceof Fault && stage.scope() != null && !stage.hasJavaDependents()) {
                 stage.scope().addFailed(stage, (Fault) told);
@@ -1502,24 +1481,18 @@ public final class Request extends StageFactory implements AutoCloseable {
         if (kind == Layout.VALUE) {
             return number == Words.NIL ? Stage.NIL : values[number];
         }
-        int followed = followedStage(at);
-        if (followed >= 0) {
-            faults().shareFault(at, kind, number, faults().faultOf(followed));
+        Stage<?> stage = at < stages.length ? stages[at] : null;
+        if (stage != null && stage.extras != null && stage.extras.followedStage >= 0) {
+            faults().shareFault(at, kind, number, faults().faultOf(stage.extras.followedStage));
         }
         return faults().faultOfSettled(at, kind, machine.isWrapped(k), number);
-    }
-
-    /** The stage of this request that a relay follows, or -1. */
-    private int followedStage(int number) {
-        Stage<?> stage = number < stages.length ? stages[number] : null;
-        return stage == null || stage.extras == null ? -1 : stage.extras.followedStage;
     }
 
     /** The exception of a stage's failed source. It may have to be made: no lock is held. */
     Throwable failure(ClaimedCall call) {
         Fault fault;
         synchronized (lock()) {
-            fault = faults().faultOfSource(call.number, call.sourceKind, call.isSourceWrapped, call.failureCode);
+            fault = faults().faultOfSettled(sources().sourcesOf(call.number)[0], call.sourceKind, call.isSourceWrapped, call.failureCode);
         }
         return fault.error();
     }
@@ -1781,7 +1754,7 @@ public final class Request extends StageFactory implements AutoCloseable {
         }
         if (stages[relay.number] == relay) {
             relay.extras().followedStage = own.number;
-            countUnwritten(relay); // Also where the machine has just settled it, which is yet to be told.
+            keepUnwritten(relay, () -> machine.follow(relay.number, own.number));
         }
         return null;
     }
@@ -1794,10 +1767,7 @@ public final class Request extends StageFactory implements AutoCloseable {
 
     /** The source below a composing stage, which stands for what its function gives. */
     private Stage<?> relayOf(int number) {
-        if (flow != null && number < flow.stageCount()) {
-            return stageAt(number - 1);
-        }
-        Stage<?> relay = stages[number - 1];
+        Stage<?> relay = stageAt(number - 1);
         return relay != null ? relay : new Stage<>(this, number - 1, Form.SOURCE, null, null);
     }
 

@@ -208,7 +208,7 @@ public final class Scope extends StageFactory implements AutoCloseable {
 
     /** A stage of it fails. The request's lock is held. */
     void addFailed(Stage<?> stage, Fault fault) {
-        if (!stage.isAside() && !(fault.rawError() instanceof CancellationException)) {
+        if (stage.function != Stage.ASIDE && !(fault.rawError() instanceof CancellationException)) {
             failed.add(stage);
         }
     }
@@ -220,10 +220,7 @@ public final class Scope extends StageFactory implements AutoCloseable {
 
     /** Whether a stage is of it, or of a scope within it. */
     boolean holds(Stage<?> stage) {
-        Scope at = stage.scope();
-        while (at != null && at != this) {
-            at = at.outer;
-        }
-        return at != null;
+        Scope its = stage.scope();
+        return its == this || its != null && holds(its.stage);
     }
 }

@@ -68,6 +68,9 @@ import java.util.function.Supplier;
  * <p>{@code CompletableFuture.allOf(stage, ..)} and other classes of the JDK work on stages, and what they attach isn't in the history.
  */
 public class Stage<T> extends Waits<T> {
+    /** The function of a source that stands for a scope, or for what a function gives: nobody waits for its end. */
+    static final Object ASIDE = new Object();
+
     final Request request;
     final short number;
     final Form form;
@@ -83,46 +86,16 @@ public class Stage<T> extends Waits<T> {
         /** Relays of other requests that are settled as this stage is. */
         Link.Chain outsideLinks;
         Observer observers;
-        /** How many relays, joins and deadlines of it the machine has. */
-        int unwritten;
-        /** What isn't in the words: deadlines and joins, in the order in which they were set, and the stage that it follows, or -1. */
-        List<Limit> limits;
-        List<Join> joins;
+        /** Tell the machine again what isn't in the words, its deadlines, its joins and what it follows; none once it is settled. */
+        List<Runnable> unwritten;
+        /** The stage that it follows, or -1. */
         int followedStage = -1;
         /** The scope that it is of, or null. */
         Scope scope;
-        /** Whether it stands for a scope, or for what a function gives: nobody waits for its end. */
-        boolean isAside;
         /** Whether somebody has got its exception. */
         volatile boolean isTaken;
         /** Its function, while that can be interrupted. */
         Running running;
-    }
-
-    /** It ends once so many of these have values, or too few can have them still; or it is cancelled then. */
-    static final class Join {
-        final int wanted;
-        final short[] of;
-        final boolean cancels;
-
-        Join(int wanted, short[] of, boolean cancels) {
-            this.wanted = wanted;
-            this.of = of;
-            this.cancels = cancels;
-        }
-    }
-
-    /** A deadline: with a value's number, or as timed out, with a code. */
-    static final class Limit {
-        final long moment;
-        final boolean hasValue;
-        final int number;
-
-        Limit(long moment, boolean gives, int number) {
-            this.moment = moment;
-            this.hasValue = gives;
-            this.number = number;
-        }
     }
 
     Stage(Request request, int number, Form form, Object function, Executor executor) {
@@ -153,21 +126,16 @@ public class Stage<T> extends Waits<T> {
         return request.lock();
     }
 
-    /** Whether the machine has relays, joins or deadlines of it, which aren't in the words. */
+    /** Whether the machine has had deadlines or joins of it, or it followed a stage, which isn't in the words. */
     final boolean hasUnwritten() {
         Extras it = extras;
-        return it != null && it.unwritten > 0;
+        return it != null && it.unwritten != null;
     }
 
     /** The scope that it is of, or null. Stages behind it are of it, too. */
     final Scope scope() {
         Extras it = extras;
         return it == null ? null : it.scope;
-    }
-
-    final boolean isAside() {
-        Extras it = extras;
-        return it != null && it.isAside;
     }
 
     /** Somebody has got its outcome: if it is an exception, nobody else has to be told of that. */

@@ -77,6 +77,15 @@ final class EndsTest {
             request.close();
             is(told.poll(60, TimeUnit.SECONDS), name);
         }
+        Flow flow = new Flow("begun");
+        Flow.Step<Integer> first = flow.promise();
+        List<Stage<Integer>> given = new ArrayList<>();
+        first.thenCompose(x -> given.get(0));
+        Request begun = service.start(flow);
+        given.add(begun.stage(first));
+        given.get(0).complete(1);
+        begun.close();
+        is(told.poll(60, TimeUnit.SECONDS), "begun");
         Request request = service.request("elsewhere");
         CompletableFuture<Integer> elsewhere = new CompletableFuture<>();
         Stage<Integer> composed = request.completedFuture(1).thenCompose(x -> elsewhere);

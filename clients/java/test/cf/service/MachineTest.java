@@ -199,7 +199,7 @@ final class MachineTest {
             Words.failAs(WHO, 2, Words.TIMED_OUT, 0), Words.failAs(WHO, 2, Words.BAD_ANSWER, 7)}) {
             machine.apply(word, Machine.NOBODY);
         }
-        machine.setDeadline(3, new Stage.Limit(9, false, 8));
+        machine.setDeadline(3, 9, false, 8);
         machine.passTimeTo(9, Machine.NOBODY);
         is(machine.settledCount() + " " + machine.settledKind(0) + " " + machine.settledNumber(0), "1 " + Layout.TIMED_OUT + " 8");
         String[] threads = {"main"};
