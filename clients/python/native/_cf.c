@@ -52,6 +52,7 @@ enum { KEPT = 1024, FEW = 4, LARGE_KEPT = 32, MOST_KEPT = 256 };
 /* The kinds of words; and how a stage is failed with a bad answer, which is a FAIL_AS, too. */
 enum { COMPLETE = 1, FAIL = 2, CANCEL = 3, CLAIM = 4, FINISH = 5, ATTACH = 7, FAIL_AS = 8, FAIL_BADLY = 9 };
 enum { GIVING = 1, RAISING = 2, LINKING = 3 }; /* how a stage is finished: GIVES, THROWS and LINKS of words.py */
+enum { JOIN = 1, SCOPE = 2 }; /* for what a stage may stand, which nobody waits for by itself then: JOIN of words.py, or a scope */
 #define KIND(kind) ((uint64_t)(kind) << 56)
 #define WHO(who) ((uint64_t)(who) << 48)
 #define OF(stage) ((uint64_t)(stage) << 36)
@@ -103,7 +104,7 @@ typedef struct {
   uint16_t next_settled, scope, by;
   uint8_t form;
   bool running, stops; /* whether its function runs, and whether it still did as the stage was told */
-  uint8_t aid;         /* whether it stands for a join or a scope, as words.py has these: nobody waits for it by itself */
+  uint8_t aid;         /* JOIN or SCOPE where it stands for one */
   bool is_taken;       /* whether somebody takes its failure over: a stage behind it, or who asked for its result */
   PyObject *stage;
 } Row;
@@ -1213,6 +1214,7 @@ static PyObject *Request_join(Request *self, PyObject *const *args, Py_ssize_t n
   size_t many = (size_t)PyBytes_Size(args[2]) / sizeof *of;
   News news = NO_NEWS;
   self->counts = true;
+  if (!joining.cancels) self->rows[stage].aid = JOIN;
   uint32_t code = flush(self);
   if (!code) code = cf_request_join(self->machine, &joining, of, many, TELLING);
   if (!code) note(self, 0, &news);
@@ -1220,13 +1222,11 @@ static PyObject *Request_join(Request *self, PyObject *const *args, Py_ssize_t n
   return told_or_refused(self, code, news);
 }
 
-/* _set_aside(stage, aid): a stage stands for a join or a scope. _aid_of(stage): for what it stands. */
-static PyObject *Request_set_aside(Request *self, PyObject *const *args, Py_ssize_t n) {
-  if (n != 2) return PyErr_Format(PyExc_TypeError, "_set_aside takes 2");
-  int stage = stage_in(self, args[0]);
-  long aid = stage < 0 ? -1 : number_below(args[1], UINT8_MAX, "aid");
-  if (aid < 0) return NULL;
-  self->rows[stage].aid = (uint8_t)aid;
+/* _set_aside(stage): a stage stands for a scope. _aid_of(stage): for what it stands, JOIN or SCOPE, or 0. */
+static PyObject *Request_set_aside(Request *self, PyObject *number) {
+  int stage = stage_in(self, number);
+  if (stage < 0) return NULL;
+  self->rows[stage].aid = SCOPE;
   Py_RETURN_NONE;
 }
 static PyObject *Request_aid_of(Request *self, PyObject *number) {
@@ -1293,25 +1293,21 @@ static PyObject *Request_look_within(Request *self, PyObject *number) {
   if (scope < 0 || leave_to_parent(self)) return NULL;
   uint32_t code = flush(self);
   if (code) return refused(self, code);
-  uint16_t failed[MOST];
-  size_t many = 0;
+  PyObject *failed = PyList_New(0);
   bool is_open = false, is_cancelled = false;
-  for (uint32_t i = (uint32_t)scope; i < self->stages; i++) {
+  for (uint32_t i = (uint32_t)scope; failed && i < self->stages; i++) {
     const Row *row = &self->rows[i];
+    const uint32_t kind = row->told.kind;
     bool is_relay = i + 1 < self->stages && composes(row[1].form);
     if (row->aid || is_relay || !is_within(self, i, (uint32_t)scope)) continue;
-    is_open |= !row->told.kind;
-    is_cancelled |= row->told.kind == CF_CANCELLED;
-    bool has_failed = row->told.kind && row->told.kind != CF_VALUE && row->told.kind != CF_CANCELLED;
-    if (has_failed && !row->is_taken && !is_claimed(self, row->by)) failed[many++] = (uint16_t)i;
+    is_open |= !kind;
+    is_cancelled |= kind == CF_CANCELLED;
+    if (!kind || kind == CF_VALUE || kind == CF_CANCELLED || row->is_taken || is_claimed(self, row->by)) continue;
+    PyObject *one = PyLong_FromLong((long)i);
+    if (!one || PyList_Append(failed, one)) Py_CLEAR(failed);
+    Py_XDECREF(one);
   }
-  PyObject *list = PyList_New((Py_ssize_t)many);
-  for (size_t k = 0; list && k < many; k++) {
-    PyObject *one = PyLong_FromLong(failed[k]);
-    if (one) PyList_SetItem(list, (Py_ssize_t)k, one);
-    else Py_CLEAR(list);
-  }
-  return list ? Py_BuildValue("(OON)", is_open ? Py_True : Py_False, is_cancelled ? Py_True : Py_False, list) : NULL;
+  return failed ? Py_BuildValue("(OON)", is_open ? Py_True : Py_False, is_cancelled ? Py_True : Py_False, failed) : NULL;
 }
 
 /* _deadline(stage, moment, is_value, number): by this moment the stage gets the value of this number, or fails with the
@@ -1460,7 +1456,7 @@ static PyMethodDef request_methods[] = {{"_attach", FAST(Request_attach), METH_F
     {"_take_turns_back", (PyCFunction)Request_take_turns_back, METH_NOARGS, "Takes all turns back."},
     {"_follow_within", FAST(Request_follow), METH_FASTCALL, "Lets a stage end as another does."},
     {"_join_within", FAST(Request_join), METH_FASTCALL, "Lets a stage end by others."},
-    {"_set_aside", FAST(Request_set_aside), METH_FASTCALL, "Nobody waits for a stage by itself."},
+    {"_set_aside", (PyCFunction)Request_set_aside, METH_O, "Nobody waits for a stage by itself."},
     {"_aid_of", (PyCFunction)Request_aid_of, METH_O, "Whether a stage stands for a join or a scope."},
     {"_put_all_in", (PyCFunction)Request_put_all_in, METH_O, "Puts all later stages into a scope."},
     {"_scope_of", (PyCFunction)Request_scope_of, METH_O, "The scope of a stage."},

@@ -160,7 +160,6 @@ class RequestCore(_cf.RequestCore):
 
     def _join(self, stage: "Stage[Any]", wanted: int, of: "Sequence[Stage[Any]]") -> None:
         """Lets a stage end once so many of these have values, or too few can have them still."""
-        self._set_aside(stage.number, JOIN)
         self._join_within(stage.number, wanted, array("H", [source.number for source in of]).tobytes(), False)
 
     def _end_with(self, scope: "Stage[Any]", stage: "Stage[Any]") -> None:
@@ -170,9 +169,7 @@ class RequestCore(_cf.RequestCore):
     def _is_within(self, number: int, scope: int) -> bool:
         """Whether a stage is of a scope or of one within it."""
         its = self._scope_of(number)
-        while its is not None and its > scope:
-            its = self._scope_of(its)
-        return its == scope
+        return its == scope or its is not None and self._is_within(its, scope)
 
     def _failures_within(self, scope: int) -> Optional[List[BaseException]]:
         """The exceptions of the stages within a scope that failed and that nobody takes over; none once all are settled, and
@@ -283,8 +280,7 @@ class RequestCore(_cf.RequestCore):
         return found
 
     def _facts(self) -> "Tuple[array[int], array[int], List[str], List[Any], List[Optional[BaseException]]]":
-        """The words, the time of each in nanoseconds, and names, values and errors. Words that the machine did to a
-        relay or a join by itself, and those by which a scope's end cancels, have RELAY as caller."""
+        """The words, the time of each in nanoseconds, and names, values and errors."""
         words, times = array("Q", self._words()), array("q", self._times)
         del words[len(times) :]
         forms = [row[0] for row in (() if self._plan is None else self._plan.rows)]
@@ -292,12 +288,16 @@ class RequestCore(_cf.RequestCore):
         late = {word & 0xFFFFFFFF for word in words if word >> 56 == FAIL_AS}
         errors = [it if type(it) is not Limit else it.error_in(self) if number in late else None for number, it in enumerate(self._errors)]
         facts = words, times[: len(words)], self._names[: len(forms)], self._values[:], errors
+        self._name_relays(words, forms)
+        return facts
+
+    def _name_relays(self, words: "array[int]", forms: List[int]) -> None:
+        """Has RELAY as the caller of words that the machine did to a relay or a join, and of those by which a scope's end cancels."""
         for place, word in enumerate(words):
             stage = word >> 36 & 0xFFF
             is_own = word >> 48 & 0xFF == CLOCK
             if is_own and (word >> 56 == CANCEL or self._aid_of(stage) == JOIN or any(it in COMPOSE_FORMS for it in forms[stage + 1 : stage + 2])):
                 words[place] = word ^ (CLOCK ^ RELAY) << 48
-        return facts
 
 
 class StageCore(_cf.StageCore):

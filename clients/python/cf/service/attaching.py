@@ -8,7 +8,7 @@ from ..values import Form
 from .failures import fail_together, results, values_or_failures
 from .relays import Hold, let_go_with
 from .retrying import Tries
-from .words import SCOPE, name_of
+from .words import name_of
 
 if TYPE_CHECKING:
     from typing_extensions import ParamSpec
@@ -214,7 +214,7 @@ class Attaching:
         if timeout is not None and math.isnan(timeout):
             raise ValueError("a time limit can't be NaN")
         stage = self._attach(Form.SOURCE, None, None, None, None, None, name)
-        stage.request._set_aside(stage.number, SCOPE)
+        stage.request._set_aside(stage.number)
         try:
             return self._scope_class(stage if timeout is None else stage.or_timeout(timeout))
         except BaseException:  # nobody has a clock for it

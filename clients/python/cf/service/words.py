@@ -28,7 +28,7 @@ NEVER = 2**64 - 1  # the moment of the next deadline where there is none
 # The callers in a history (docs/FORMATS.md, "Callers"). THIS_THREAD is whichever this thread is.
 THIS_THREAD, CLIENT, CLOCK, RELAY, FIRST_WORKER, MOST_CALLERS = -1, 0, 1, 2, 3, 64
 
-JOIN, SCOPE = 1, 2  # for what a stage may stand that nobody waits for by itself
+JOIN = 1  # what `_aid_of` answers of a stage that stands for a join; any number but 0 means that nobody waits for it by itself
 
 FORMS = (
     "source",

@@ -803,9 +803,8 @@ class Cores(CoreCase):
             lambda: core._scope_of(7),
             lambda: core._look_within(7),
             lambda: core._put_all_in(7),
-            lambda: core._set_aside(7, 1),
-            lambda: core._set_aside(number, -1),
-            lambda: core._set_aside(number),
+            lambda: core._set_aside(7),
+            lambda: core._set_aside(-1),
             lambda: core._aid_of("0"),
         ):
             with self.assertRaises((TypeError, ValueError, IndexError)):
