@@ -464,7 +464,7 @@ def rows_of_mutants(tools: Tools, made: Path) -> List[Row]:
             ["mypy", "python3"],
             [
                 ["env", "MYPYPATH=sweeps/mutants:.", *typed, *its]
-                for its in [["sweeps/mutants/try", "sweeps/mutants/mutating"], ["sweeps/edits/clients"]]
+                for its in [["sweeps/mutants/try", "sweeps/mutants/mutating"], ["sweeps/edits/clients"], ["clients/engines/generate"]]
             ],
         ),
     ]
@@ -501,6 +501,7 @@ def rows(tools: Tools, made: Path, is_gate: bool) -> List[Row]:
         Row("the edits of the crates, read", ["python3"], [["sweeps/edits/crates", "--read"]]),
         Row("the edits that spoil the clients, read", ["python3"], [["sweeps/edits/clients", "--read"]]),
         Row("the lines of clients that answer what the library knows", ["python3"], [["sweeps/boundary"]]),
+        Row("what the clients ask of engines, as it is generated", ["python3"], [["clients/engines/generate", "--check"]]),
         *rows_of_mutants(tools, made),
         *rows_of_lint(),
         Row("rows that fail", ["python3"], [[tools["python3"], "-m", "unittest", "checking.test_running"]]),

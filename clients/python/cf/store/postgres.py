@@ -7,83 +7,13 @@ import threading
 import time
 from typing import Any, Dict, Generator, Iterator, List, Mapping, NoReturn, Optional, Sequence, Set, Tuple
 
-from .rows import FIRST, Broken, Entry, Glance, Opened, Pulse, Put, ReadRow, StoreError, Timer, Transaction, Unknown, RowQuery, in_a_row
-from .tables import ANEW, COLUMNS, GLANCED, TableStore, _Mark, _opens, _Other
+from . import postgres_sql as sql
+from .rows import HEAD, Broken, Entry, Glance, OpenRequest, Opened, Pulse, Put, ReadRow, StoreError, Timer, Transaction, Unknown, RowQuery, in_a_row
+from .tables import ANEW, TableStore, _Mark, _opens, _Other
 
 psycopg2: Any = importlib.import_module("psycopg2")  # (its types are installed on some machines only)
 errors: Any = importlib.import_module("psycopg2.errors")
 
-SCHEMA = """
-    create table if not exists cf_request (id bigserial primary key, name text not null unique, plan text not null,
-        opened double precision not null, closed double precision, made_by xid8 not null default pg_current_xact_id());
-    create index if not exists cf_request_open on cf_request (made_by) where closed is null;
-    create table if not exists cf_word (request bigint, at int, word bigint not null, token bigint not null,
-        payload bytea, made_by xid8 not null default pg_current_xact_id(), primary key (request, at));
-    create index if not exists cf_word_made_by on cf_word (made_by);
-    create table if not exists cf_beat (session bigint primary key, count bigint not null);
-    create table if not exists cf_timer (request bigint, stage int, due double precision not null,
-        payload bytea not null, primary key (request, stage));
-    create index if not exists cf_timer_due on cf_timer (due);
-    create table if not exists cf_glance (request bigint primary key, words int not null, said text not null);
-    create table if not exists cf_name (request bigint, session bigint, name text not null,
-        primary key (request, session));
-"""
-# (Where all are there, none is made: an index that is made waits for open transactions, and all puts wait for it.)
-PARTS = re.findall(r"if not exists (\w+)", SCHEMA)
-NOW = "extract(epoch from clock_timestamp())::double precision"
-WORDS_PUT = "pg_stat_get_tuples_inserted('cf_word'::regclass)"
-MARK = "select pg_snapshot_xmin(pg_current_snapshot())::text::bigint"
-SET_UP = 6_318_042  # the number of the lock under which tables are made
-# With the request's number, that of the lock under which it is closed and opened again. A statement of its own takes
-# it, so that the next one sees all that stands by then: who closes it sees the words of all that have opened it again,
-# and who opens it again sees that it was closed.
-CLOSING = 6_318_043
-# Who puts has the request's row until the put stands, so that nobody drops it meanwhile, and finds none where another
-# has dropped it. Whoever else puts, or closes the request, isn't kept waiting by that.
-THERE = "(select id from cf_request where id = {} for key share) as there"
-PREPARED = f"""
-    prepare cf_put(bigint, int, bigint, bigint, bytea) as
-        insert into cf_word select id, $2, $3, $4, $5 from {THERE.format("$1")} on conflict do nothing;
-    prepare cf_one(bigint, int, bigint, bigint, bytea) as
-        insert into cf_word select id, $2, $3, $4, $5 from {THERE.format("$1")};
-    prepare cf_two(bigint, int, bigint, bigint, bytea, bigint, bigint, bytea) as insert into cf_word
-        select id, v.* from {THERE.format("$1")}, (values ($2, $3, $4, $5), ($2 + 1, $6, $7, $8)) as v;
-    prepare cf_read(bigint, int) as select at, word, token from cf_request
-        left join cf_word on request = id and at >= $2 where id = $1 order by at;
-    prepare cf_closing(int) as select pg_advisory_xact_lock({CLOSING}, $1);
-    prepare cf_open(bigint) as with opened as (update cf_request set closed = null, made_by = pg_current_xact_id()
-        where id = $1 and closed is not null) select 1 from cf_request where id = $1;
-"""
-PUT_ONE, PUT_TWO = "execute cf_one(%s, %s, %s, %s, %s)", "execute cf_two(%s, %s, %s, %s, %s, %s, %s, %s)"
-HAS = "(select coalesce(max(at) + 1, 0) from cf_word where request = id) = %s"  # so many words
-PUT_ALL = (
-    "insert into cf_word select id, at, word, token, payload from (select v.*, id "
-    "from (values %s) as v(request, at, word, token, payload) join cf_request on id = request "
-    "for key share of cf_request) as there"
-)
-SMALL = 512  # bytes of a payload that comes along with its word
-ROWS = (
-    "select r.id, null::int, null::bigint, null::bigint, null::bytea, name, opened, "
-    "case when v.at = 0 then plan end from unnest(%s::bigint[], %s::int[]) as v(id, at) "
-    "join cf_request r on r.id = v.id union all "
-    f"select request, w.at, word, token, case when octet_length(payload) <= {SMALL} then payload end, null, null, "
-    "null from unnest(%s::bigint[], %s::int[]) as v(id, at) join cf_word w on request = v.id and w.at >= v.at"
-)
-# What is other in a list since a mark, by what was put since then; and by all that are open. (The mark stands in each
-# place as a number: else whole tables are read, since as many rows are reckoned with as stand there.)
-SOME_OTHER = (
-    f"select ({MARK}), null, null::double precision, null::int, null, null::int, null, 'mark' union all "
-    "select request, null, null, max(at) + 1, null, null, null, 'longer' from cf_word "
-    "where made_by >= %s::xid8 group by request union all "
-    f"select {COLUMNS}, 'told' from {GLANCED} where r.closed is null and r.made_by >= %s::xid8"
-)
-ALL_OTHER = (
-    f"{SOME_OTHER} union all select null, null, null, null, null, null, string_agg(id::text, ','), 'open' "
-    f"from cf_request where closed is null union all select {COLUMNS}, 'told' from (select id "
-    f"from cf_request where closed is null and id > %s order by id limit {ANEW}) as anew, {GLANCED} "
-    "where r.id = anew.id"
-)
-SAFE = {"fsync": ("on",), "full_page_writes": ("on",), "transaction_read_only": ("off",)}
 # A network that lets nothing through is told after 20 s: else a call would wait for many minutes.
 NOTICES_SILENCE = {"tcp_user_timeout": 20_000, "keepalives_idle": 10, "keepalives_interval": 5, "keepalives_count": 2}
 LEAST_BETWEEN = 0.01  # seconds between two notices: the first goes at once
@@ -99,13 +29,7 @@ class Postgres(TableStore):
     whole database. That connection doesn't wait for the disk, since a notice that a crash has lost was for nobody."""
 
     is_transactional = True
-    VALUE, HAS_PART = "%s", "position(lower(%s) in lower(name)) > 0"
-    # (Materialized, it goes through the open ones alone, and not through all by their names.)
-    FIRST_OPEN = (
-        "with opened as materialized (select id, name from cf_request where closed is null) "
-        "select id, (select count(*) from opened) as many from opened "
-        f'order by name collate "C" limit {FIRST}'
-    )
+    SQL = sql
 
     def __init__(self, address: str, is_unsafe: bool = False) -> None:
         super().__init__()
@@ -118,12 +42,10 @@ class Postgres(TableStore):
         self._lock = threading.Lock()
         with self._telling(), contextlib.ExitStack() as undone:
             cursor = undone.enter_context(contextlib.closing(self._connected())).cursor()
-            cursor.execute("select count(to_regclass(name)) from unnest(%s) as name", [PARTS])
-            if cursor.fetchone()[0] < len(PARTS):
-                cursor.execute(f"select pg_advisory_lock({SET_UP})")  # (two that make a table at once are refused)
-                cursor.execute(SCHEMA)
-                cursor.execute(f"select pg_advisory_unlock({SET_UP})")
-            cursor.execute(PREPARED)
+            cursor.execute(sql.IS_MADE)
+            if not cursor.fetchone()[0]:
+                cursor.execute(sql.SCHEMA)
+            cursor.execute(sql.PREPARED)
             self._free.append(cursor)
             undone.pop_all()
         self._is_made = True
@@ -135,17 +57,15 @@ class Postgres(TableStore):
         try:
             db.autocommit = True
             with db.cursor() as cursor:
-                names = [*SAFE, "synchronous_commit"]
-                cursor.execute("select " + ", ".join(f"current_setting('{name}')" for name in names))
-                found = dict(zip(names, cursor.fetchone()))
-                for name, wanted in {} if self._is_unsafe else SAFE.items():
-                    if found[name] not in wanted:
-                        is_away = self._is_made and name == "transaction_read_only"
-                        raise (Unknown if is_away else StoreError)(
-                            f"{db.info.host}:{db.info.port}: {name} is {found[name]}, with which words are lost or can't be put"
-                        )
-                if self._is_unsafe or found["synchronous_commit"] in ("off", "local"):
-                    cursor.execute(f"set synchronous_commit = {'off' if self._is_unsafe else 'on'}")
+                if self._is_unsafe:
+                    cursor.execute(sql.ANSWER_AT_ONCE)
+                    return db
+                cursor.execute(f"{sql.ANSWER_FROM_DISK}; {sql.UNSAFE_SETTINGS}")
+                for name, found in cursor.fetchall():
+                    is_away = self._is_made and name == "transaction_read_only"
+                    raise (Unknown if is_away else StoreError)(
+                        f"{db.info.host}:{db.info.port}: {name} is {found}, with which words are lost or can't be put"
+                    )
             return db
         except BaseException:
             db.close()
@@ -158,8 +78,9 @@ class Postgres(TableStore):
         except psycopg2.Error as error:
             _tell(error)
 
-    def _do(self, statement: str, values: Sequence[Any]) -> Tuple[int, List[Tuple[Any, ...]]]:
-        """How many rows a statement changed or gave, and those that it gave. A connection that is lost is let go."""
+    def _do(self, statement: str, **values: Any) -> Tuple[int, List[Tuple[Any, ...]]]:
+        """How many rows a statement changed or gave, and those that it gave; `_Taken` where something stands in its
+        place. A connection that is lost is let go."""
         try:
             cursor = self._free.pop()
         except IndexError:
@@ -167,13 +88,13 @@ class Postgres(TableStore):
         try:
             if cursor is None:
                 cursor = self._connected().cursor()
-                cursor.execute(PREPARED)
-            cursor.execute(statement, values)
+                cursor.execute(sql.PREPARED)
+            cursor.execute(statement, values or None)
             return cursor.rowcount, cursor.fetchall() if cursor.description else []
-        except errors.UniqueViolation:  # a place that is taken
-            raise
         except psycopg2.Error as error:
-            if cursor is not None and _is_lost(error):
+            if (error.pgcode or "").startswith(sql.TAKEN):
+                raise _Taken(str(error).strip()) from None
+            if cursor is not None and _is_away(error):
                 with contextlib.suppress(psycopg2.Error):
                     cursor.connection.close()
             _tell(error)
@@ -183,33 +104,24 @@ class Postgres(TableStore):
                 if self._is_closed:
                     cursor.connection.close()
 
-    def _ask(self, statement: str, *values: Any) -> List[Tuple[Any, ...]]:
-        return self._do(statement, values)[1]
+    def _ask(self, statement: str, **values: Any) -> List[Tuple[Any, ...]]:
+        return self._do(statement, **values)[1]
 
     # Requests.
 
     def open(self, name: str, plan: str) -> Opened:
         found = self.find(name)
         while found is None:  # (it may be dropped meanwhile)
-            self._ask(f"insert into cf_request (name, plan, opened) values (%s, %s, {NOW}) on conflict do nothing", name, plan)
+            self._ask(sql.OPEN, name=name, plan=plan)
             found = self.find(name)
         return found
 
     def news(self, mark: Any) -> Tuple[Dict[str, int], Any]:
-        # All transactions below the mark had ended when it was read, so what they did was told.
         if mark is None:
-            ((at,),) = self._ask(MARK)
+            at = self._mark()  # (first: what comes between is told once more)
             return self.ends(), at
-        rows = self._ask(
-            f"select null, ({MARK}) union all "
-            "select name, 0 from cf_request where closed is null and made_by >= %s::text::xid8 union all "
-            "select name, case when closed is null then max(at) + 1 else -1 end from cf_word w "
-            "join cf_request on id = request where w.made_by >= %s::text::xid8 group by name, closed",
-            str(mark),
-            str(mark),
-        )
         told: Dict[str, int] = {}
-        for name, many in rows:
+        for name, many in self._ask(sql.NEWS, since=str(mark)):
             if name is None:
                 mark = int(many)
             else:
@@ -217,14 +129,14 @@ class Postgres(TableStore):
         return told, mark
 
     def _mark(self) -> int:
-        return int(self._ask(MARK)[0][0])
+        return int(self._ask(sql.MARK)[0][0])
 
     def _other(self, mark: _Mark, is_all: bool) -> _Other:
         longer, told, at = {}, [], 0
         numbers: Optional[Set[int]] = None
-        since = str(mark.words)
+        anew = {"turn": mark.turn, "most": ANEW} if is_all else {}
         for number, name, opened, many, head, words, said, kind in self._ask(
-            ALL_OTHER if is_all else SOME_OTHER, since, since, *([mark.turn] if is_all else [])
+            sql.ALL_OTHER if is_all else sql.SOME_OTHER, since=str(mark.words), head=HEAD, **anew
         ):
             if kind == "mark":
                 at = int(number)
@@ -240,46 +152,21 @@ class Postgres(TableStore):
         missed = numbers - mark.names.keys() - {it.number for it in opened}
         return _Other(longer, at, numbers, opened + self._opened(list(missed)), self._anew(numbers, mark.turn)[1])
 
+    def _opened(self, numbers: Sequence[int]) -> List[OpenRequest]:
+        return _opens(self._ask(sql.OPENED, head=HEAD, requests=list(numbers)))
+
     def end(self, name: str, at: int, number: int = 0) -> bool:
-        number = number or self._id(name)
-        told = self._ask(
-            "execute cf_closing(%s); "
-            f"with closed as (update cf_request set closed = {NOW} "
-            f"where id = %s and closed is null and {HAS} returning id), "
-            "timers as (delete from cf_timer where request in (select id from closed)), "
-            "glances as (delete from cf_glance where request in (select id from closed)) "
-            "select exists (select 1 from closed) from cf_request where id = %s",
-            number % 2**31,
-            number,
-            at,
-            number,
-        )
+        told = self._ask(f"{sql.LOCK_CLOSING}; {sql.END}", request=number or self._id(name), at=at)
         if not told:
             raise self._gone(name)
         return bool(told[0][0])
 
     def reopen(self, name: str, number: int = 0) -> None:
-        number = number or self._id(name)
-        if not self._ask("execute cf_closing(%s); execute cf_open(%s)", number % 2**31, number):
+        if not self._ask(f"{sql.LOCK_CLOSING}; {sql.OPEN_AGAIN}", request=number or self._id(name)):
             raise self._gone(name)
 
     def drop(self, name: str, at: Optional[int] = None) -> bool:
-        is_so, number = "" if at is None else f" and closed is not null and {HAS}", self._id(name)
-        # (The row is locked by a statement of its own, so that the next one sees all that was put until then.)
-        dropped = bool(
-            self._ask(
-                "select 1 from cf_request where id = %s for update; "
-                f"with gone as (delete from cf_request where id = %s{is_so} returning id), "
-                "words as (delete from cf_word where request in (select id from gone)), "
-                "timers as (delete from cf_timer where request in (select id from gone)), "
-                "glances as (delete from cf_glance where request in (select id from gone)), "
-                "names as (delete from cf_name where request in (select id from gone)) "
-                "select id from gone",
-                number,
-                number,
-                *(() if at is None else (at,)),
-            )
-        )
+        dropped = bool(self._ask(f"{sql.LOCK_DROPPING}; {sql.DROP}", request=self._id(name), at=at))
         if dropped:
             self._ids.pop(name, None)
         return dropped
@@ -290,80 +177,65 @@ class Postgres(TableStore):
         order = list(puts)
         told = {put.request: self._append_opening(put) for put in puts if put.opens}
         puts = sorted((put for put in puts if not put.opens), key=lambda put: put.request)
-        rows = [row for put in puts for row in self._rows_of(put)]
-        if len(rows) == 1:
-            told[puts[0].request] = self._append_one(puts[0], rows[0])
-        elif rows:
-            told.update(zip((put.request for put in puts), self._append_all(puts, rows)))
+        if len(puts) == 1:
+            told[puts[0].request] = self._append_one(puts[0])
+        elif puts:
+            told.update(zip((put.request for put in puts), self._append_all(puts)))
         self._notify()
         return [told[put.request] for put in order]
 
-    def _rows_of(self, put: Put) -> List[Tuple[Any, ...]]:
-        """The rows of a put's words."""
-        number = self._id_of(put)
-        return [(number, put.at + k, *entry, put.payloads.get(put.at + 1 + k)) for k, entry in enumerate(put.entries)]
-
     def _append_opening(self, put: Put) -> Optional[List[Entry]]:
         """All or none, and with that the request is open: where a place is taken nothing of it stands."""
-        rows = self._rows_of(put)
-        number = rows[0][0]
-        words = PUT_ONE if len(rows) == 1 else PUT_TWO if len(rows) == 2 else PUT_ALL % ",".join(["(%s,%s,%s,%s,%s::bytea)"] * len(rows))
-        values = (*rows[0], *rows[1][2:]) if len(rows) == 2 else [it for row in rows for it in row]
+        number = self._id_of(put)
         try:
-            if self._ask(f"execute cf_closing(%s); {words}; execute cf_open(%s)", number % 2**31, *values, number):
+            if self._ask(f"{sql.LOCK_CLOSING}; {sql.PUT_GROUP}; {sql.OPEN_AGAIN}", request=number, **_columns([put])):
                 return None
-        except errors.UniqueViolation:
-            pass
+        except _Taken as taken:
+            return self._stands(put, str(taken))
         return self._stands(put)
 
-    def _append_one(self, put: Put, row: Tuple[Any, ...]) -> Optional[List[Entry]]:
-        return None if self._do("execute cf_put(%s, %s, %s, %s, %s)", row)[0] == 1 else self._stands(put)
+    def _append_one(self, put: Put) -> Optional[List[Entry]]:
+        number, many = self._id_of(put), len(put.entries)
+        try:
+            done = self._do(sql.PUT, **_value(number, put, 0)) if many == 1 else self._do(sql.PUT_GROUP, request=number, **_columns([put]))
+        except _Taken as taken:
+            return self._stands(put, str(taken))
+        return None if done[0] == many else self._stands(put)
 
-    def _stands(self, put: Put) -> List[Entry]:
+    def _stands(self, put: Put, refused: str = "") -> List[Entry]:
         stands = self.read(put.request, put.at, put.number)
-        if not stands:
-            raise self._gone(put.request)
+        if not stands:  # (by what somebody else has put into the database)
+            raise StoreError(refused) if refused else self._gone(put.request)
         return stands
 
-    def _append_all(self, puts: Sequence[Put], rows: Sequence[Tuple[Any, ...]]) -> List[Optional[List[Entry]]]:
+    def _append_all(self, puts: Sequence[Put]) -> List[Optional[List[Entry]]]:
         """All or none: where one place is taken nothing of the statement stands, and each is put by itself."""
-        try:
-            if len(rows) == 2 and len(puts) == 1:
-                many, _ = self._do(PUT_TWO, (*rows[0], *rows[1][2:]))
-            else:
-                many, _ = self._do(PUT_ALL % ",".join(["(%s,%s,%s,%s,%s::bytea)"] * len(rows)), [it for row in rows for it in row])
-            if many == len(rows):
+        requests = [number for put in puts for number in [self._id_of(put)] * len(put.entries)]
+        with contextlib.suppress(_Taken):
+            if self._do(sql.PUT_GROUPS, requests=requests, **_columns(puts))[0] == len(requests):
                 return [None] * len(puts)
-        except errors.UniqueViolation:
-            pass
-        if len(puts) == 1:
-            return [self._stands(puts[0])]
-        return [self._append_all([put], self._rows_of(put))[0] for put in puts]
+        return [self._append_one(put) for put in puts]
 
     def read(self, name: str, at: int = 0, number: int = 0) -> List[Entry]:
-        rows = self._ask("execute cf_read(%s, %s)", number or self._id(name), at)
+        rows = self._ask(sql.READ, request=number or self._id(name), at=at)
         if not rows:
             raise self._gone(name)
         return in_a_row(name, at, rows if rows[0][0] is not None else [])
 
     def payloads(self, name: str, places: Sequence[int], number: int = 0) -> Dict[int, bytes]:
-        rows = self._ask(
-            "select at + 1, payload from cf_request left join cf_word on request = id and at = any(%s) and payload is not null where id = %s",
-            [place - 1 for place in places],
-            number or self._id(name),
-        )
+        rows = self._ask(sql.PAYLOADS, request=number or self._id(name), places=[place - 1 for place in places])
         if not rows:
             raise self._gone(name)
-        return {int(place): bytes(payload) for place, payload in rows if place is not None}
+        return {int(at) + 1: bytes(payload) for at, payload in rows if at is not None}
 
     # What pages ask for, each by one statement: while a machine is busy, what takes long is the next turn.
 
     def read_rows(self, wanted: Sequence[RowQuery]) -> Dict[str, ReadRow]:
-        its = [it.number for it in wanted], [it.at for it in wanted]
+        requests, places = [it.number for it in wanted], [it.at for it in wanted]
         heads: Dict[int, Optional[Opened]] = {}
         words: Dict[int, List[Tuple[Any, ...]]] = {it.number: [] for it in wanted}
         payloads: Dict[int, Dict[int, bytes]] = {it.number: {} for it in wanted}
-        for number, at, word, token, payload, name, opened, plan in self._ask(ROWS, *its, *its):
+        for number, at, word, token, payload, name, opened, plan in self._ask(sql.ROWS, requests=requests, places=places):
             if at is None:
                 heads[number] = None if plan is None else Opened(str(name), str(plan), float(opened), int(number))
             else:
@@ -381,21 +253,12 @@ class Postgres(TableStore):
         its = [(number, place - 1) for (_, number), places in wanted.items() for place in places]
         names = {number: name for name, number in wanted}
         told: Dict[str, Dict[int, bytes]] = {name: {} for name in names.values()}
-        for number, place, payload in self._ask(
-            "select request, w.at + 1, payload from unnest(%s::bigint[], %s::int[]) as v(id, at) "
-            "join cf_word w on request = v.id and w.at = v.at where payload is not null",
-            [number for number, _ in its],
-            [at for _, at in its],
-        ):
-            told[names[number]][int(place)] = bytes(payload)
+        for number, at, payload in self._ask(sql.PAYLOADS_OF, requests=[number for number, _ in its], places=[at for _, at in its]):
+            told[names[number]][int(at) + 1] = bytes(payload)
         return told
 
     def pulse(self) -> Pulse:
-        rows = self._ask(
-            "select session, count, null from cf_beat union all "
-            "select session, null, name from cf_name where request = 0 union all "
-            f"select null, ({WORDS_PUT}), ({NOW})::text"
-        )
+        rows = self._ask(sql.PULSE)
         beats = {int(session): int(count) for session, count, _ in rows if session is not None and count is not None}
         names = {int(session): str(name) for session, count, name in rows if session is not None and count is None}
         ((put, now),) = [(int(count), float(at)) for session, count, at in rows if session is None]
@@ -425,7 +288,7 @@ class Postgres(TableStore):
                 if db is None or db.closed:
                     db = self._connected()
                 with db.cursor() as cursor:
-                    cursor.execute("set synchronous_commit = off; notify cf")
+                    cursor.execute(f"{sql.ANSWER_AT_ONCE}; {sql.NOTIFY}")
                 time.sleep(LEAST_BETWEEN)
             except Exception:  # whatever it is, the notice goes once the server takes it
                 self._changes.set()
@@ -440,7 +303,7 @@ class Postgres(TableStore):
                 if db is None or db.closed:
                     db = self._local.listens = self._connected()
                     with db.cursor() as cursor:
-                        cursor.execute("listen cf")
+                        cursor.execute(sql.LISTEN)
                     return
                 if not db.notifies:
                     select.select([db], [], [], seconds)
@@ -453,53 +316,42 @@ class Postgres(TableStore):
     # Sessions and timers.
 
     def beat(self, session: int) -> None:
-        self._ask("insert into cf_beat values (%s, 1) on conflict (session) do update set count = cf_beat.count + 1", session)
+        self._ask(sql.BEAT, session=session)
 
     def drop_beat(self, session: int) -> None:
-        self._ask("with names as (delete from cf_name where request = 0 and session = %s) delete from cf_beat where session = %s", session, session)
+        self._ask(sql.DROP_BEAT, session=session)
 
     def name_session(self, session: int, said: str, request: str = "", number: int = 0) -> None:
-        if not self._do(
-            f"insert into cf_name select {'id' if request else '0'}, %s, %s "
-            f"{'from ' + THERE.format('%s') if request else ''} "
-            "on conflict (request, session) do update set name = excluded.name",
-            (session, said, *([number or self._id(request)] if request else [])),
-        )[0]:
+        if not request:
+            self._ask(sql.NAME_SESSION, session=session, said=said)
+        elif not self._do(sql.NAME_SESSION_IN, request=number or self._id(request), session=session, said=said)[0]:
             raise self._gone(request)
 
     def now(self) -> float:
-        return float(self._ask(f"select {NOW}")[0][0])
+        return float(self._ask(sql.NOW)[0][0])
 
     def set_timer(self, timer: Timer) -> None:
-        if not self._do(
-            f"insert into cf_timer select id, %s, %s, %s from {THERE.format('%s')} "
-            "on conflict (request, stage) do update set due = excluded.due, payload = excluded.payload",
-            (*timer[1:4], timer.number or self._id(timer.request)),
-        )[0]:
+        number = timer.number or self._id(timer.request)
+        if not self._do(sql.SET_TIMER, request=number, stage=timer.stage, due=timer.due, payload=timer.payload)[0]:
             raise self._gone(timer.request)
 
     def due_timers(self, now: float) -> List[Timer]:
-        rows = self._ask("select name, stage, due, payload, id from cf_timer join cf_request on id = request where due <= %s order by due", now)
-        return [Timer(str(name), int(stage), float(at), bytes(payload), int(number)) for name, stage, at, payload, number in rows]
+        rows = self._ask(sql.DUE_TIMERS, now=now)
+        return [Timer(str(name), int(stage), float(at), bytes(payload), int(number)) for name, number, stage, at, payload in rows]
 
     def drop_timer(self, request: str, stage: int, number: int = 0) -> None:
-        self._ask("delete from cf_timer where request = %s and stage = %s", number or self._id(request), stage)
+        self._ask(sql.DROP_TIMER, request=number or self._id(request), stage=stage)
 
     # What lists ask for.
 
     def keep_glances(self, glances: Sequence[Glance]) -> None:
         rows = sorted((it.number, it.words, it.said) for it in glances)  # (two in one order don't wait in a ring)
         if rows:
-            self._ask(
-                "insert into cf_glance select id, words, said from (select v.*, id from "
-                f"(values {','.join(['(%s::bigint, %s, %s)'] * len(rows))}) as v(request, words, said) "
-                "join cf_request on id = v.request where closed is null for key share of cf_request) as there "
-                "on conflict (request) do update set words = excluded.words, said = excluded.said",
-                *(it for row in rows for it in row),
-            )
+            requests, words, said = map(list, zip(*rows))
+            self._ask(sql.KEEP_GLANCES, requests=requests, words=words, said=said)
 
     def words_put(self) -> Optional[int]:
-        return int(self._ask(f"select {WORDS_PUT}")[0][0])
+        return int(self._ask(sql.WORDS_PUT)[0][0])
 
     # A function's own transaction.
 
@@ -510,7 +362,7 @@ class Postgres(TableStore):
             db.autocommit = False
         try:
             with self._telling(), db.cursor() as cursor:
-                cursor.execute("savepoint cf_function")
+                cursor.execute(f"{sql.PREPARED} savepoint cf_function")
             yield _Transaction(self, db)
         finally:
             db.close()  # what wasn't committed is undone by that
@@ -527,18 +379,34 @@ class Postgres(TableStore):
             self._free.clear()
 
 
-def _is_lost(error: Any) -> bool:
-    """Whether it isn't known what became of a statement, or the server can only be read for now: a cut connection
-    may come as a `DatabaseError` without a kind."""
-    if isinstance(error, errors.ProgramLimitExceeded):  # a name that is too long, say: asked again it is refused again
-        return False
-    is_away = isinstance(error, (psycopg2.OperationalError, psycopg2.InterfaceError, errors.ReadOnlySqlTransaction))
-    return is_away or type(error) is psycopg2.DatabaseError
+class _Taken(Exception):
+    """Something stands in a put's place, or so the database says."""
+
+
+def _is_away(error: Any) -> bool:
+    """Whether it isn't known what became of a statement, or the server can't do it now. A cut connection may come as a
+    `DatabaseError` without a kind."""
+    if error.pgcode is not None:
+        return str(error.pgcode).startswith(sql.AWAY)
+    return isinstance(error, (psycopg2.OperationalError, psycopg2.InterfaceError)) or type(error) is psycopg2.DatabaseError
 
 
 def _tell(error: Any) -> NoReturn:
     """Raises what an error of psycopg2's is here."""
-    raise (Unknown if _is_lost(error) else StoreError)(str(error).strip()) from None
+    raise (Unknown if _is_away(error) else StoreError)(str(error).strip()) from None
+
+
+def _value(number: int, put: Put, k: int) -> Dict[str, Any]:
+    """What `PUT` takes for a put's k-th word."""
+    word, token = put.entries[k]
+    return {"request": number, "at": put.at + k, "word": word, "token": token, "payload": put.payloads.get(put.at + 1 + k)}
+
+
+def _columns(puts: Sequence[Put]) -> Dict[str, List[Any]]:
+    """What `PUT_GROUP` takes for words."""
+    rows = [_value(0, put, k) for put in puts for k in range(len(put.entries))]
+    columns = {"places": "at", "words": "word", "tokens": "token", "payloads": "payload"}
+    return {name: [row[it] for row in rows] for name, it in columns.items()}
 
 
 MARKS = re.compile(r"""('(?:[^']|'')*'|"[^"]*")|\?""")  # texts and names, and what stands for a value
@@ -608,11 +476,8 @@ class _Transaction(Transaction):
                 cursor.execute("release savepoint cf_function")
             except (errors.InvalidSavepointSpecification, errors.NoActiveSqlTransaction):
                 raise StoreError("the function has ended its transaction") from None
-            for k, entry in enumerate(put.entries):
-                cursor.execute(
-                    f"insert into cf_word select id, %s, %s, %s, %s from {THERE.format('%s')} on conflict do nothing",
-                    (put.at + k, *entry, put.payloads.get(put.at + 1 + k), number),
-                )
+            for k in range(len(put.entries)):
+                cursor.execute(sql.PUT, _value(number, put, k))
                 if cursor.rowcount != 1:
                     return False
         return True

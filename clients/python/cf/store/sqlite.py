@@ -7,33 +7,12 @@ import threading
 import time
 from typing import Any, Callable, Dict, Generator, List, Optional, Sequence, Tuple, TypeVar
 
-from .rows import FIRST, Broken, Entry, Glance, Opened, Put, StoreError, Timer, Transaction, Unknown, in_a_row
-from .tables import OVERVIEW, TableStore, _Mark, _opens, _Other
+from . import sqlite_sql as sql
+from .rows import HEAD, Entry, Glance, OpenRequest, Opened, Put, StoreError, Timer, Transaction, Unknown, in_a_row
+from .tables import TableStore, _Mark, _opens, _Other
 
 T = TypeVar("T")
-SCHEMA = """
-    create table if not exists cf_request (id integer primary key autoincrement, name text not null unique,
-        plan text not null, opened real not null, closed real);
-    create table if not exists cf_word (n integer primary key, request integer, at integer, word integer not null,
-        token integer not null, payload blob, unique (request, at));
-    create table if not exists cf_large (request integer, place integer, payload blob not null,
-        primary key (request, place));
-    create table if not exists cf_beat (session integer primary key, count integer not null);
-    create table if not exists cf_timer (request integer, stage integer, due real not null, payload blob not null,
-        primary key (request, stage)) without rowid;
-    create index if not exists cf_timer_due on cf_timer (due);
-    create index if not exists cf_request_open on cf_request (id) where closed is null;
-    create table if not exists cf_glance (request integer primary key, words integer not null, said text not null);
-    create table if not exists cf_name (request integer, session integer, name text not null,
-        primary key (request, session)) without rowid
-"""
-PUT = "insert or ignore into cf_word (request, at, word, token, payload) select id, ?, ?, ?, ? from cf_request where id = ?"
-PUT_GROUP = "insert into cf_word (request, at, word, token, payload) select id, v.* from cf_request, (values %s) v where id = ?"
-OPEN_AGAIN = "update cf_request set closed = null where id = ? and closed is not null"
-READ = "select at, word, token from cf_request left join cf_word on request = id and at >= ? where id = ? order by at"
-HAS = "(select coalesce(max(at) + 1, 0) from cf_word where request = id) = ?"  # so many words
 MAGIC = b"SQLite format 3\0"  # https://www.sqlite.org/fileformat.html
-MOST_AT_ONCE = 64  # words in one statement
 SMALL = 512  # bytes: a larger payload would make the words' own pages large
 BETWEEN_LOOKS = 0.001  # seconds between two looks at the file's version
 LONGEST_WAIT = 20.0  # seconds in the line: who has it may have been stopped
@@ -48,24 +27,19 @@ class SQLite(TableStore):
     `Unknown`."""
 
     is_transactional = locks_out = True
-    VALUE, HAS_PART = "?", "instr(cf_lower(name), cf_lower(?)) > 0"
-    # (The limit has it go through the open ones alone, and not through all by their names.)
-    FIRST_OPEN = (
-        "select id, (select count(*) from cf_request where closed is null) as many from "
-        f"(select id, name from cf_request where closed is null limit -1) order by name limit {FIRST}"
-    )
+    SQL = sql
 
     def __init__(self, path: str, is_unsafe: bool = False, may_create: bool = True) -> None:
         super().__init__()
         _look_at(path, may_create)  # (before the line's file is made beside it)
-        self._path, self._synchronous = path, "off" if is_unsafe else "full"
+        self._path, self._synchronous = path, sql.ANSWER_AT_ONCE if is_unsafe else sql.ANSWER_FROM_DISK
         self._local = threading.local()
         self._line = _Line(path)
         self._in_line, self._telling = _InLine(self), _Telling(self)
         try:
             with self._in_line:
                 db = self._db
-                for statement in SCHEMA.split(";"):
+                for statement in sql.SCHEMA.split(";"):
                     db.execute(statement)
         except BaseException:
             self.close()
@@ -84,8 +58,8 @@ class SQLite(TableStore):
         with self._telling:
             db = sqlite3.connect(self._path, timeout=LONGEST_WAIT, isolation_level=None)
             try:
-                mode = db.execute("pragma journal_mode=wal").fetchone()[0]
-                db.execute(f"pragma synchronous={self._synchronous}")
+                mode = db.execute(sql.SET_JOURNAL).fetchone()[0]
+                db.execute(self._synchronous)
                 db.create_function("cf_lower", 1, str.lower)  # (its own knows the letters of ASCII alone)
                 if mode not in ("wal", "delete", "truncate", "persist"):
                     raise StoreError(f"{self._path}: journal_mode is {mode}, with which a crash loses words")
@@ -96,7 +70,7 @@ class SQLite(TableStore):
 
     def _tell(self, error: Optional[BaseException]) -> None:
         """Raises what an error of SQLite's is here."""
-        if isinstance(error, sqlite3.OperationalError):  # the disk is full, or can't be written
+        if isinstance(error, MemoryError) or isinstance(error, sqlite3.Error) and _is_away(error):
             raise Unknown(f"{self._path}: {error}") from None
         if isinstance(error, sqlite3.Error):
             raise StoreError(f"{self._path}: {error}") from None
@@ -119,7 +93,7 @@ class SQLite(TableStore):
                     self._local.db = None
             return told
 
-    def _ask(self, statement: str, *values: Any) -> List[Tuple[Any, ...]]:
+    def _ask(self, statement: str, **values: Any) -> List[Tuple[Any, ...]]:
         with self._telling:
             return self._db.execute(statement, values).fetchall()
 
@@ -132,53 +106,52 @@ class SQLite(TableStore):
     def open(self, name: str, plan: str) -> Opened:
         found = self.find(name)
         while found is None:  # (it may be dropped meanwhile)
-            now = time.time()
-            self._in_turn(lambda db: db.execute("insert or ignore into cf_request (name, plan, opened) values (?, ?, ?)", (name, plan, now)))
+            self._in_turn(lambda db: db.execute(sql.OPEN, {"name": name, "plan": plan}))
             found = self.find(name)
         return found
 
     def news(self, mark: Any) -> Tuple[Dict[str, int], Any]:
-        # Rows are numbered in the order of their commits, since SQLite has one writer. Where the last ones were dropped
-        # numbers come again, and what was put by then is told since None.
-        at = self._ask("select (select coalesce(max(n), 0) from cf_word), (select coalesce(max(id), 0) from cf_request)")[0]
+        at: Any = mark
+        told: Dict[str, int] = {}
+        if mark is not None:
+            for name, many, opened in self._ask(sql.NEWS, words=mark[0], requests=mark[1]):
+                if name is None:
+                    at = many, opened
+                else:
+                    told[str(name)] = int(many) or told.get(str(name), 0)
         if mark is None or at[0] < mark[0]:
-            return self.ends(), at
-        opened = self._ask("select name from cf_request where id > ? and closed is null", mark[1])
-        # (`+` keeps SQLite from going through all words by the index of requests)
-        longer = self._ask(
-            "select name, case when closed is null then max(at) + 1 else -1 end from cf_word "
-            "join cf_request on id = request where n > ? group by +request",
-            mark[0],
-        )
-        return {**{str(name): 0 for name, in opened}, **{str(name): int(many) for name, many in longer}}, at
+            ((words, requests),) = self._ask(sql.MARK)  # (first: what comes between is told once more)
+            return self.ends(), (words, requests)
+        return told, at
 
     def _mark(self) -> int:
-        return int(self._ask("select coalesce(max(n), 0) from cf_word")[0][0])
+        return int(self._ask(sql.MARK)[0][0])
 
     def _other(self, mark: _Mark, is_all: bool) -> Optional[_Other]:
         # The words first: what comes between is told once more.
         at, words = self._mark(), mark.words
         if at < words:
             return None
-        longer = self._ask("select request, max(at) + 1 from cf_word where n > ? group by +request", words)
+        longer = self._ask(sql.LONGER, words=words)
         many = {int(number): int(many) for number, many in longer}
         if not is_all:
-            new = self._ask(f"{OVERVIEW} and r.id > ?", max(mark.names, default=0))
+            new = self._ask(sql.OPENED_SINCE, head=HEAD, request=max(mark.names, default=0))
             return _Other(many, at, None, _opens(new), mark.turn)
-        numbers = {int(number) for number, in self._ask("select id from cf_request where closed is null")}
+        numbers = {int(number) for number, in self._ask(sql.OPEN_NUMBERS)}
         again, turn = self._anew(numbers, mark.turn)
         opened = self._opened([*(numbers - mark.names.keys()), *again])
         return _Other(many, at, numbers, opened, turn)
+
+    def _opened(self, numbers: Sequence[int]) -> List[OpenRequest]:
+        return _opens(row for number in numbers for row in self._ask(sql.OPENED, head=HEAD, request=number))
 
     def end(self, name: str, at: int, number: int = 0) -> bool:
         number = number or self._id(name)
 
         def act(db: sqlite3.Connection) -> Tuple[bool, bool]:
-            closes = (
-                db.execute(f"update cf_request set closed = ? where id = ? and closed is null and {HAS}", (time.time(), number, at)).rowcount == 1
-            )
-            for table in ("cf_timer", "cf_glance") if closes else ():
-                db.execute(f"delete from {table} where request = ?", (number,))
+            closes = db.execute(sql.END, {"request": number, "at": at}).rowcount == 1
+            for statement in (sql.DROP_TIMERS, sql.DROP_GLANCE) if closes else ():
+                db.execute(statement, {"request": number})
             return closes, _is_there(db, number)
 
         closes, is_there = self._in_turn(act)
@@ -190,7 +163,7 @@ class SQLite(TableStore):
         number = number or self._id(name)
 
         def act(db: sqlite3.Connection) -> bool:
-            db.execute(OPEN_AGAIN, (number,))
+            db.execute(sql.OPEN_AGAIN, {"request": number})
             return _is_there(db, number)
 
         if not self._in_turn(act):
@@ -200,12 +173,11 @@ class SQLite(TableStore):
         number = self._id(name)
 
         def act(db: sqlite3.Connection) -> bool:
-            is_so = f"select 1 from cf_request where id = ? and closed is not null and {HAS}"
-            if at is not None and not db.execute(is_so, (number, at)).fetchall():
+            if not db.execute(sql.DROP, {"request": number, "at": at}).rowcount:
                 return False
-            for table in ("cf_word", "cf_large", "cf_timer", "cf_glance", "cf_name"):
-                db.execute(f"delete from {table} where request = ?", (number,))
-            return db.execute("delete from cf_request where id = ?", (number,)).rowcount == 1
+            for statement in (sql.DROP_WORDS, sql.DROP_LARGE, sql.DROP_TIMERS, sql.DROP_GLANCE, sql.DROP_NAMES):
+                db.execute(statement, {"request": number})
+            return True
 
         dropped = self._in_turn(act)
         if dropped:
@@ -216,30 +188,21 @@ class SQLite(TableStore):
 
     def append_groups(self, puts: Sequence[Put]) -> List[Optional[List[Entry]]]:
         ids = [self._id_of(put) for put in puts]
-        if (
-            len(puts) == 1
-            and not puts[0].opens
-            and len(puts[0].entries) <= MOST_AT_ONCE
-            and all(len(it) <= SMALL for it in puts[0].payloads.values())
-        ):
+        if len(puts) == 1 and not puts[0].opens and len(puts[0].entries) <= 2 and all(len(it) <= SMALL for it in puts[0].payloads.values()):
             landed = [self._put_at_once(ids[0], puts[0])]
         else:
             landed = self._in_turn(lambda db: [_put(db, number, put) for number, put in zip(ids, puts)])
         return [None if it else self._stands(put, number) for it, put, number in zip(landed, puts, ids)]
 
     def _put_at_once(self, number: int, put: Put) -> bool:
-        """Puts a group by one statement, which is a transaction of its own: all or none."""
-        db, payloads, at, many = self._db, put.payloads, put.at, len(put.entries)
-        if many == 1:
-            with self._in_line:
-                return db.execute(PUT, (at, *put.entries[0], payloads.get(at + 1), number)).rowcount == 1
-        values = [it for k, (word, token) in enumerate(put.entries) for it in (at + k, word, token, payloads.get(at + 1 + k))]
-        statement = PUT_GROUP % ",".join(["(?,?,?,?)"] * many)
+        """Puts one word or two by one statement, which is a transaction of its own: all or none."""
+        db, many = self._db, len(put.entries)
+        values = _value(number, put, 0)
+        if many == 2:
+            values["next_word"], values["next_token"] = put.entries[1]
+            values["next_payload"] = put.payloads.get(put.at + 2)
         with self._in_line:
-            try:
-                return db.execute(statement, (*values, number)).rowcount == many
-            except sqlite3.IntegrityError:
-                return False
+            return db.execute(sql.PUT if many == 1 else sql.PUT_TWO, values).rowcount == many
 
     def _stands(self, put: Put, number: int) -> List[Entry]:
         stands = self.read(put.request, put.at, number)
@@ -248,7 +211,7 @@ class SQLite(TableStore):
         return stands
 
     def read(self, name: str, at: int = 0, number: int = 0) -> List[Entry]:
-        rows = self._ask(READ, at, number or self._id(name))
+        rows = self._ask(sql.READ, request=number or self._id(name), at=at)
         if not rows:
             raise self._gone(name)
         return in_a_row(name, at, rows if rows[0][0] is not None else [])
@@ -256,19 +219,17 @@ class SQLite(TableStore):
     def payloads(self, name: str, places: Sequence[int], number: int = 0) -> Dict[int, bytes]:
         number, told = number or self._id(name), {}
         for place in places:
-            rows = self._ask("select payload from cf_word where request = ? and at = ?", number, place - 1)
-            if rows and rows[0][0] is None:
-                rows = self._ask("select payload from cf_large where request = ? and place = ?", number, place)
-            if rows:
+            rows = self._ask(sql.PAYLOAD, request=number, place=place)
+            if rows and rows[0][0] is not None:
                 told[place] = _bytes(rows[0][0])
-        if len(told) < len(places) and not self._ask("select 1 from cf_request where id = ?", number):
+        if len(told) < len(places) and not self._ask(sql.IS_THERE, request=number):
             raise self._gone(name)
         return told
 
     def wait_for_change(self, seconds: float) -> None:
         until = time.monotonic() + seconds
         while True:
-            version = self._ask("pragma data_version")[0][0]
+            version = self._ask(sql.VERSION)[0][0]
             if version != getattr(self._local, "version", None):
                 self._local.version = version
                 return
@@ -280,52 +241,42 @@ class SQLite(TableStore):
     # Sessions and timers.
 
     def beat(self, session: int) -> None:
-        self._in_turn(lambda db: db.execute("insert into cf_beat values (?, 1) on conflict do update set count = count + 1", (session,)))
+        self._in_turn(lambda db: db.execute(sql.BEAT, {"session": session}))
 
     def drop_beat(self, session: int) -> None:
         def act(db: sqlite3.Connection) -> None:
-            db.execute("delete from cf_beat where session = ?", (session,))
-            db.execute("delete from cf_name where request = 0 and session = ?", (session,))
+            db.execute(sql.DROP_BEAT, {"session": session})
+            db.execute(sql.DROP_SESSION_NAME, {"session": session})
 
         self._in_turn(act)
 
     def name_session(self, session: int, said: str, request: str = "", number: int = 0) -> None:
         number = (number or self._id(request)) if request else 0
-
-        def act(db: sqlite3.Connection) -> bool:
-            if request and not _is_there(db, number):
-                return False
-            db.execute("insert or replace into cf_name values (?, ?, ?)", (number, session, said))
-            return True
-
-        if not self._in_turn(act):
+        values = {"request": number, "session": session, "said": said}
+        if not self._in_turn(lambda db: db.execute(sql.NAME_SESSION_IN if request else sql.NAME_SESSION, values).rowcount):
             raise self._gone(request)
 
     def now(self) -> float:
         return time.time()
 
     def set_timer(self, timer: Timer) -> None:
-        values = (timer.stage, timer.due, timer.payload, timer.number or self._id(timer.request))
-        if not self._in_turn(
-            lambda db: db.execute("insert or replace into cf_timer select id, ?, ?, ? from cf_request where id = ?", values).rowcount
-        ):
+        values = {"request": timer.number or self._id(timer.request), "stage": timer.stage, "due": timer.due, "payload": timer.payload}
+        if not self._in_turn(lambda db: db.execute(sql.SET_TIMER, values).rowcount):
             raise self._gone(timer.request)
 
     def due_timers(self, now: float) -> List[Timer]:
-        rows = self._ask("select name, stage, due, payload, id from cf_timer join cf_request on id = request where due <= ? order by due", now)
-        return [Timer(str(name), int(stage), float(at), _bytes(payload), int(number)) for name, stage, at, payload, number in rows]
+        rows = self._ask(sql.DUE_TIMERS, now=now)
+        return [Timer(str(name), int(stage), float(at), _bytes(payload), int(number)) for name, number, stage, at, payload in rows]
 
     def drop_timer(self, request: str, stage: int, number: int = 0) -> None:
-        number = number or self._id(request)
-        self._in_turn(lambda db: db.execute("delete from cf_timer where request = ? and stage = ?", (number, stage)))
+        values = {"request": number or self._id(request), "stage": stage}
+        self._in_turn(lambda db: db.execute(sql.DROP_TIMER, values))
 
     # What lists ask for.
 
     def keep_glances(self, glances: Sequence[Glance]) -> None:
-        rows = [(it.words, it.said, it.number) for it in glances]
-        self._in_turn(
-            lambda db: db.executemany("insert or replace into cf_glance select id, ?, ? from cf_request where id = ? and closed is null", rows)
-        )
+        rows = [{"request": it.number, "words": it.words, "said": it.said} for it in glances]
+        self._in_turn(lambda db: db.executemany(sql.KEEP_GLANCE, rows))
 
     def words_put(self) -> Optional[int]:
         return self._mark()
@@ -539,9 +490,15 @@ class _Transaction(Transaction):
             self.connection.execute("commit")
 
 
+def _is_away(error: sqlite3.Error) -> bool:
+    """Whether SQLite can't do it now. Before Python 3.11 its code isn't told, but the class is so by it."""
+    code = getattr(error, "sqlite_errorcode", None)
+    return isinstance(error, sqlite3.OperationalError) if code is None else code & 0xFF in sql.AWAY
+
+
 def _is_there(db: sqlite3.Connection, request: int) -> bool:
     """Whether a request wasn't dropped."""
-    return bool(db.execute("select 1 from cf_request where id = ?", (request,)).fetchall())
+    return bool(db.execute(sql.IS_THERE, {"request": request}).fetchall())
 
 
 def _bytes(payload: Any) -> bytes:
@@ -549,17 +506,22 @@ def _bytes(payload: Any) -> bytes:
     return payload if isinstance(payload, bytes) else str(payload).encode()
 
 
+def _value(number: int, put: Put, k: int) -> Dict[str, Any]:
+    """What `PUT` takes for a put's k-th word."""
+    word, token = put.entries[k]
+    return {"request": number, "at": put.at + k, "word": word, "token": token, "payload": put.payloads.get(put.at + 1 + k)}
+
+
 def _put(db: sqlite3.Connection, request: int, put: Put) -> bool:
     """Puts a group in a transaction that holds the file: whether it landed."""
-    for k, entry in enumerate(put.entries):
-        payload = put.payloads.get(put.at + 1 + k)
-        large = payload is not None and len(payload) > SMALL
-        if not db.execute(PUT, (put.at + k, *entry, None if large else payload, request)).rowcount:
-            if k:
-                raise Broken(put.request, put.at + k, "a word stands behind it, and none stood there")
-            return False  # the first: a row has no holes, so none of the group was put
-        if large:
-            db.execute("insert into cf_large values (?, ?, ?)", (request, put.at + 1 + k, payload))
+    for k in range(len(put.entries)):
+        value, large = _value(request, put, k), None
+        if len(value["payload"] or b"") > SMALL:
+            large, value["payload"] = value["payload"], None
+        if not db.execute(sql.PUT, value).rowcount:
+            return False  # the first: nothing stands behind a place that is free, so none of the group was put
+        if large is not None:
+            db.execute(sql.PUT_LARGE, {"request": request, "place": put.at + 1 + k, "payload": large})
     if put.opens:
-        db.execute(OPEN_AGAIN, (request,))
+        db.execute(sql.OPEN_AGAIN, {"request": request})
     return True

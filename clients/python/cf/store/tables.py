@@ -2,17 +2,13 @@
 import abc
 import heapq
 import time
-from typing import Any, Dict, Iterable, List, Mapping, NamedTuple, Optional, Sequence, Set, Tuple
+from types import ModuleType
+from typing import Any, Dict, Iterable, List, Mapping, NamedTuple, Optional, Set, Tuple
 
 from .rows import FIRST, HEAD, Changes, Glance, Gone, ListedRequest, OpenRequest, Opened, Put, Store, flow_of
 
 ANEW = 100  # requests that are told anew with each look at all that are open
 BETWEEN_ALL = 0.5  # seconds between two such looks: what is closed is told by them alone
-MOST_VALUES = 500  # in a statement
-COLUMNS = f"r.id, r.name, r.opened, (select max(at) + 1 from cf_word where request = r.id), substr(r.plan, 1, {HEAD}), g.words, g.said"
-GLANCED = "cf_request r left join cf_glance g on g.request = r.id"
-OVERVIEW = f"select {COLUMNS} from {GLANCED} where r.closed is null"
-FIRST_OPENED = f"select {COLUMNS}, f.many from ({{}}) f, {GLANCED} where r.id = f.id"
 
 
 class _Mark(NamedTuple):
@@ -38,31 +34,25 @@ class _Other(NamedTuple):
 
 
 class TableStore(Store):
-    """A store with the tables `cf_request`, `cf_word`, `cf_beat`, `cf_glance` and `cf_name`. Its statements go through
-    `_ask`.
+    """A store with the tables `cf_request`, `cf_word`, `cf_beat`, `cf_glance` and `cf_name`. Its engine's statements go
+    through `_ask`.
 
     Words, payloads and timers go by a request's number. A name keeps its number until the request is dropped; then
     another request of that name has a number of its own."""
 
-    VALUE: str  # what stands for a value in a statement
-    HAS_PART: str  # whether a name has a part, which is a value, in small letters or large ones
-    FIRST_OPEN: str  # asks for the numbers of the first open requests by name, each with how many there are in all
+    SQL: ModuleType  # its engine's statements
 
     def __init__(self) -> None:
         self._ids: Dict[str, int] = {}
 
     @abc.abstractmethod
-    def _ask(self, statement: str, *values: Any) -> List[Tuple[Any, ...]]:
+    def _ask(self, statement: str, **values: Any) -> List[Tuple[Any, ...]]:
         """Does a statement with these values, and gives its rows."""
 
     def _id(self, name: str) -> int:
-        found = self._ids.get(name)
-        if found is None:
-            rows = self._ask(f"select id from cf_request where name = {self.VALUE}", name)
-            if not rows:
-                raise Gone(name)
-            found = self._ids[name] = int(rows[0][0])
-        return found
+        if name not in self._ids and self.find(name) is None:
+            raise Gone(name)
+        return self._ids[name]
 
     def _id_of(self, put: Put) -> int:
         number = self._id(put.request)
@@ -76,31 +66,27 @@ class TableStore(Store):
         return Gone(name)
 
     def find(self, name: str) -> Optional[Opened]:
-        rows = self._ask(f"select id, plan, opened from cf_request where name = {self.VALUE}", name)
+        rows = self._ask(self.SQL.FIND, name=name)
         if not rows:
             return None
         number = self._ids[name] = int(rows[0][0])
         return Opened(name, str(rows[0][1]), float(rows[0][2]), number)
 
     def ends(self) -> Dict[str, int]:
-        return {
-            str(name): int(many or 0)
-            for name, many in self._ask("select name, (select max(at) + 1 from cf_word where request = id) from cf_request where closed is null")
-        }
+        return {str(name): int(many) for name, many in self._ask(self.SQL.ENDS)}
 
     def listing(self) -> List[ListedRequest]:
-        rows = self._ask("select name, opened, closed, (select max(at) + 1 from cf_word where request = id) from cf_request order by name")
-        return [ListedRequest(str(name), float(opened), closed, int(many or 0)) for name, opened, closed, many in rows]
+        return _listed(self._ask(self.SQL.LISTING))
 
     def beats(self) -> Dict[int, int]:
-        return {int(session): int(count) for session, count in self._ask("select session, count from cf_beat")}
+        return {int(session): int(count) for session, count in self._ask(self.SQL.BEATS)}
 
     def overview(self) -> List[OpenRequest]:
-        return _opens(self._ask(OVERVIEW))
+        return _opens(self._ask(self.SQL.OVERVIEW, head=HEAD))
 
     def changes(self, mark: Optional[_Mark]) -> Tuple[Changes, _Mark]:
         if mark is None:
-            first = self._ask(FIRST_OPENED.format(self.FIRST_OPEN))
+            first = self._ask(self.SQL.FIRST_OPENED, head=HEAD, most=FIRST)
             if first and int(first[0][-1]) > 2 * FIRST:
                 opened = _opens(row[:-1] for row in first)
                 return (Changes(opened, {}, [], int(first[0][-1])), _Mark(None, {it.number: it.name for it in opened}, 0, 0.0))
@@ -136,27 +122,17 @@ class TableStore(Store):
         """What is other since a mark, or None where that isn't known. Without `is_all` it costs by what is other alone,
         and not by how many are open: then what is closed isn't told, and what is opened again may not be."""
 
-    def _opened(self, numbers: Sequence[int]) -> List[OpenRequest]:
-        """Those of these requests that are open."""
-        told = []
-        for k in range(0, len(numbers), MOST_VALUES):
-            some = numbers[k : k + MOST_VALUES]
-            told += self._ask(f"{OVERVIEW} and r.id in ({','.join([self.VALUE] * len(some))})", *some)
-        return _opens(told)
-
     def closed(self, behind: str, most: int, part: str = "") -> List[ListedRequest]:
-        rows = self._ask(
-            "select name, opened, closed, (select max(at) + 1 from cf_word where request = id) "
-            f"from cf_request where closed is not null and name > {self.VALUE} and {self.HAS_PART} "
-            f"order by name limit {int(most)}",
-            behind,
-            part,
-        )
-        return [ListedRequest(str(name), float(opened), float(closed), int(many or 0)) for name, opened, closed, many in rows]
+        return _listed(self._ask(self.SQL.CLOSED, behind=behind, most=most, part=part))
 
     def session_names(self, request: str = "", number: int = 0) -> Dict[int, str]:
         number = (number or self._id(request)) if request else 0
-        return {int(session): str(said) for session, said in self._ask(f"select session, name from cf_name where request = {self.VALUE}", number)}
+        return {int(session): str(said) for session, said in self._ask(self.SQL.SESSION_NAMES, request=number)}
+
+
+def _listed(rows: Iterable[Tuple[Any, ...]]) -> List[ListedRequest]:
+    """What rows of `LISTING` tell."""
+    return [ListedRequest(str(name), float(opened), closed, int(many or 0)) for name, opened, closed, many in rows]
 
 
 def _opens(rows: Iterable[Tuple[Any, ...]]) -> List[OpenRequest]:

@@ -25,20 +25,16 @@ class PostgreSQL(Case):
 
     @unittest.skipIf(importlib.util.find_spec("psycopg2") is None, "no psycopg2")
     def test_what_a_server_of_postgresql_says(self):
-        """One that can only be read for now is away; what it refuses for good is told as such, also at a commit."""
-        from cf.store import postgres
-
-        said = {
-            "ReadOnlySqlTransaction": Unknown,
-            "AdminShutdown": Unknown,
-            "UniqueViolation": StoreError,
-            "DataError": StoreError,
-            "ProgramLimitExceeded": StoreError,
-            "InFailedSqlTransaction": StoreError,
-        }
-        for name, kind in said.items():
-            with self.assertRaises(kind), postgres.Postgres._telling(None):
-                raise getattr(postgres.errors, name, getattr(postgres.psycopg2, name, None))("why")
+        """What it can't do now is away, as is what nobody knows of; what it refuses for good is told as such."""
+        postgres = self.module()
+        away = ["08006", "25006", "26000", "40001", "40P01", "53100", "53300", "55P03", "57014", "57P01", "57P03", "58030"]
+        for code in [*away, "22001", "23505", "23514", "25P02", "42501", "54000", "54001", "P0001", "XX001"]:
+            with self.subTest(code), self.assertRaises(Unknown if code in away else StoreError), postgres.Postgres._telling(None):
+                raise type("Error", (postgres.psycopg2.Error,), {"pgcode": code})("why")
+        for name in ["OperationalError", "InterfaceError", "DatabaseError", "DataError", "ProgrammingError"]:
+            kind = StoreError if name in ("DataError", "ProgrammingError") else Unknown
+            with self.subTest(name), self.assertRaises(kind), postgres.Postgres._telling(None):
+                raise getattr(postgres.psycopg2, name)("without a code")
 
     def test_a_notice_that_cant_be_sent(self):
         """It is sent later, whatever was in its way: no thread, or a server that is refused for now."""
@@ -75,7 +71,7 @@ class PostgreSQL(Case):
             cursor.execute.side_effect = getattr(postgres.psycopg2, error)("why")
             postgres_store._is_closed, postgres_store._free = False, [cursor]
             with self.assertRaises(Unknown if is_lost else StoreError):
-                postgres_store._do("select 1", [])
+                postgres_store._do("select 1")
             self.assertEqual((db.closed, postgres_store._free), (1, []) if is_lost else (0, [cursor]))
 
     def test_a_connection_that_is_in_use_as_the_store_is_closed(self):
@@ -85,7 +81,7 @@ class PostgreSQL(Case):
         postgres_store._lock, postgres_store._is_closed = threading.Lock(), False
         postgres_store._free = [unittest.mock.MagicMock(connection=db, rowcount=1, description=None)]
         postgres_store._free[0].execute.side_effect = lambda *_: postgres_store.close()
-        self.assertEqual(postgres_store._do("select 1", []), (1, []))
+        self.assertEqual(postgres_store._do("select 1"), (1, []))
         db.close.assert_called_once()
 
 

@@ -158,6 +158,34 @@ class SQLite(Case):
         db.close()
         sqlite_store.close()
 
+    def test_what_sqlite_says(self):
+        """What it can't do now is away; what it refuses for good is told as such."""
+        spoils = {
+            "READONLY": (Unknown, lambda db: db.execute("pragma query_only = on")),
+            "ERROR": (Unknown, lambda db: db.execute("alter table cf_word rename to away")),
+            "FULL": (Unknown, lambda db: db.execute("pragma max_page_count = 1")),  # (with as many as there are)
+            "CONSTRAINT": (StoreError, lambda db: db.execute("create unique index one on cf_word (1)")),
+        }
+        if hasattr(sqlite3.Connection, "setlimit"):  # (of Python 3.11 on)
+            spoils["TOOBIG"] = StoreError, lambda db: db.setlimit(sqlite3.SQLITE_LIMIT_LENGTH, 9_000)
+        for name, (kind, spoil) in spoils.items():
+            with self.subTest(name):
+                sqlite_store = connect(f"sqlite:///{self.folder.name}/{name}")
+                sqlite_store.open("r", "plan"), sqlite_store.append(Put("r", 0, [(1, 1)], {}))
+                spoil(sqlite_store._db)
+                with self.assertRaises(kind):
+                    sqlite_store.append(Put("r", 1, [(2, 2)], {2: b"x" * 10_000}))
+                sqlite_store.close()
+        sqlite_store = connect(self.address)
+        with self.assertRaises(Unknown), sqlite_store._in_line:
+            raise MemoryError
+        sqlite_store.open("r", "plan"), sqlite_store.close()
+        with open(f"{self.folder.name}/db", "r+b") as file:
+            file.seek(4096), file.write(b"no page" * 4096)
+        with self.assertRaises(StoreError) as told:
+            connect(self.address).find("r")
+        self.assertEqual((type(told.exception), "malformed" in str(told.exception)), (StoreError, True))
+
     def test_settings(self):
         """What is answered is on disk: each thread's connection has a write-ahead log and syncs it."""
         sqlite_store, told = connect(self.address), []

@@ -56,6 +56,29 @@ class Stores(Case):
                 self.assertIsNone(store.find(name))
                 store.close()
 
+    def test_what_a_trigger_forbids(self):
+        """A put that somebody's own trigger refuses is refused, whatever it says, and its request isn't taken for dropped."""
+        made = {
+            "SQLite": ["create trigger forbids before insert on cf_word when new.token = 999 begin select raise(abort, 'UNIQUE'); end"],
+            "Postgres": [
+                "create function forbids() returns trigger language plpgsql as " "$$ begin raise exception 'UNIQUE' using errcode = '23505'; end $$",
+                "create trigger forbids before insert on cf_word for each row when (new.token = 999) execute function forbids()",
+            ],
+        }
+        for store in (connect(address) for address in [self.address, *STORES]):
+            engine, number = type(store).__name__, store.open(self.name, "plan").number
+            for statement in made.get(engine, []):
+                store._ask(statement)
+            for opens in (False, True) if engine in made else ():
+                for words in ([(1, 999)], [(1, 1), (2, 999)], [(1, 1), (2, 2), (3, 999)]):
+                    with self.subTest(engine, opens=opens, words=words), self.assertRaises(StoreError) as told:
+                        store.append(Put(self.name, 0, words, {}, number, opens))
+                    self.assertEqual((type(told.exception), "UNIQUE" in str(told.exception)), (StoreError, True))
+                    self.assertEqual(store.read(self.name), [])
+            if engine == "Postgres":
+                store._ask("drop function forbids cascade")
+            store.close()
+
     def test_news(self):
         """What was put or opened since a mark is told, and nothing that was closed before; that one was closed behind
         its last word is told, too, so that who waits for it reads it."""
@@ -346,7 +369,7 @@ class Drops(Case):
     def left(self, store, number):
         """What is left of a request."""
         tables = ["cf_word", "cf_timer", "cf_glance", "cf_name"]
-        return {it for it in tables if store._ask(f"select 1 from {it} where request = %s", number)}
+        return {it for it in tables if store._ask(f"select 1 from {it} where request = {number}")}
 
     def puts(self, store, name, number):
         """All that is put for a request."""

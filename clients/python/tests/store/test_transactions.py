@@ -264,7 +264,7 @@ class Transactions(Case):
             pay = paying.function(self.name, transactional=True)(pay)
             with unittest.mock.patch.object(postgres._Transaction, "append", append):
                 self.assertIsNone(paying.request(self.name).supply(pay).result(20))
-            rows = paying.store._ask("select count(*) from lost where name = %s", self.name)
+            rows = paying.store._ask("select count(*) from lost where name = %(name)s", name=self.name)
             self.assertEqual((rows, len(called)), ([(1,)], 2))
 
     def test_a_transaction_that_cant_be_begun_is_begun_again_after_a_while(self):
