@@ -29,6 +29,10 @@ select bool_and(to_regclass(name) is not null) from unnest(array['cf_request', '
 select name, current_setting(name) from (values ('fsync', 'on'), ('full_page_writes', 'on'),
     ('transaction_read_only', 'off')) as safe(name, setting) where current_setting(name) <> setting
 
+-- Whether the server can't be written to, as a standby.
+-- name: is_read_only
+select current_setting('transaction_read_only') = 'on'
+
 -- Has a commit answered once it is on disk, where the server hasn't more.
 -- name: answer_from_disk
 select set_config('synchronous_commit', 'on', false)

@@ -462,8 +462,8 @@ class _Transaction(Transaction):
         try:
             self._db.rollback()
             with self._db.cursor() as cursor:
-                cursor.execute("show transaction_read_only")
-                return bool(cursor.fetchone()[0] == "on")
+                cursor.execute(sql.IS_READ_ONLY)
+                return bool(cursor.fetchone()[0])
         except psycopg2.Error:
             return True
 

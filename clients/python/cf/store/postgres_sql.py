@@ -23,6 +23,7 @@ UNSAFE_SETTINGS = """
 select name, current_setting(name) from (values ('fsync', 'on'), ('full_page_writes', 'on'),
     ('transaction_read_only', 'off')) as safe(name, setting) where current_setting(name) <> setting
 """
+IS_READ_ONLY = "select current_setting('transaction_read_only') = 'on'"
 ANSWER_FROM_DISK = """
 select set_config('synchronous_commit', 'on', false)
     where current_setting('synchronous_commit') in ('off', 'local')

@@ -26,11 +26,13 @@ public abstract class JdbcStore implements Store {
     private static final List<String> ENDS_IT = Arrays.asList("commit", "rollback", "setAutoCommit", "close", "abort");
 
     private final String url;
+    private final Sql.Engine engine;
     private final ConcurrentLinkedDeque<PreparedConnection> idle = new ConcurrentLinkedDeque<>();
     private volatile boolean isClosed;
 
-    JdbcStore(String url) {
+    JdbcStore(String url, Sql.Engine engine) {
         this.url = url;
+        this.engine = engine;
     }
 
     /**
@@ -62,11 +64,14 @@ public abstract class JdbcStore implements Store {
     /** Whether it isn't known what became of a statement, or the engine can't write now. */
     abstract boolean isAway(SQLException error);
 
-    /** Whether a place is taken. */
-    abstract boolean isTaken(SQLException error);
+    /** Whether it says that a place is taken. */
+    boolean isTaken(SQLException error) {
+        return false;
+    }
 
-    /** What stands for the engine's clock in a statement. */
-    abstract String clockSql();
+    Connection openConnection(String url) throws SQLException {
+        return DriverManager.getConnection(url);
+    }
 
     /** Begins a transaction of a function's; then commits it. */
     abstract void begin(PreparedConnection db) throws SQLException;
@@ -78,6 +83,11 @@ public abstract class JdbcStore implements Store {
 
     void giveTurn() {}
 
+    /** Has such a transaction keep what the function did. The savepoint is there, unless the function has ended the transaction. */
+    void releaseFunction(PreparedConnection db) throws SQLException {
+        db.execute("release savepoint cf_function");
+    }
+
     /** Undoes what such a transaction did, and says whether the engine can't write now. */
     abstract boolean rollBackToFunction(PreparedConnection db) throws SQLException;
 
@@ -87,7 +97,7 @@ public abstract class JdbcStore implements Store {
     }
 
     final PreparedConnection connect() throws SQLException {
-        PreparedConnection db = new PreparedConnection(DriverManager.getConnection(url));
+        PreparedConnection db = new PreparedConnection(openConnection(url), engine);
         try {
             prepare(db);
         } catch (SQLException | RuntimeException fault) {
@@ -167,18 +177,18 @@ public abstract class JdbcStore implements Store {
         };
     }
 
-    final <T> List<T> query(String statement, PreparedConnection.RowReader<T> reader, Object... values) {
+    final <T> List<T> query(Sql statement, PreparedConnection.RowReader<T> reader, Object... values) {
         return withConnection(db -> db.rows(statement, reader, values));
     }
 
     /** How many rows a statement changed, which is a transaction of its own. */
-    final int change(String statement, Object... values) {
+    final int change(Sql statement, Object... values) {
         return withTurn(db -> db.change(statement, values));
     }
 
     /** {@code Gone} where a request of this number isn't there. */
     final void checkPresent(String name, long number) {
-        if (query("select 1 from cf_request where id = ?", row -> 1, number).isEmpty()) {
+        if (query(Sql.IS_THERE, row -> 1, number).isEmpty()) {
             throw new StoreException.Gone(name);
         }
     }
@@ -187,7 +197,7 @@ public abstract class JdbcStore implements Store {
     public final Opened open(String name, String plan) {
         Opened found = find(name);
         while (found == null) { // (it may be dropped meanwhile)
-            change("insert into cf_request (name, plan, opened) values (?, ?, " + clockSql() + ") on conflict do nothing", name, plan);
+            change(Sql.OPEN, name, plan);
             found = find(name);
         }
         return found;
@@ -195,28 +205,29 @@ public abstract class JdbcStore implements Store {
 
     @Override
     public final Opened find(String name) {
-        List<Opened> found = query("select plan, id from cf_request where name = ?", row -> new Opened(name, row.getString(1), row.getLong(2)), name);
+        List<Opened> found = query(Sql.FIND, row -> new Opened(name, row.getString(2), row.getLong(1)), name);
         return found.isEmpty() ? null : found.get(0);
     }
 
     @Override
     public final List<Entry> append(Put put) {
-        boolean landed;
+        boolean landed = false;
+        StoreException taken = null;
         try {
             landed = putOnConnection(put);
         } catch (StoreException refused) {
             if (!(refused.getCause() instanceof SQLException) || !isTaken((SQLException) refused.getCause())) {
                 throw refused;
             }
-            landed = false;
+            taken = refused;
         }
         if (landed) {
             notePut();
             return null;
         }
         List<Entry> stands = read(put.request, put.number, put.at);
-        if (stands.isEmpty()) {
-            throw new StoreException.Gone(put.request);
+        if (stands.isEmpty()) { // (by what somebody else has put into the database, if a place is taken)
+            throw taken == null ? new StoreException.Gone(put.request) : taken;
         }
         return stands;
     }
@@ -281,7 +292,7 @@ public abstract class JdbcStore implements Store {
         @Override
         public boolean append(Put put) {
             try {
-                db.execute("release savepoint cf_function"); // (it is there, unless the function has ended the transaction)
+                releaseFunction(db);
                 return put(db, put);
             } catch (SQLException error) {
                 if (isTaken(error)) {
@@ -327,38 +338,6 @@ public abstract class JdbcStore implements Store {
         return withConnection(db -> put(db, put));
     }
 
-    private static final String PUT = "insert into cf_word (request, at, word, token, payload) select id, ";
-    private final Map<Integer, String> putGroups = new ConcurrentHashMap<>();
-
-    /** What stands for the request of a number in a statement, as a table that is empty where it isn't there. ({@code where true} ends it for SQLite.) */
-    abstract String requestSql();
-
-    /** Puts a group by one statement, but for payloads of more bytes; whether its request is there and its first place was free. */
-    final boolean putAtOnce(PreparedConnection db, Put put, int most) throws SQLException {
-        int many = put.entries.size();
-        Object[] values = new Object[4 * many + 1];
-        for (int k = 0, at = 0; k < many; k++) {
-            Entry entry = put.entries.get(k);
-            byte[] payload = put.payloads.get(put.at + 1 + k);
-            values[at++] = put.at + k;
-            values[at++] = entry.word;
-            values[at++] = entry.token;
-            values[at++] = payload == null || payload.length > most ? null : payload;
-        }
-        values[4 * many] = put.number;
-        return db.change(putGroups.computeIfAbsent(many, this::putGroup), values) == many;
-    }
-
-    /** Of a group, a place that is taken is an error: else words behind it might stand. */
-    private String putGroup(int many) {
-        String values = String.join(", ", java.util.Collections.nCopies(many, "(?, ?, ?, ?)"));
-        return many == 1 ? PUT + "?, ?, ?, ? from " + requestSql() + " where true on conflict do nothing"
-                : PUT + "v.* from (values " + values + ") as v, " + requestSql();
-    }
-
-    /** The payload of a word, or null where it is large. */
-    abstract String smallPayload();
-
     /** Something was put. */
     abstract void notePut();
 
@@ -366,22 +345,19 @@ public abstract class JdbcStore implements Store {
     public final List<Entry> read(String name, long number, int at) {
         List<Entry> entries = new ArrayList<>();
         boolean[] isThere = {false};
-        query("select at, word, token, " + smallPayload() + " from cf_request left join cf_word on request = id and at >= ? where id = ? order by at",
-                row -> {
-                    isThere[0] = true;
-                    long place = row.getLong(1);
-                    if (!row.wasNull()) {
-                        Entry.add(entries, name, at, place, row.getLong(2), row.getLong(3), row.getBytes(4));
-                    }
-                    return null;
-                }, at, number);
+        query(Sql.READ_WITH_PAYLOADS, row -> {
+            isThere[0] = true;
+            long place = row.getLong(1);
+            if (!row.wasNull()) {
+                Entry.add(entries, name, at, place, row.getLong(2), row.getLong(3), row.getBytes(4));
+            }
+            return null;
+        }, number, at);
         if (!isThere[0]) {
             throw new StoreException.Gone(name);
         }
         return entries;
     }
-
-    static final String ENDS = "select name, (select max(at) + 1 from cf_word where request = id) from cf_request where closed is null";
 
     /** Adds requests to those that are told, each with how many words it has. */
     static void addEnds(Map<String, Integer> ends, List<Map.Entry<String, Integer>> rows) {
@@ -394,54 +370,44 @@ public abstract class JdbcStore implements Store {
 
     @Override
     public final void beat(long session) {
-        change("insert into cf_beat (session, count) values (?, 1) on conflict (session) do update set count = cf_beat.count + 1", session);
+        change(Sql.BEAT, session);
     }
 
     @Override
     public final Map<Long, Long> beats() {
         Map<Long, Long> beats = new HashMap<>();
-        query("select session, count from cf_beat", row -> beats.put(row.getLong(1), row.getLong(2)));
+        query(Sql.BEATS, row -> beats.put(row.getLong(1), row.getLong(2)));
         return beats;
     }
 
     @Override
-    public final void dropBeat(long session) {
-        inOwnTransaction(db -> db.change("delete from cf_beat where session = ?", session)
-                + db.change("delete from cf_name where request = 0 and session = ?", session));
-    }
-
-    @Override
     public final void nameSession(long session, String name) {
-        change("insert into cf_name (request, session, name) values (0, ?, ?) on conflict (request, session) do update set name = excluded.name",
-                session, name);
+        change(Sql.NAME_SESSION, session, name);
     }
 
     @Override
     public final Map<Long, String> sessionNames(String request, long number) {
         Map<Long, String> names = new HashMap<>();
-        query("select session, name from cf_name where request = ?", row -> names.put(row.getLong(1), row.getString(2)), number);
+        query(Sql.SESSION_NAMES, row -> names.put(row.getLong(1), row.getString(2)), number);
         return names;
     }
 
     @Override
     public final void setTimer(Timer timer) {
-        int kept = change("insert into cf_timer (request, stage, due, payload) select id, ?, ?, ? from " + requestSql()
-                + " where true on conflict (request, stage) do update set due = excluded.due, payload = excluded.payload",
-                timer.stage, timer.due, timer.payload, timer.number);
-        if (kept == 0) {
+        if (change(Sql.SET_TIMER, timer.number, timer.stage, timer.due, timer.payload) == 0) {
             throw new StoreException.Gone(timer.request);
         }
     }
 
     @Override
     public final List<Timer> dueTimers(double now) {
-        return query("select name, id, stage, due, payload from cf_timer join cf_request on id = request where due <= ? order by due",
+        return query(Sql.DUE_TIMERS,
                 row -> new Timer(row.getString(1), row.getLong(2), row.getInt(3), row.getDouble(4), row.getBytes(5)), now);
     }
 
     @Override
     public final void dropTimer(Timer timer) {
-        change("delete from cf_timer where request = ? and stage = ?", timer.number, timer.stage);
+        change(Sql.DROP_TIMER, timer.number, timer.stage);
     }
 
     @Override

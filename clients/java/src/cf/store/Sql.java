@@ -39,6 +39,8 @@ enum Sql {
     UNSAFE_SETTINGS(text("select name, current_setting(name) from (values ('fsync', 'on'), ('full_page_writes', 'on'),"
                     + "\n('transaction_read_only', 'off')) as safe(name, setting) where current_setting(name) <> setting"),
             null),
+    IS_READ_ONLY(text("select current_setting('transaction_read_only') = 'on'"),
+            null),
     ANSWER_FROM_DISK(text("select set_config('synchronous_commit', 'on', false)"
                     + "\nwhere current_setting('synchronous_commit') in ('off', 'local')"),
             text("pragma synchronous = full")),

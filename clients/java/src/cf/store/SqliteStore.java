@@ -12,35 +12,10 @@ import java.util.concurrent.TimeUnit;
 
 /** A file of SQLite's. Who writes stands in a {@link Line}, as the clients in other languages do. */
 final class SqliteStore extends JdbcStore {
-    private static final String[] SCHEMA = {
-        "create table if not exists cf_request (id integer primary key autoincrement, name text not null unique, "
-                + "plan text not null, opened real not null, closed real)",
-        "create table if not exists cf_word (n integer primary key, request integer, at integer, word integer not null, "
-                + "token integer not null, payload blob, unique (request, at))",
-        "create table if not exists cf_large (request integer, place integer, payload blob not null, primary key (request, place))",
-        "create table if not exists cf_beat (session integer primary key, count integer not null)",
-        "create table if not exists cf_timer (request integer, stage integer, due real not null, payload blob not null, "
-                + "primary key (request, stage)) without rowid",
-        "create index if not exists cf_timer_due on cf_timer (due)",
-        "create index if not exists cf_request_open on cf_request (id) where closed is null",
-        "create table if not exists cf_glance (request integer primary key, words integer not null, said text not null)",
-        "create table if not exists cf_name (request integer, session integer, name text not null, primary key (request, session)) without rowid",
-    };
-    /** Up to where words and requests are, and what came behind that. ({@code +} keeps SQLite from going through all words by the index of requests.) */
-    private static final String NEWS = "select null, (select coalesce(max(n), 0) from cf_word), (select coalesce(max(id), 0) from cf_request) "
-            + "union all select name, 0, null from cf_request where id > ? and closed is null "
-            + "union all select name, case when closed is null then max(at) + 1 else -1 end, null from cf_word join cf_request on id = request "
-            + "where n > ? group by +request";
     /** In bytes: a larger payload would make the words' own pages large. */
     private static final int SMALL = 512;
     /** In a commit: others wait for it. */
     private static final int MOST_AT_ONCE = 64;
-    /** Codes of SQLite's: out of memory, and what is busy, locked, read-only, can't be read or written, full, or can't be opened. */
-    private static final List<Integer> AWAY = Arrays.asList(5, 6, 7, 8, 10, 13, 14);
-    private static final int CONSTRAINT = 19;
-    /** What SQLite says of a place that is taken, and not of a trigger of somebody's. */
-    private static final String TAKEN = "UNIQUE constraint failed: cf_word.";
-
     /** One by whose version it is seen what others have committed, and that version. */
     private PreparedConnection watch;
     private long version = -1;
@@ -56,7 +31,7 @@ final class SqliteStore extends JdbcStore {
     int commits;
 
     SqliteStore(String url) {
-        super(url);
+        super(url, Sql.Engine.SQLITE);
         String file = url.substring("jdbc:sqlite:".length()).replaceFirst("\\?.*", "").replaceFirst("^file:", "");
         path = file.isEmpty() || file.equals(":memory:") ? null : file;
         line = path == null ? null : new Line(path);
@@ -112,6 +87,15 @@ final class SqliteStore extends JdbcStore {
     }
 
     @Override
+    void releaseFunction(PreparedConnection db) {
+        try {
+            super.releaseFunction(db);
+        } catch (SQLException none) { // (its code is that of a table which isn't there)
+            throw new StoreException("the function has ended its transaction", none);
+        }
+    }
+
+    @Override
     boolean rollBackToFunction(PreparedConnection db) {
         return false;
     }
@@ -119,7 +103,7 @@ final class SqliteStore extends JdbcStore {
     @Override
     void setUp() {
         inOwnTransaction(db -> {
-            for (String statement : SCHEMA) {
+            for (String statement : Sql.SCHEMA.of(Sql.Engine.SQLITE).text.split(";")) {
                 db.execute(statement);
             }
             return null;
@@ -129,8 +113,8 @@ final class SqliteStore extends JdbcStore {
     @Override
     void prepare(PreparedConnection db) throws SQLException {
         db.execute("pragma busy_timeout = " + LONGEST_WAIT * 1000);
-        String mode = db.rows("pragma journal_mode = wal", row -> row.getString(1)).get(0);
-        db.execute("pragma synchronous = full");
+        String mode = db.rows(Sql.SET_JOURNAL, row -> row.getString(1)).get(0);
+        db.execute(Sql.ANSWER_FROM_DISK);
         if (!Arrays.asList("wal", "delete", "truncate", "persist").contains(mode)) {
             throw new StoreException("journal_mode is " + mode + ", with which a crash loses words");
         }
@@ -138,17 +122,7 @@ final class SqliteStore extends JdbcStore {
 
     @Override
     boolean isAway(SQLException error) {
-        return AWAY.contains(error.getErrorCode() & 0xff);
-    }
-
-    @Override
-    boolean isTaken(SQLException error) {
-        return (error.getErrorCode() & 0xff) == CONSTRAINT && String.valueOf(error.getMessage()).contains(TAKEN);
-    }
-
-    @Override
-    String clockSql() {
-        return "(julianday('now') - 2440587.5) * 86400.0";
+        return Sql.SQLITE_AWAY.contains(error.getErrorCode() & 0xff);
     }
 
     /** A put that waits for the file, and what became of it, which the lock of {@link #waiting} guards. */
@@ -251,7 +225,7 @@ final class SqliteStore extends JdbcStore {
             return null;
         };
         try {
-            boolean isOneStatement = all.size() == 1 && largePayloads(all.get(0).put).isEmpty() && !all.get(0).put.opens;
+            boolean isOneStatement = all.size() == 1 && isOneStatement(all.get(0).put);
             withConnection(isOneStatement ? act : inTransaction(act));
             commits++;
         } catch (RuntimeException | Error fault) {
@@ -274,35 +248,53 @@ final class SqliteStore extends JdbcStore {
             if (isAway(error) || !largePayloads(it.put).isEmpty()) {
                 throw error;
             }
-            it.refused = isTaken(error) ? null : toStoreException(error);
+            it.refused = toStoreException(error);
             return false;
         }
     }
 
+    /** Whether a put is one statement, which does all or nothing. */
+    private static boolean isOneStatement(Put put) {
+        return put.entries.size() <= 2 && !put.opens && largePayloads(put).isEmpty();
+    }
+
     @Override
     boolean put(PreparedConnection db, Put put) throws SQLException {
-        if (!put.opens) {
+        if (isOneStatement(put)) {
             return putWords(db, put);
         }
-        db.execute("savepoint cf_opens"); // (where the request can't be opened again, the words don't stand)
+        db.execute("savepoint cf_put"); // (all of its statements stand, or none)
         boolean landed = false;
         try {
-            landed = putWords(db, put) && db.change("update cf_request set closed = null where id = ? and closed is not null", put.number) >= 0;
+            landed = putWords(db, put) && (!put.opens || db.change(Sql.OPEN_AGAIN, put.number) >= 0);
         } finally {
             if (!landed) {
-                db.execute("rollback to cf_opens");
+                db.execute("rollback to cf_put");
             }
-            db.execute("release cf_opens");
+            db.execute("release cf_put");
         }
         return landed;
     }
 
     private boolean putWords(PreparedConnection db, Put put) throws SQLException {
-        boolean landed = putAtOnce(db, put, SMALL);
-        for (int place : landed ? largePayloads(put) : Collections.<Integer>emptyList()) {
-            db.change("insert into cf_large (request, place, payload) values (?, ?, ?)", put.number, place, put.payloads.get(place));
+        List<Integer> large = largePayloads(put);
+        if (put.entries.size() == 2 && large.isEmpty()) {
+            Entry first = put.entries.get(0), second = put.entries.get(1);
+            return db.change(Sql.PUT_TWO, put.number, put.at, first.word, first.token, put.payloads.get(put.at + 1), second.word, second.token,
+                    put.payloads.get(put.at + 2)) == 2;
         }
-        return landed;
+        for (int k = 0; k < put.entries.size(); k++) {
+            Entry entry = put.entries.get(k);
+            int place = put.at + 1 + k;
+            byte[] payload = put.payloads.get(place);
+            if (db.change(Sql.PUT, put.number, put.at + k, entry.word, entry.token, large.contains(place) ? null : payload) == 0) {
+                return false;
+            }
+            if (large.contains(place)) {
+                db.change(Sql.PUT_LARGE, put.number, place, payload);
+            }
+        }
+        return true;
     }
 
     /** The places of payloads that don't stand beside their words. */
@@ -318,38 +310,22 @@ final class SqliteStore extends JdbcStore {
     }
 
     @Override
-    String requestSql() {
-        return "(select id from cf_request where id = ?) as there";
-    }
-
-    @Override
-    String smallPayload() {
-        return "payload";
-    }
-
-    @Override
     void notePut() {}
 
     @Override
     public byte[] payload(String name, long number, int place) {
-        List<byte[]> found = query("select payload from cf_word where request = ? and at = ?", row -> row.getBytes(1), number, place - 1);
+        List<byte[]> found = query(Sql.PAYLOAD, row -> row.getBytes(1), number, place);
         if (found.isEmpty()) {
             checkPresent(name, number);
-            return null;
-        }
-        if (found.get(0) == null) {
-            found = query("select payload from cf_large where request = ? and place = ?", row -> row.getBytes(1), number, place);
         }
         return found.isEmpty() ? null : found.get(0);
     }
 
     @Override
     public News news(Object mark) {
-        // Rows are numbered in the order of their commits, since SQLite has one writer. Where the last ones were dropped numbers come again, and
-        // what was put by then is told without a mark.
         long[] since = mark == null ? new long[] {Long.MAX_VALUE, Long.MAX_VALUE} : (long[]) mark, at = new long[2];
         Map<String, Integer> ends = new HashMap<>();
-        query(NEWS, row -> {
+        query(Sql.NEWS, row -> {
             String name = row.getString(1);
             if (name == null) {
                 at[0] = row.getLong(2);
@@ -357,9 +333,9 @@ final class SqliteStore extends JdbcStore {
                 return null;
             }
             return ends.merge(name, row.getInt(2), Math::max);
-        }, since[1], since[0]);
+        }, since[0], since[1]);
         if (mark == null || at[0] < since[0]) {
-            addEnds(ends, query(ENDS, JdbcStore::readEnd));
+            addEnds(ends, query(Sql.ENDS, JdbcStore::readEnd));
         }
         return new News(ends, at);
     }
@@ -373,7 +349,7 @@ final class SqliteStore extends JdbcStore {
                 if (watch == null) {
                     watch = connect();
                 }
-                long now = watch.rows("pragma data_version", row -> row.getLong(1)).get(0);
+                long now = watch.rows(Sql.VERSION, row -> row.getLong(1)).get(0);
                 boolean isOther = now != version;
                 version = now;
                 if (isOther || System.nanoTime() - until >= 0) {
@@ -389,10 +365,10 @@ final class SqliteStore extends JdbcStore {
     @Override
     public boolean end(String name, long number, int at) {
         boolean closes = inOwnTransaction(db -> {
-            boolean closed = db.change("update cf_request set closed = " + clockSql() + " where id = ? and closed is null and "
-                    + "(select coalesce(max(at) + 1, 0) from cf_word where request = id) = ?", number, at) == 1;
-            for (String table : closed ? new String[] {"cf_timer", "cf_glance"} : new String[0]) {
-                db.change("delete from " + table + " where request = ?", number);
+            boolean closed = db.change(Sql.END, number, at) == 1;
+            if (closed) {
+                db.change(Sql.DROP_TIMERS, number);
+                db.change(Sql.DROP_GLANCE, number);
             }
             return closed;
         });
@@ -400,6 +376,11 @@ final class SqliteStore extends JdbcStore {
             checkPresent(name, number);
         }
         return closes;
+    }
+
+    @Override
+    public void dropBeat(long session) {
+        inOwnTransaction(db -> db.change(Sql.DROP_BEAT, session) + db.change(Sql.DROP_SESSION_NAME, session));
     }
 
     @Override

@@ -39,6 +39,8 @@ public final class AllTests {
             over(StoresTest.InPostgres::new, "puts beside a drop", StoreFaultsTest::dropped);
             over(StoresTest.InPostgres::new, "locks that aren't free in time", StoreFaultsTest::lockedOut);
             over(StoresTest.InPostgres::new, "notices of a closed store", StoreFaultsTest::noticesEnd);
+            over(StoresTest.InPostgres::new, "who connects while others put", StoreFaultsTest::connects);
+            over(StoresTest.InPostgres::new, "a server that can only be read for a while", StoreFaultsTest::switchesOver);
         }
         if (chosen != null && !chosen.isEmpty()) {
             System.err.println("there are no tests " + chosen);
@@ -351,6 +353,7 @@ public final class AllTests {
         over(place, "histories of requests in " + engine, StoredFunctionsTest::histories);
         over(place, "calls that are broken off", StoreFaultsTest::brokenOff);
         over(place, "transactions that are undone", StoreFaultsTest::undone);
+        over(place, "puts that a trigger forbids", StoreFaultsTest::forbidden);
         over(place, "waits while nothing changes", StoreFaultsTest::quiet);
     }
 

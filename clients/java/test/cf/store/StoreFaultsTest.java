@@ -234,10 +234,11 @@ public final class StoreFaultsTest {
     /** Which of PostgreSQL's errors say that the same may be asked again. */
     public static void away() {
         JdbcStore store = new PostgresStore("jdbc:postgresql:none");
-        for (String state : new String[] {null, "08006", "25006", "40001", "53300", "55P03", "57014", "57P01", "58030"}) {
+        String[] away = {null, "08006", "25006", "26000", "40001", "40P01", "53100", "53300", "55P03", "57014", "57P01", "57P03", "58030"};
+        for (String state : away) {
             is(store.isAway(new SQLException("away", state)) + " " + state, "true " + state);
         }
-        for (String state : new String[] {"22001", "23505", "25P02", "42501", "42P01", "54000"}) {
+        for (String state : new String[] {"22001", "23505", "23514", "25P02", "42501", "42P01", "54000", "54001", "P0001", "XX001"}) {
             is(store.isAway(new SQLException("refused", state)) + " " + state, "false " + state);
         }
     }
@@ -422,7 +423,7 @@ public final class StoreFaultsTest {
         try (JdbcStore store = at.open()) {
             for (Throwable fault : new Throwable[] {new SQLException("refused"), new IllegalStateException("wrong"), new OutOfMemoryError("none left")}) {
                 thrown(Throwable.class, () -> store.inOwnTransaction(db -> {
-                    db.change("insert into cf_beat (session, count) values (7, 1)");
+                    db.change(Sql.BEAT, 7L);
                     throw StoreFaultsTest.<RuntimeException>sneaky(fault);
                 }));
                 is(store.beats(), Collections.emptyMap());
@@ -430,7 +431,61 @@ public final class StoreFaultsTest {
         }
     }
 
+    /** A put that somebody's own trigger refuses is refused, whatever it says, and its request isn't taken for dropped. */
+    public static void forbidden(Database at) throws Exception {
+        boolean isSqlite = at instanceof InFile;
+        try (JdbcStore store = at.open(); Connection beside = at.connect(); Statement db = beside.createStatement()) {
+            if (!isSqlite) {
+                db.execute("create function forbids() returns trigger language plpgsql as "
+                        + "$$ begin raise exception 'UNIQUE' using errcode = '23505'; end $$");
+            }
+            db.execute("create trigger forbids before insert on cf_word" + (isSqlite ? " when new.token = 13 begin select raise(abort, 'UNIQUE'); end"
+                    : " for each row when (new.token = 13) execute function forbids()"));
+            Store.Opened to = store.open("forbidden", "{}");
+            for (int many = 1; many <= 3; many++) {
+                List<Store.Entry> entries = new ArrayList<>();
+                for (int k = 1; k <= many; k++) {
+                    entries.add(new Store.Entry(1, k == many ? 13 : k));
+                }
+                for (boolean opens : new boolean[] {false, true}) {
+                    Store.Put put = new Store.Put(to.name, to.number, 0, entries, Collections.emptyMap(), opens);
+                    StoreException refused = thrown(StoreException.class, () -> store.append(put));
+                    is(refused.getClass() + " " + refused.getMessage().contains("UNIQUE"), StoreException.class + " true");
+                    is(store.read(to.name, to.number, 0).size(), 0);
+                }
+            }
+        }
+    }
+
     // PostgreSQL alone.
+
+    /** Who connects waits for no transaction, since the tables are there. */
+    public static void connects(InPostgres at) throws SQLException {
+        try (JdbcStore store = at.open(); Connection beside = at.connect(); Statement db = beside.createStatement()) {
+            beside.setAutoCommit(false);
+            db.execute("insert into cf_word values (1, 1, 1, 1)");
+            JdbcStore.open(at.url() + "&options=-c%20lock_timeout=50").close();
+            is(store.beats(), Collections.emptyMap());
+        }
+    }
+
+    /** A server that can only be read later, as in a switch-over, is away, and so is one that lets nobody in. One that can't be written to is refused. */
+    public static void switchesOver(InPostgres at) throws SQLException {
+        String role = "cf_role_" + ProcessHandle.current().pid(), url = at.url().replaceFirst("user=[^&]*", "user=" + role);
+        at.open().close();
+        thrown(StoreException.Unknown.class, () -> JdbcStore.open(url));
+        try (Connection beside = at.connect(); Statement db = beside.createStatement()) {
+            db.execute("create role " + role + " superuser login");
+            try (JdbcStore store = JdbcStore.open(url)) {
+                db.execute("alter role " + role + " set default_transaction_read_only = on");
+                thrown(StoreException.Unknown.class, store::transaction);
+                is(thrown(StoreException.class, () -> JdbcStore.open(url)).getClass(), StoreException.class);
+                db.execute("alter role " + role + " reset all");
+                store.transaction().close();
+            }
+            db.execute("drop role " + role);
+        }
+    }
 
     /** Somebody drops a request while another puts to it: the put waits for that, and finds none; or the drop waits, and what was put goes, too. */
     public static void dropped(InPostgres at) throws Exception {
@@ -571,10 +626,10 @@ public final class StoreFaultsTest {
     /** Which of SQLite's errors say so. */
     public static void awayFromFile() {
         JdbcStore store = new SqliteStore("jdbc:sqlite::memory:");
-        for (int code : new int[] {5, 6, 7, 8, 10, 13, 14, 10 | 3 << 8}) {
+        for (int code : new int[] {1, 3, 4, 5, 6, 7, 8, 9, 10, 13, 14, 15, 17, 10 | 3 << 8}) {
             is(store.isAway(new SQLException("away", null, code)) + " " + code, "true " + code);
         }
-        for (int code : new int[] {1, 3, 9, 11, 12, 18, 19, 26, 19 | 8 << 8}) {
+        for (int code : new int[] {11, 12, 18, 19, 20, 21, 26, 19 | 8 << 8}) {
             is(store.isAway(new SQLException("refused", null, code)) + " " + code, "false " + code);
         }
     }
@@ -695,15 +750,15 @@ public final class StoreFaultsTest {
         PreparedConnection db = new PreparedConnection(proxy(Connection.class, method -> {
             told.add(method);
             return statement;
-        }));
-        is(db.change("a") + db.change("a"), 2);
-        is(told, Arrays.asList("prepareStatement", "executeUpdate", "executeUpdate"));
+        }), Sql.Engine.SQLITE);
+        is(db.change(Sql.BEAT, 7L) + db.change(Sql.BEAT, 7L), 2);
+        is(told, Arrays.asList("prepareStatement", "setObject", "executeUpdate", "setObject", "executeUpdate"));
         fails.set(true);
-        thrown(SQLException.class, () -> db.change("a"));
+        thrown(SQLException.class, () -> db.change(Sql.BEAT, 7L));
         fails.set(false);
         told.clear();
-        is(db.change("a"), 1);
-        is(told, Arrays.asList("prepareStatement", "executeUpdate"));
+        is(db.change(Sql.BEAT, 7L), 1);
+        is(told, Arrays.asList("prepareStatement", "setObject", "executeUpdate"));
     }
 
     private interface Answers {
