@@ -57,6 +57,7 @@ mod context;
 #[cfg(all(test, feature = "testing"))]
 mod decisions;
 mod ends;
+mod engines;
 mod error;
 #[cfg(feature = "etcd")]
 mod etcd;

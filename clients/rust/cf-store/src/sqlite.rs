@@ -1,9 +1,10 @@
 //! Rows in a file of SQLite's, which processes of one machine share, Python's too.
+use crate::engines::sqlite as sql;
 use crate::error::StoreError;
 use crate::store::{check_row, Mark, Opened, Put, Store, Timer, Transaction, WordCounts};
 use cf_graph::Entry;
 use rusqlite::types::ValueRef;
-use rusqlite::{params, Connection, ErrorCode, OptionalExtension, Row, ToSql};
+use rusqlite::{params, Connection, Params, Row, ToSql};
 use rustix::fs::{flock, FlockOperation};
 use std::any::Any;
 use std::cell::RefCell;
@@ -14,27 +15,6 @@ use std::sync::{mpsc, Arc, Mutex, PoisonError};
 use std::thread;
 use std::time::{Duration, Instant, SystemTime, UNIX_EPOCH};
 
-const SCHEMA: &str = "
-    create table if not exists cf_request (id integer primary key autoincrement, name text not null unique,
-        plan text not null, opened real not null, closed real);
-    create table if not exists cf_word (n integer primary key, request integer, at integer, word integer not null,
-        token integer not null, payload blob, unique (request, at));
-    create table if not exists cf_large (request integer, place integer, payload blob not null,
-        primary key (request, place));
-    create table if not exists cf_beat (session integer primary key, count integer not null);
-    create table if not exists cf_timer (request integer, stage integer, due real not null, payload blob not null,
-        primary key (request, stage)) without rowid;
-    create index if not exists cf_timer_due on cf_timer (due);
-    create index if not exists cf_request_open on cf_request (id) where closed is null;
-    create table if not exists cf_glance (request integer primary key, words integer not null, said text not null);
-    create table if not exists cf_name (request integer, session integer, name text not null,
-        primary key (request, session)) without rowid;
-";
-const PUT: &str = "insert or ignore into cf_word (request, at, word, token, payload) select id, ?, ?, ?, ? from cf_request where id = ?";
-const OPEN_AGAIN: &str = "update cf_request set closed = null where id = ? and closed is not null";
-const READ: &str = "select at, word, token from cf_request left join cf_word on request = id and at >= ? where id = ? order by at";
-const SMALL_PAYLOAD: &str = "select payload from cf_word where request = ? and at = ?";
-const ENDS: &str = "select name, (select coalesce(max(at) + 1, 0) from cf_word where request = id) from cf_request where closed is null";
 /// In bytes: a larger payload would make the words' own pages large.
 const SMALL: usize = 512;
 /// Between two looks at the file's version.
@@ -66,15 +46,15 @@ impl SQLite {
     /// Opens a file, and makes it where it isn't there.
     pub fn open(path: impl AsRef<Path>) -> Result<SQLite, StoreError> {
         let store = SQLite { path: path.as_ref().to_owned(), idle: Mutex::default(), lines: Arc::default(), watch: Mutex::default() };
-        store.writing(|db| db.execute_batch(SCHEMA))?;
+        store.writing(|db| db.execute_batch(sql::SCHEMA))?;
         Ok(store)
     }
 
     fn connect(&self) -> rusqlite::Result<Connection> {
         let db = Connection::open(&self.path)?;
         db.busy_timeout(LONGEST_WAIT)?;
-        let mode: String = db.query_row("pragma journal_mode=wal", [], |row| row.get(0))?;
-        db.execute_batch("pragma synchronous=full")?;
+        let mode: String = db.query_row(sql::SET_JOURNAL, [], |row| row.get(0))?;
+        db.execute_batch(sql::ANSWER_FROM_DISK)?;
         if !["wal", "delete", "truncate", "persist"].contains(&mode.as_str()) {
             let why = format!("journal_mode is {mode}, with which a crash loses words");
             return Err(rusqlite::Error::SqliteFailure(rusqlite::ffi::Error::new(rusqlite::ffi::SQLITE_NOTADB), Some(why)));
@@ -137,21 +117,16 @@ impl SQLite {
 
     fn store_error(&self, error: &rusqlite::Error) -> StoreError {
         let text = format!("{}: {error}", self.path.display());
-        match error.sqlite_error_code() {
-            Some(
-                ErrorCode::DatabaseBusy
-                | ErrorCode::DatabaseLocked
-                | ErrorCode::ReadOnly
-                | ErrorCode::SystemIoFailure
-                | ErrorCode::DiskFull
-                | ErrorCode::CannotOpen
-                | ErrorCode::PermissionDenied
-                | ErrorCode::FileLockingProtocolFailed
-                | ErrorCode::OperationInterrupted
-                | ErrorCode::OutOfMemory,
-            ) => StoreError::Unknown(text),
+        match error {
+            rusqlite::Error::SqliteFailure(code, _) if is_away(code.extended_code) => StoreError::Unknown(text),
             _ => StoreError::Refused(text),
         }
+    }
+
+    /// How many rows a statement changes, in a transaction of its own.
+    fn change(&self, statement: &str, values: impl Params) -> Result<usize, StoreError> {
+        let _turn = self.turn()?;
+        self.using(|db| change_in(db, statement, values))
     }
 
     fn ask<T>(&self, statement: &str, values: &[&dyn ToSql], read: impl FnMut(&Row<'_>) -> rusqlite::Result<T>) -> Result<Vec<T>, StoreError> {
@@ -160,7 +135,7 @@ impl SQLite {
 
     /// `Gone` where a request of this number isn't there.
     fn is_there(&self, name: &str, number: i64) -> Result<(), StoreError> {
-        let there = self.ask("select 1 from cf_request where id = ?", &[&number], |_| Ok(()))?;
+        let there = self.ask(sql::IS_THERE, &[&number], |_| Ok(()))?;
         if there.is_empty() {
             return Err(StoreError::Gone(name.into()));
         }
@@ -174,24 +149,30 @@ impl Store for SQLite {
             if let Some(found) = self.find(name)? {
                 return Ok(found);
             }
-            let now = self.now()?;
-            self.writing(|db| db.execute("insert or ignore into cf_request (name, plan, opened) values (?, ?, ?)", params![name, plan, now]))?;
+            self.change(sql::OPEN, params![name, plan])?;
         }
     }
 
     fn find(&self, name: &str) -> Result<Option<Opened>, StoreError> {
         let read = |row: &Row<'_>| Ok(Opened { name: name.into(), number: row.get(0)?, plan: row.get(1)?, opened: row.get(2)? });
-        Ok(self.ask("select id, plan, opened from cf_request where name = ?", &[&name], read)?.pop())
+        Ok(self.ask(sql::FIND, &[&name], read)?.pop())
     }
 
     fn append(&self, put: Put<'_>) -> Result<Option<Vec<Entry>>, StoreError> {
         // (one statement is a transaction of its own)
-        let is_alone = put.entries.len() == 1 && !put.opens && put.payloads.values().all(|it| it.len() <= SMALL);
-        let landed = if is_alone {
-            let _turn = self.turn()?;
-            self.using(|db| put_in(db, put))?
-        } else {
-            self.writing(|db| put_in(db, put))?
+        let is_alone = put.entries.len() <= 2 && !put.opens && put.payloads.values().all(|it| it.len() <= SMALL);
+        let landed = match put.entries {
+            [first, second] if is_alone => {
+                let payload = |place| put.payloads.get(&place);
+                let (word, token, payload, next_payload) = (first.word as i64, first.token as i64, payload(put.at + 1), payload(put.at + 2));
+                let (next_word, next_token) = (second.word as i64, second.token as i64);
+                self.change(sql::PUT_TWO, params![put.number, put.at, word, token, payload, next_word, next_token, next_payload])? == 2
+            }
+            _ if is_alone => {
+                let _turn = self.turn()?;
+                self.using(|db| put_in(db, put))?
+            }
+            _ => self.writing(|db| put_in(db, put))?,
         };
         if landed {
             return Ok(None);
@@ -205,55 +186,42 @@ impl Store for SQLite {
 
     fn read(&self, name: &str, number: i64, at: usize) -> Result<Vec<Entry>, StoreError> {
         let read = |row: &Row<'_>| Ok((row.get::<_, Option<i64>>(0)?, row.get::<_, Option<i64>>(1)?, row.get::<_, Option<i64>>(2)?));
-        let rows = self.ask(READ, &[&at, &number], read)?;
+        let rows = self.ask(sql::READ, &[&number, &at], read)?;
         if rows.is_empty() {
             return Err(StoreError::Gone(name.into()));
         }
         check_row(name, at, rows.into_iter().filter_map(|(place, word, token)| Some((place?, word?, token?))))
     }
 
-    fn payloads(&self, name: &str, number: i64, places: &[usize]) -> Result<Vec<Option<Vec<u8>>>, StoreError> {
-        let read = |db: &mut Connection| {
-            let mut one = db.prepare_cached(SMALL_PAYLOAD)?;
-            places.iter().map(|place| one.query_row(params![number, *place as i64 - 1], |row| bytes(row.get_ref(0)?)).optional()).collect()
-        };
-        let small: Vec<Option<Option<Vec<u8>>>> = self.using(read)?;
-        let small = small.into_iter().zip(places);
-        // one that isn't small stands elsewhere
-        small.map(|(it, place)| it.flatten().map_or_else(|| self.payload(name, number, *place), |payload| Ok(Some(payload)))).collect()
-    }
-
     fn payload(&self, name: &str, number: i64, place: usize) -> Result<Option<Vec<u8>>, StoreError> {
-        let at = place as i64 - 1;
-        let small = self.ask(SMALL_PAYLOAD, &[&number, &at], |row| bytes(row.get_ref(0)?))?;
-        match small.into_iter().next() {
-            Some(Some(payload)) => Ok(Some(payload)),
-            Some(None) => {
-                let large =
-                    self.ask("select payload from cf_large where request = ? and place = ?", &[&number, &place], |row| bytes(row.get_ref(0)?))?;
-                Ok(large.into_iter().next().flatten())
-            }
-            None => self.is_there(name, number).map(|()| None),
+        let payload = self.ask(sql::PAYLOAD, &[&number, &place], |row| bytes(row.get_ref(0)?))?.pop().flatten();
+        if payload.is_none() {
+            self.is_there(name, number)?;
         }
+        Ok(payload)
     }
 
     fn news(&self, since: Option<Mark>) -> Result<(WordCounts, Mark), StoreError> {
-        // Rows are numbered in the order of their commits, since SQLite has one writer. Where the last ones were dropped numbers come again, and
-        // what was put by then is told without a mark.
-        let last = "select (select coalesce(max(n), 0) from cf_word), (select coalesce(max(id), 0) from cf_request)";
-        let mark = self.ask(last, &[], |row| Ok((row.get(0)?, row.get(1)?)))?.pop().unwrap_or((0, 0));
-        let read = |row: &Row<'_>| Ok((row.get::<_, String>(0)?, row.get::<_, Option<usize>>(1)?));
-        let since = match since {
-            Some(since) if mark.0 >= since.0 => since,
-            _ => return Ok((self.ask(ENDS, &[], read)?.into_iter().collect(), mark)),
-        };
-        let opened = "select name, 0 from cf_request where id > ? and closed is null";
-        // (`+` keeps SQLite from going through all words by the index of requests)
-        let longer = "select name, case when closed is null then max(at) + 1 end from cf_word join cf_request on id = request \
-                      where n > ? group by +request";
-        let mut told = self.ask(opened, &[&since.1], read)?;
-        told.extend(self.ask(longer, &[&since.0], read)?);
-        Ok((told.into_iter().collect(), mark))
+        let (mut told, mut mark) = (WordCounts::new(), Mark::default());
+        if let Some((words, requests)) = since {
+            let read = |row: &Row<'_>| Ok((row.get::<_, Option<String>>(0)?, row.get::<_, i64>(1)?, row.get::<_, Option<i64>>(2)?));
+            for (name, many, opened) in self.ask(sql::NEWS, &[&words, &requests], read)? {
+                if let Some(name) = name {
+                    let known = told.entry(name).or_default();
+                    *known = usize::try_from(many).ok().max(*known);
+                } else {
+                    mark = (many, opened.unwrap_or_default());
+                }
+            }
+        }
+        match since {
+            Some((words, _)) if mark.0 >= words => Ok((told, mark)),
+            _ => {
+                let mark = self.ask(sql::MARK, &[], |row| Ok((row.get(0)?, row.get(1)?)))?.pop().unwrap_or_default(); // (before them)
+                let ends = self.ask(sql::ENDS, &[], |row| Ok((row.get(0)?, Some(row.get(1)?))))?;
+                Ok((ends.into_iter().collect(), mark))
+            }
+        }
     }
 
     fn wait_for_change(&self, wait: Duration) -> Result<(), StoreError> {
@@ -264,7 +232,7 @@ impl Store for SQLite {
                 Some(known) => known,
                 None => (self.connect().map_err(|error| self.store_error(&error))?, -1),
             };
-            let read = db.prepare_cached("pragma data_version").and_then(|mut it| it.query_row([], |row| row.get(0)));
+            let read = db.prepare_cached(sql::VERSION).and_then(|mut it| it.query_row([], |row| row.get(0)));
             let now = read.map_err(|error| self.store_error(&error))?;
             *watch = Some((db, now));
             let left = until.saturating_duration_since(Instant::now());
@@ -276,13 +244,10 @@ impl Store for SQLite {
     }
 
     fn end(&self, name: &str, number: i64, at: usize) -> Result<bool, StoreError> {
-        let now = self.now()?;
-        let has = "(select coalesce(max(at) + 1, 0) from cf_word where request = id) = ?";
         let closes = self.writing(|db| {
-            let closes =
-                db.execute(&format!("update cf_request set closed = ? where id = ? and closed is null and {has}"), params![now, number, at])? == 1;
-            for table in ["cf_timer", "cf_glance"].into_iter().filter(|_| closes) {
-                db.execute(&format!("delete from {table} where request = ?"), [number])?;
+            let closes = change_in(db, sql::END, params![number, at])? == 1;
+            for statement in [sql::DROP_TIMERS, sql::DROP_GLANCE].into_iter().filter(|_| closes) {
+                change_in(db, statement, [number])?;
             }
             Ok(closes)
         })?;
@@ -293,24 +258,23 @@ impl Store for SQLite {
     }
 
     fn beat(&self, session: u64) -> Result<(), StoreError> {
-        let beat = "insert into cf_beat values (?, 1) on conflict do update set count = count + 1";
-        self.writing(|db| db.execute(beat, [session as i64]).map(|_| ()))
+        self.change(sql::BEAT, [session as i64]).map(|_| ())
     }
 
     fn beats(&self) -> Result<BTreeMap<u64, i64>, StoreError> {
         let read = |row: &Row<'_>| Ok((row.get::<_, i64>(0)? as u64, row.get(1)?));
-        Ok(self.ask("select session, count from cf_beat", &[], read)?.into_iter().collect())
+        Ok(self.ask(sql::BEATS, &[], read)?.into_iter().collect())
     }
 
     fn drop_beat(&self, session: u64) -> Result<(), StoreError> {
         self.writing(|db| {
-            db.execute("delete from cf_beat where session = ?", [session as i64])?;
-            db.execute("delete from cf_name where request = 0 and session = ?", [session as i64]).map(|_| ())
+            change_in(db, sql::DROP_BEAT, [session as i64])?;
+            change_in(db, sql::DROP_SESSION_NAME, [session as i64]).map(|_| ())
         })
     }
 
     fn name_session(&self, session: u64, name: &str) -> Result<(), StoreError> {
-        self.writing(|db| db.execute("insert or replace into cf_name values (0, ?, ?)", params![session as i64, name]).map(|_| ()))
+        self.change(sql::NAME_SESSION, params![session as i64, name]).map(|_| ())
     }
 
     fn now(&self) -> Result<f64, StoreError> {
@@ -318,25 +282,21 @@ impl Store for SQLite {
     }
 
     fn set_timer(&self, timer: &Timer) -> Result<(), StoreError> {
-        let set = "insert or replace into cf_timer select id, ?, ?, ? from cf_request where id = ?";
-        let kept = self.writing(|db| db.execute(set, params![timer.stage, timer.due, timer.payload, timer.number]))?;
-        if kept == 0 {
+        if self.change(sql::SET_TIMER, params![timer.number, timer.stage, timer.due, timer.payload])? == 0 {
             return Err(StoreError::Gone(timer.request.clone()));
         }
         Ok(())
     }
 
     fn due_timers(&self, now: f64) -> Result<Vec<Timer>, StoreError> {
-        let asked = "select name, stage, due, payload, id from cf_timer join cf_request on id = request where due <= ? order by due";
-        self.ask(asked, &[&now], |row| {
-            let payload = bytes(row.get_ref(3)?)?.unwrap_or_default();
-            Ok(Timer { request: row.get(0)?, stage: row.get(1)?, due: row.get(2)?, payload, number: row.get(4)? })
+        self.ask(sql::DUE_TIMERS, &[&now], |row| {
+            let payload = bytes(row.get_ref(4)?)?.unwrap_or_default();
+            Ok(Timer { request: row.get(0)?, number: row.get(1)?, stage: row.get(2)?, due: row.get(3)?, payload })
         })
     }
 
     fn drop_timer(&self, timer: &Timer) -> Result<(), StoreError> {
-        let drop = "delete from cf_timer where request = ? and stage = ?";
-        self.writing(|db| db.execute(drop, params![timer.number, timer.stage]).map(|_| ()))
+        self.change(sql::DROP_TIMER, params![timer.number, timer.stage]).map(|_| ())
     }
 
     fn transacts(&self) -> bool {
@@ -355,23 +315,30 @@ impl Store for SQLite {
     }
 }
 
+/// Whether SQLite can't do it now.
+fn is_away(code: i32) -> bool {
+    sql::AWAY.contains(&(code & 0xff))
+}
+
+/// How many rows a statement changes.
+fn change_in(db: &Connection, statement: &str, values: impl Params) -> rusqlite::Result<usize> {
+    db.prepare_cached(statement)?.execute(values)
+}
+
 /// Puts a group in a transaction that holds the file: whether it landed.
 fn put_in(db: &Connection, put: Put<'_>) -> rusqlite::Result<bool> {
-    let mut word = db.prepare_cached(PUT)?;
     for (k, entry) in put.entries.iter().enumerate() {
         let payload = put.payloads.get(&(put.at + 1 + k));
         let small = payload.filter(|it| it.len() <= SMALL);
-        if word.execute(params![put.at + k, entry.word as i64, entry.token as i64, small, put.number])? == 0 {
-            return Ok(false); // (a row has no holes, so it is the first, and none of the group was put)
+        if change_in(db, sql::PUT, params![put.number, put.at + k, entry.word as i64, entry.token as i64, small])? == 0 {
+            return Ok(false); // (the first: nothing stands behind a place that is free, so none of the group was put)
         }
-        if small.is_none() {
-            if let Some(payload) = payload {
-                db.prepare_cached("insert into cf_large values (?, ?, ?)")?.execute(params![put.number, put.at + 1 + k, payload])?;
-            }
+        if let Some(large) = payload.filter(|it| it.len() > SMALL) {
+            change_in(db, sql::PUT_LARGE, params![put.number, put.at + 1 + k, large])?;
         }
     }
     if put.opens {
-        db.prepare_cached(OPEN_AGAIN)?.execute([put.number])?;
+        change_in(db, sql::OPEN_AGAIN, [put.number])?;
     }
     Ok(true)
 }
@@ -437,4 +404,19 @@ fn bytes(found: ValueRef<'_>) -> rusqlite::Result<Option<Vec<u8>>> {
         ValueRef::Blob(bytes) | ValueRef::Text(bytes) => Some(bytes.to_vec()),
         _ => None,
     })
+}
+
+#[cfg(test)]
+mod tests {
+    use super::is_away;
+
+    #[test]
+    fn which_errors_say_that_the_file_is_away() {
+        for code in [1, 3, 4, 5, 6, 7, 8, 9, 10, 13, 14, 15, 17, 10 | 3 << 8] {
+            assert!(is_away(code), "{code}");
+        }
+        for code in [11, 12, 18, 19, 20, 21, 26, 19 | 8 << 8] {
+            assert!(!is_away(code), "{code}");
+        }
+    }
 }

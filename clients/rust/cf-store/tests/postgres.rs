@@ -3,7 +3,7 @@
 mod common;
 
 use cf_graph::{Call, Event, Form, Of};
-use cf_store::{Entry, Functions, Put, Service, Store, StoreError, Timer};
+use cf_store::{Entry, Functions, Postgres, Put, Service, Store, StoreError, Timer};
 use common::{patient, rows, settled, until, AnyStore, Place};
 use std::collections::BTreeMap;
 use std::sync::atomic::{AtomicU32, Ordering};
@@ -75,6 +75,24 @@ fn who_connects_waits_for_no_transaction() {
     let mut puts = store.transaction().unwrap();
     rows(puts.connection(), "insert into cf_word values (1, 1, 1, 1)").unwrap();
     assert_eq!(AnyStore::open(&address).find("r"), Ok(None), "its tables are there");
+}
+
+/// As in a switch-over. One that lets nobody in is away, too, and one that can't be written to from the start is refused.
+#[test]
+fn a_server_that_can_only_be_read_later_is_away() {
+    let Some((place, _)) = impatient("switches") else { return };
+    let role = format!("cf_role_{}", std::process::id());
+    let address = place.address().replacen("postgres@", &format!("{role}@"), 1);
+    assert!(matches!(Postgres::connect(&address), Err(StoreError::Unknown(_))), "nobody is let in");
+    place.query(&format!("create role {role} superuser login"));
+    let store = AnyStore::open(&address);
+    place.query(&format!("alter role {role} set default_transaction_read_only = on"));
+    assert!(matches!(store.transaction().err(), Some(StoreError::Unknown(_))));
+    assert!(matches!(Postgres::connect(&address), Err(StoreError::Refused(_))));
+    place.query(&format!("alter role {role} reset all"));
+    assert!(store.transaction().is_ok());
+    drop(store);
+    place.query(&format!("drop role {role}"));
 }
 
 #[test]

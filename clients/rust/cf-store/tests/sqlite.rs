@@ -441,6 +441,50 @@ fn who_has_no_turn_waits() {
     });
 }
 
+/// It is refused, whatever the trigger says, and its request isn't taken for dropped.
+#[test]
+fn a_put_that_a_trigger_forbids() {
+    let place = Place::new("forbidden");
+    let (store, none) = (place.store(), BTreeMap::new());
+    let number = store.open("r", "{}").unwrap().number;
+    if place.file().is_some() {
+        place.query("create trigger forbids before insert on cf_word when new.token = 13 begin select raise(abort, 'UNIQUE'); end");
+    } else {
+        place
+            .query("create function forbids() returns trigger language plpgsql as $$ begin raise exception 'UNIQUE' using errcode = '23505'; end $$");
+        place.query("create trigger forbids before insert on cf_word for each row when (new.token = 13) execute function forbids()");
+    }
+    for many in 1..=3 {
+        let entries: Vec<Entry> = (1..=many).map(|k| Entry { word: 1, token: if k == many { 13 } else { k } }).collect();
+        for opens in [false, true] {
+            let told = store.append(Put { request: "r", number, at: 0, entries: &entries, payloads: &none, opens });
+            assert!(matches!(&told, Err(StoreError::Refused(why)) if why.contains("UNIQUE")), "{told:?}");
+            assert_eq!(store.read("r", number, 0), Ok(vec![]));
+        }
+    }
+    assert_eq!(store.payloads("r", number, &[1, 2]), Ok(vec![None, None]));
+    assert_eq!(store.payloads("r", number + 1, &[1, 2]), Err(StoreError::Gone("r".into())));
+}
+
+/// Nothing of it stands where a later place is taken, as behind a word that somebody took out.
+#[test]
+fn a_group_over_a_gap() {
+    let place = Place::new("gap");
+    let (store, none) = (place.store(), BTreeMap::new());
+    let number = store.open("r", "{}").unwrap().number;
+    let entries: Vec<Entry> = (1..=5).map(|token| Entry { word: 1, token }).collect();
+    assert_eq!(store.append(Put { request: "r", number, at: 0, entries: &entries, payloads: &none, opens: false }), Ok(None));
+    place.query("delete from cf_word where at = 2");
+    for many in [2, 3] {
+        for opens in [false, true] {
+            let told = store.append(Put { request: "r", number, at: 2, entries: &entries[..many], payloads: &none, opens });
+            assert!(matches!(told, Err(StoreError::Broken { place: 3, .. })), "{told:?}");
+        }
+    }
+    let stands = place.query("select 'place ' || at from cf_word order by at");
+    assert_eq!(stands, ["place 0", "place 1", "place 3", "place 4"]);
+}
+
 #[test]
 fn the_usual_options() {
     let usual = Options::default();

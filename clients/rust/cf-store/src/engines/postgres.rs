@@ -20,6 +20,7 @@ select bool_and(to_regclass(name) is not null) from unnest(array['cf_request', '
 pub(crate) const UNSAFE_SETTINGS: &str = "
 select name, current_setting(name) from (values ('fsync', 'on'), ('full_page_writes', 'on'),
     ('transaction_read_only', 'off')) as safe(name, setting) where current_setting(name) <> setting";
+pub(crate) const IS_READ_ONLY: &str = "select current_setting('transaction_read_only') = 'on'";
 pub(crate) const ANSWER_FROM_DISK: &str = "
 select set_config('synchronous_commit', 'on', false)
     where current_setting('synchronous_commit') in ('off', 'local')";
