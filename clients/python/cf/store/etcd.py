@@ -11,6 +11,7 @@ import weakref
 from typing import Any, Dict, List, Mapping, NamedTuple, Optional, Sequence, Set, Tuple
 from urllib.parse import quote, unquote
 
+from .etcd_codes import is_refused
 from .rows import (
     FIRST,
     HEAD,
@@ -42,7 +43,6 @@ MOST_WORDS = 64  # of a row that is read together with others
 MOST_GLANCES = 60  # in a transaction: each is two comparisons
 SECONDS = 3  # for an answer
 BETWEEN_CHECKS = 15.0  # seconds between two looks at the keys of open requests that a watch tells of
-OUT_OF_RANGE = 11  # the code of gRPC: a revision was compacted meanwhile, or the member doesn't know it yet
 # Has a member that lost its leader end a watch, as `WithRequireLeader` of etcd's own clients does.
 WITH_LEADER = {"Grpc-Metadata-hasleader": "true"}
 
@@ -75,18 +75,21 @@ class Etcd(Store):
             host, port = self._address()
             connection = self._local.http = http.client.HTTPConnection(host, port, timeout=SECONDS)
             self._made.add(connection)
+        why = ""
         try:
             connection.request("POST", path, json.dumps(body))
             answer = connection.getresponse()
             told = answer.read()
             if answer.status == 200:
                 return json.loads(told)
-            if answer.status == 400 and json.loads(told).get("code") != OUT_OF_RANGE:
-                # it is too large, say: asked again it is refused again
-                raise StoreError(f"etcd refuses it: {told[:200]!r}")
             why = f"{answer.status} {told[:200]!r}"
-        except (OSError, http.client.HTTPException, ValueError) as lost:
+            said = json.loads(told)
+            if is_refused(said.get("code"), said.get("message", "")):
+                raise StoreError(f"etcd refuses it: {told[:200]!r}")
+        except (OSError, http.client.HTTPException) as lost:
             why = repr(lost)
+        except (ValueError, AttributeError) as unreadable:
+            why = why or repr(unreadable)
         connection.close()
         self._local.http, self._turn = None, self._turn + 1
         raise Unknown(f"etcd: {why}")

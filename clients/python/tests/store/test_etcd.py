@@ -18,7 +18,7 @@ import unittest
 import unittest.mock
 
 from case import Case
-from cf.store import Put, Unknown, connect, etcd
+from cf.store import Put, StoreError, Unknown, connect, etcd
 from cf.store.rows import Glance, RowQuery
 
 HOST = "127.0.0.1"
@@ -291,6 +291,19 @@ class OneMember(EtcdCase):
         self.assertEqual(known.words, {"a": 1, "b": 0})
         self.between.is_open.set()
         self.told_once(known)
+
+    def test_what_is_too_large(self):
+        """It is refused by etcd, or by gRPC before it; without space it is away."""
+        number = self.direct.open("large", "plan").number
+        for size in (2_000_000, 3_000_000):
+            with self.subTest(size), self.assertRaisesRegex(StoreError, "etcd refuses it"):
+                self.direct.append(Put("large", 0, [(1, 1)], {1: b"x" * size}, number))
+        alarm = {"memberID": 0, "alarm": "NOSPACE"}
+        self.cluster.post("/v3/maintenance/alarm", {**alarm, "action": "ACTIVATE"})
+        with self.assertRaisesRegex(Unknown, "space exceeded"):
+            self.direct.append(Put("large", 0, [(1, 1)], {}, number))
+        self.cluster.post("/v3/maintenance/alarm", {**alarm, "action": "DEACTIVATE"})
+        self.assertIsNone(self.direct.append(Put("large", 0, [(1, 1)], {}, number)))
 
     def test_a_revision_that_is_compacted(self):
         """Nobody tells any more what came behind it: what is there now is read."""

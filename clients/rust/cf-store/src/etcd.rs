@@ -1,4 +1,5 @@
 //! Rows in keys of an etcd cluster, by its JSON gateway: for few and important requests that outlive machines. Python's processes share them.
+use crate::engines::etcd::is_refused;
 use crate::error::StoreError;
 use crate::http::HttpConnection;
 use crate::store::{check_row, Mark, Opened, Put, Store, Timer, WordCounts};
@@ -22,8 +23,6 @@ const SILENCE: Duration = Duration::from_secs(3);
 const BETWEEN_NEWS: Duration = Duration::from_millis(10);
 /// Before a member is asked for a watch where another's was cut off.
 const BETWEEN_WATCHES: Duration = Duration::from_millis(50);
-/// The code of gRPC: a revision was compacted meanwhile, or the member doesn't know it yet.
-const OUT_OF_RANGE: i64 = 11;
 
 /// A cluster. It answers what a majority of its members has on disk, unless these were started with `--unsafe-no-fsync`, which can't be seen here.
 /// It has no clock: timers go by each process's own. A put takes 40 words at most. It needs etcd 3.4 or later. Connections have no TLS.
@@ -101,8 +100,9 @@ impl Etcd {
             let shown = || format!("{status} {}", String::from_utf8_lossy(&told[..told.len().min(200)]));
             let answer = match (status, read) {
                 (200, Ok(read)) => Ok(read),
-                // it is too large, say: asked again it is refused again
-                (400, Ok(read)) if read["code"] != OUT_OF_RANGE => Err(StoreError::Refused(format!("etcd refuses it: {}", shown()))),
+                (_, Ok(read)) if is_refused(read["code"].as_i64().unwrap_or_default(), read["message"].as_str().unwrap_or_default()) => {
+                    Err(StoreError::Refused(format!("etcd refuses it: {}", shown())))
+                }
                 _ => return Err(unknown_error(&shown())),
             };
             lock(&self.idle).push((turn, connection));
@@ -236,6 +236,9 @@ impl Store for Etcd {
             for number in 0..some.len() {
                 told.push(read_pairs(&read["responses"][number]["response_range"])?.pop().map(|pair| pair.value));
             }
+        }
+        if told.iter().any(Option::is_none) {
+            self.check_there(name, number)?;
         }
         Ok(told)
     }

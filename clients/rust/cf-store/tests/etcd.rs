@@ -201,10 +201,14 @@ fn rows_stand_in_keys() {
     assert_eq!(store.append(Put { number: number + 1, at: 3, ..put }), gone.clone().map(|_: ()| None));
     assert_eq!(store.read(name, number + 1, 0), gone.clone().map(|_: ()| vec![]));
     assert_eq!(store.payload(name, number + 1, 1), gone.clone().map(|_: ()| None));
+    assert_eq!(store.payloads(name, number + 1, &[1]), gone.clone().map(|_: ()| vec![]));
     let many = vec![entry(1, 1); 41];
     assert!(matches!(store.append(Put { at: 3, entries: &many, payloads: &none, ..put }), Err(StoreError::Refused(_))));
-    let huge = BTreeMap::from([(4, vec![b'x'; 2_000_000])]);
-    assert!(matches!(store.append(Put { at: 3, entries: &other, payloads: &huge, ..put }), Err(StoreError::Refused(_))));
+    for size in [2_000_000, 3_000_000] {
+        // (etcd refuses the one, and gRPC the other before it)
+        let huge = BTreeMap::from([(4, vec![b'x'; size])]);
+        assert!(matches!(store.append(Put { at: 3, entries: &other, payloads: &huge, ..put }), Err(StoreError::Refused(_))));
+    }
 
     let (all, mark) = store.news(None).unwrap();
     assert_eq!(all, BTreeMap::from([(name.to_owned(), Some(3))]));

@@ -31,8 +31,6 @@ public final class EtcdStore implements Store {
     private static final int MOST_KEYS = 1000;
     /** How long a member may be silent, in milliseconds. */
     private static final int SILENCE = 3000;
-    /** The code of gRPC: a revision was compacted meanwhile, or the member doesn't know it yet. */
-    private static final long OUT_OF_RANGE = 11;
     /** How many digits a place has in a key, so that a range is in order. */
     private static final int DIGITS = 6;
 
@@ -112,11 +110,11 @@ public final class EtcdStore implements Store {
                 giveBack(http, now);
                 return read;
             }
-            if (status == 400 && !Long.valueOf(OUT_OF_RANGE).equals(((Map<?, ?>) Json.read(told)).get("code"))) {
-                giveBack(http, now);
-                throw new StoreException("etcd refuses it: " + text); // It is too large, say: asked again it is refused again.
-            }
             why = status + " " + text;
+            if (isRefused(told)) {
+                giveBack(http, now);
+                throw new StoreException("etcd refuses it: " + text);
+            }
         } catch (IOException | IllegalArgumentException | ClassCastException lost) {
             why = lost.toString();
         }
@@ -125,6 +123,15 @@ public final class EtcdStore implements Store {
         }
         turnFrom(now);
         throw new StoreException.Unknown("etcd: " + why, null);
+    }
+
+    private static boolean isRefused(byte[] told) {
+        try {
+            Map<?, ?> said = (Map<?, ?>) Json.read(told);
+            return EtcdCodes.isRefused(asLong(said.get("code")), String.valueOf(said.get("message")));
+        } catch (IllegalArgumentException | ClassCastException other) {
+            return false; // (who stands before etcd says so)
+        }
     }
 
     private synchronized void turnFrom(int from) {

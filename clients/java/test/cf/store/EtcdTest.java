@@ -218,8 +218,10 @@ public final class EtcdTest {
             thrown(StoreException.Gone.class, () -> store.payload("minus", gone.number, 1));
             thrown(StoreException.Gone.class, () -> store.end("minus", gone.number, 1));
             thrown(StoreException.Gone.class, () -> store.setTimer(new Store.Timer("minus", gone.number, 0, 1, new byte[1])));
-            StoreException refused = thrown(StoreException.class, () -> store.append(put(minus, 1, 2_000_000, 1, 1)));
-            is(refused instanceof StoreException.Unknown, false);
+            for (int size : new int[] {2_000_000, 3_000_000}) { // (etcd refuses the one, and gRPC the other before it)
+                StoreException refused = thrown(StoreException.class, () -> store.append(put(minus, 1, size, 1, 1)));
+                is(refused instanceof StoreException.Unknown, false);
+            }
             long[] many = new long[82];
             is(thrown(StoreException.class, () -> store.append(put(minus, 1, -1, many))).getMessage(), "etcd takes 40 words in a put, not 41");
             thrown(IllegalArgumentException.class, () -> store.find("half \ud83d"));
