@@ -2,7 +2,7 @@
 use Rattle.std.proofs.Common.{◌≡◌, ℕ, ◌<◌, ◌≤◌, Bool, true, false, cond, eqb, Some, Option, List, [], ◌∷◌, ◌++◌, refl, ap, sym, subst, ◌∙◌, inl, inr, arith}
 use Rattle.std.proofs.lemmas.Bool.Decides.{eqb_tells}
 use Rattle.cf_host.specs.declared.ticket.Ticket.{Ticket}
-use Rattle.cf_host.specs.Tickets.{AreAmong, AreApart, Call, ComesTo, EachIsAnsweredOnce, IsOneOf, NoneHas, Tickets, closed_in, closes, opened_in, opens, ticket_of, without}
+use Rattle.cf_host.specs.Tickets.{AreAmong, AreApart, Call, ComesTo, EachIsAnsweredOnce, IsOneOf, NoneHas, Tickets, closed_in, closes, opened_in, opens, reserves, ticket_of, without}
 
 -- no number is above the last one
 abbrev AreLow : ℕ → List Ticket → Type 0
@@ -96,6 +96,15 @@ kept (closes t ∷ calls) w (v, before, call) =
       opened = (one.0, k.opened);
       once = (one.1, k.once);
       waits = subst (AreOpen (opened_in calls) (t ∷ closed_in calls)) (sym call.waiting) (open_without t (opened_in calls) (closed_in calls) v.waiting k.waits);
+    }
+kept (reserves ∷ calls) w (v, before, call) =
+    let k = kept calls v before in
+    record {
+      low = subst (λ (n : ℕ). AreLow n (opened_in calls)) (sym call.last) k.low;
+      numbers = k.numbers;
+      opened = k.opened;
+      once = k.once;
+      waits = subst (AreOpen (opened_in calls) (closed_in calls)) (sym call.waiting) k.waits;
     }
 
 pub each_is_answered_once : EachIsAnsweredOnce

@@ -1,3 +1,12 @@
 pub mod Clocks
 pub mod Answered
 pub mod Covered
+pub mod Leasts
+pub mod Counted
+pub mod Placed
+pub mod Ordering
+pub mod Sleeping
+pub mod Worked
+pub mod Effects
+pub mod CalledOnce
+pub mod Turned

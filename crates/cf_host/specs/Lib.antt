@@ -1,3 +1,11 @@
 pub mod Clocks
 pub mod Tickets
 pub mod News
+pub mod Pulses
+pub mod Requests
+pub mod Answering
+pub mod Asking
+pub mod Busy
+pub mod Waking
+pub mod Hosts
+pub mod Laws

@@ -1,15 +1,25 @@
--- Tickets: each is opened for a question or a call, and is closed by its answer.
-use Rattle.std.specs.Prelude.{◌≡◌, ◌≢◌, ◌⊎◌, ℕ, ◌+◌, Option, Some, None, List, [], ◌∷◌, ◌++◌, cond, eqb, not}
+-- Tickets: each is opened for a question, a call or an act, and is closed by its answer.
+use Rattle.std.specs.Prelude.{◌≡◌, ◌≢◌, ◌⊎◌, ℕ, ◌+◌, ◌<◌, ◌&&◌, Bool, true, false, Option, Some, None, List, [], ◌∷◌, ◌++◌, cond, eqb, length, not}
 use Rattle.std.specs.List.{filter}
+use Rattle.std.specs.declared.vec.Vec.{Vec}
+use Rattle.std.specs.Vec.{vec_capacity}
+use Rattle.cf_host.specs.declared.ticket.Asked.{Asked}
+use Rattle.cf_host.specs.declared.ticket.Asked.TheVariants.{Beats, News, Open, Row, Call as Called, Act}
 use Rattle.cf_host.specs.declared.ticket.Ticket.{Ticket}
 
--- the number given last, and the tickets that are open
+-- the number given last, the tickets that are open, and whether a place was found for one more
 pub record Tickets : Type 0 where
   pub last : ℕ
   pub waiting : List Ticket
+  pub is_ready : Bool
 
 abbrev pub no_tickets : Tickets
-no_tickets = record { last = 0; waiting = [] }
+no_tickets = record { last = 0; waiting = []; is_ready = false }
+
+-- what is kept: a number and a place are left where one was found
+pub record IsReady {Z : Type 0} (is_ready : Bool) (last : ℕ) (waiting : Vec Ticket Z) : Type 0 where
+  pub number : is_ready ≡ true → last < 18446744073709551615
+  pub place : is_ready ≡ true → length waiting.items < vec_capacity waiting
 
 -- the first ticket that has this number
 abbrev pub ticket_of : ℕ → List Ticket → Option Ticket
@@ -20,11 +30,34 @@ ticket_of number (t ∷ ts) = cond (eqb t.number number) (Some t) (ticket_of num
 abbrev pub without : ℕ → List Ticket → List Ticket
 without number ts = filter (λ (t : Ticket). not (eqb t.number number)) ts
 
+-- the number of the first ticket that is of the call of this stage's function, or 0
+abbrev pub is_call : Asked → ℕ → ℕ → Bool
+is_call Beats request stage = false
+is_call News request stage = false
+is_call (Open r) request stage = false
+is_call (Row r) request stage = false
+is_call (Called r i) request stage = eqb r request && eqb i stage
+is_call (Act r) request stage = false
+
+abbrev pub call_in : ℕ → ℕ → List Ticket → ℕ
+call_in request stage [] = 0
+call_in request stage (t ∷ ts) = cond (is_call t.of request stage) t.number (call_in request stage ts)
+
 -- a ticket with a new number is opened
 pub record Opens (t : Ticket) (old new : Tickets) : Type 0 where
   pub number : t.number ≡ old.last + 1
   pub last : new.last ≡ t.number
   pub waiting : new.waiting ≡ old.waiting ++ t ∷ []
+
+-- none with this number is left
+pub record Shuts (number : ℕ) (old new : Tickets) : Type 0 where
+  pub last : new.last ≡ old.last
+  pub waiting : new.waiting ≡ without number old.waiting
+
+-- all tickets are as they were
+pub record AreSame (old new : Tickets) : Type 0 where
+  pub last : new.last ≡ old.last
+  pub waiting : new.waiting ≡ old.waiting
 
 -- an open ticket is closed, and none with its number is left
 pub record Closes (t : Ticket) (old new : Tickets) : Type 0 where
@@ -34,14 +67,16 @@ pub record Closes (t : Ticket) (old new : Tickets) : Type 0 where
 
 -- ---- laws
 
--- calls that went well; lists of calls have the last one first
+-- calls that went well, of which one finds a place; lists of calls have the last one first
 pub data Call : Type 0 where
   opens : Ticket → Call
   closes : Ticket → Call
+  reserves : Call
 
 abbrev pub IsCall : Call → Tickets → Tickets → Type 0
 IsCall (opens t) old new = Opens t old new
 IsCall (closes t) old new = Closes t old new
+IsCall reserves old new = AreSame old new
 
 abbrev pub ComesTo : List Call → Tickets → Type 0
 ComesTo [] w = w ≡ no_tickets
@@ -52,11 +87,13 @@ abbrev pub opened_in : List Call → List Ticket
 opened_in [] = []
 opened_in (opens t ∷ calls) = t ∷ opened_in calls
 opened_in (closes t ∷ calls) = opened_in calls
+opened_in (reserves ∷ calls) = opened_in calls
 
 abbrev pub closed_in : List Call → List Ticket
 closed_in [] = []
 closed_in (opens t ∷ calls) = closed_in calls
 closed_in (closes t ∷ calls) = t ∷ closed_in calls
+closed_in (reserves ∷ calls) = closed_in calls
 
 abbrev pub IsOneOf : Ticket → List Ticket → Type 0
 IsOneOf t [] = ⊥

@@ -1,7 +1,11 @@
 //! Laws of a process: the contract of each function is the statement, and its body is empty.
 ghost use Rattle.cf_host.specs.Clocks.{LimitsComeInTime, TimersComeByThen, WhatComesHasCome};
+ghost use Rattle.cf_host.specs.Laws.{CallsOnce, SleepsInTime};
 ghost use Rattle.cf_host.specs.News.{NothingIsMissed};
 ghost use Rattle.cf_host.specs.Tickets.{EachIsAnsweredOnce};
+
+use cf_part::laws::each_function_is_called_once;
+use cf_turn::laws::works_are_calls_of_parts;
 
 /// Whatever the store's clock shows, if it goes no faster than this process's, and an answer told it truly: a timer that is
 /// set by `moment_after` comes no earlier than its span from now on.
@@ -31,3 +35,18 @@ pub fn each_is_answered_once()
 pub fn nothing_is_missed()
     ensures { NothingIsMissed }
 {}
+
+/// Where a process sleeps, it wakes no later than for its next beat or look, for the first request that is to be asked
+/// again, and for the first user who has waited long enough.
+pub fn it_wakes_in_time()
+    ensures { SleepsInTime }
+{}
+
+/// Whatever a store answers, no function of a request is called twice: what a process does to a request is a row of calls
+/// of its work.
+pub fn each_function_of_a_request_is_called_once()
+    ensures { CallsOnce }
+{
+    works_are_calls_of_parts();
+    each_function_is_called_once();
+}

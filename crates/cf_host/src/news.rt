@@ -1,5 +1,5 @@
 //! When a process looks at what is new, and at what.
-ghost use Rattle.std.specs.Prelude.{◌≡◌, ◌≢◌, ◌⊎◌, ◌+◌, ◌<◌, ◌≤◌, IfNone, IfSome, None, Some, min, true};
+ghost use Rattle.std.specs.Prelude.{◌≡◌, ◌≢◌, ◌⊎◌, ◌+◌, ◌<◌, ◌≤◌, IfNone, IfSome, None, Some, is_some, min, true};
 ghost use Rattle.cf_host.specs.News.{answered_by, asked_by, look_of, no_news, unanswered_by};
 
 use std::marker::Model;
@@ -46,6 +46,20 @@ impl News {
             asked: None,
             due: 0,
         }
+    }
+
+    /// Whether a look is open.
+    pub fn is_asked(&self) -> bool
+        ensures { result ≡ is_some self.now.asked }
+    {
+        self.asked.is_some()
+    }
+
+    /// When the next look is due, unless one is open.
+    pub fn due(&self) -> u64
+        ensures { result ≡ self.now.due }
+    {
+        self.due
     }
 
     /// The look that is to be asked for by now, which is open from then on. There is none while one is open, or before the

@@ -22,12 +22,20 @@ fn a_timer_comes_by_the_stores_clock(rt: HostRuntime) {
 #[test]
 fn each_ticket_is_answered_once(rt: HostRuntime) -> Result<(), AllocError> {
     let mut tickets = Tickets::new(rt.alloc());
-    let beats = tickets.issue(Asked::Beats, 5)?;
-    let row = tickets.issue(Asked::Row { request: 7 }, 6)?;
-    assert_eq!(&rt; tickets.close(row.number), Some(row));
-    assert_eq!(&rt; tickets.close(row.number), None);
-    assert_eq!(&rt; tickets.close(beats.number), Some(beats));
-    assert_eq!(&rt; tickets.close(3), None);
+    tickets.reserve()?;
+    let beats = tickets.open(Asked::Beats, 5);
+    tickets.reserve()?;
+    let call = Asked::Call {
+        request: 7,
+        stage: 2,
+    };
+    let call = tickets.open(call, 6);
+    assert_eq!(&rt; tickets.call_of(7, 2), call.number);
+    assert_eq!(&rt; tickets.find(call.number), Some(call));
+    tickets.close(call.number);
+    assert_eq!(&rt; tickets.call_of(7, 2), 0);
+    assert_eq!(&rt; tickets.find(call.number), None);
+    assert_eq!(&rt; tickets.find(beats.number), Some(beats));
     Ok(())
 }
 

@@ -1,0 +1,79 @@
+-- What a process orders, where there is a place for a ticket.
+use Rattle.std.proofs.Common.{◌≡◌, ℕ, ◌∙◌, true, ap, sym, subst}
+use Rattle.cf_turn.specs.declared.turn.Turn.{Turn}
+use Rattle.cf_turn.specs.declared.turn.Turn.TheVariants.{Tell as TellTurn, Show as ShowTurn, Stop as StopTurn, Call as CallTurn, Ask as AskTurn}
+use Rattle.cf_host.specs.declared.order.Order.{Order}
+use Rattle.cf_host.specs.declared.order.Order.TheVariants.{Beats, News as LooksFor, Open, Row, Call, Stop, Show, Tell, Sleep}
+use Rattle.cf_host.specs.declared.ticket.Asked.TheVariants.{Beats as OfBeats, News as OfNews, Open as OfOpen, Row as OfRow, Call as OfCall}
+use Rattle.cf_host.specs.Hosts.{Host, Orders, OrdersTurn, WorksOn}
+use Rattle.cf_host.specs.Tickets.{AreSame, Shuts, Tickets}
+use Rattle.cf_host.proofs.Placed.{opens_ready, ready}
+
+turn_ready : (request : ℕ) (t : Turn) (order : Order) (old new : Tickets) → OrdersTurn request t order (record old { is_ready = true }) new → OrdersTurn request t order old new
+turn_ready request (TellTurn number told) order old new (is, s) = (is, record { last = s.last; waiting = s.waiting })
+turn_ready request (ShowTurn i shown) order old new (is, s) = (is, record { last = s.last; waiting = s.waiting })
+turn_ready request (StopTurn i) order old new (is, s) = (is, record { last = s.last; waiting = s.waiting })
+turn_ready request (CallTurn i function args) order old new (number, is, o) = (number, is, opens_ready (OfCall request i) number old new o)
+turn_ready request (AskTurn q) order old new (number, is, o) = (number, is, opens_ready (OfRow request) number old new o)
+
+works_ready : (old : Host) (now : ℕ) (order : Order) (new : Host) → WorksOn (ready old) now order new → WorksOn old now order new
+works_ready old now order new w =
+    record {
+      may_claim = w.may_claim;
+      may = record { busy = w.may.busy; are = w.may.are; is = w.may.is };
+      request = w.request;
+      turn = w.turn;
+      turns = w.turns;
+      orders = turn_ready w.request w.turn order old.tickets new.tickets w.orders;
+      rest = w.rest;
+    }
+
+pub orders_ready : (old : Host) (now : ℕ) (order : Order) (new : Host) → Orders (ready old) now order new → Orders old now order new
+orders_ready old now (Beats number) new o =
+    record { due = record { free = o.due.free; due = o.due.due }; opens = opens_ready OfBeats number old.tickets new.tickets o.opens; rest = o.rest }
+orders_ready old now (LooksFor number look) new o =
+    record { free = o.free; due = o.due; is = o.is; opens = opens_ready OfNews number old.tickets new.tickets o.opens; rest = o.rest }
+orders_ready old now (Open number request) new o =
+    record {
+      place = o.place;
+      before = o.before;
+      there = o.there;
+      named = o.named;
+      due = o.due;
+      opens = opens_ready (OfOpen request) number old.tickets new.tickets o.opens;
+      rest = o.rest;
+    }
+orders_ready old now (Sleep until) new o =
+    record {
+      beats = λ due. o.beats (record { free = due.free; due = due.due });
+      news = o.news;
+      opens = o.opens;
+      may_claim = o.may_claim;
+      may = record { busy = o.may.busy; are = o.may.are; is = o.may.is };
+      all = o.all;
+      tickets = record { last = o.tickets.last; waiting = o.tickets.waiting };
+      rest = o.rest;
+      until_is = o.until_is;
+    }
+orders_ready old now (Row number request q) new o = works_ready old now (Row number request q) new o
+orders_ready old now (Call number request i function args) new o = works_ready old now (Call number request i function args) new o
+orders_ready old now (Stop number) new o = works_ready old now (Stop number) new o
+orders_ready old now (Show request i shown) new o = works_ready old now (Show request i shown) new o
+orders_ready old now (Tell number told) new o = works_ready old now (Tell number told) new o
+
+-- what the first work that has a turn orders is no question of the process's own
+ordered_by : (t : Turn) (old : Host) (now request : ℕ) (order : Order) (new : Host) → OrdersTurn request t order old.tickets new.tickets → WorksOn old now order new → Orders old now order new
+ordered_by (TellTurn number told) old now request order new (is, s) w = subst (λ (o : Order). Orders old now o new) (sym is) (subst (λ (o : Order). WorksOn old now o new) is w)
+ordered_by (ShowTurn i shown) old now request order new (is, s) w = subst (λ (o : Order). Orders old now o new) (sym is) (subst (λ (o : Order). WorksOn old now o new) is w)
+ordered_by (StopTurn i) old now request order new (is, s) w = subst (λ (o : Order). Orders old now o new) (sym is) (subst (λ (o : Order). WorksOn old now o new) is w)
+ordered_by (CallTurn i function args) old now request order new (number, is, o) w = subst (λ (o : Order). Orders old now o new) (sym is) (subst (λ (o : Order). WorksOn old now o new) is w)
+ordered_by (AskTurn q) old now request order new (number, is, o) w = subst (λ (o : Order). Orders old now o new) (sym is) (subst (λ (o : Order). WorksOn old now o new) is w)
+
+pub works_order : (old : Host) (now : ℕ) (order : Order) (new : Host) → WorksOn old now order new → Orders old now order new
+works_order old now order new w = ordered_by w.turn old now w.request order new w.orders w
+
+pub turns_ready : (old view mid new : Host) (tickets : Tickets) (now : ℕ) (order : Order) → view ≡ old → tickets ≡ record view.tickets { is_ready = true } →
+    mid ≡ record view { tickets = tickets } → Orders mid now order new → Orders old now order new
+turns_ready old view mid new tickets now order is has mid_is o =
+    let all : mid ≡ ready view = mid_is ∙ ap (λ (t : Tickets). record view { tickets = t }) has in
+    subst (λ (h : Host). Orders h now order new) is (orders_ready view now order new (subst (λ (h : Host). Orders h now order new) all o))

@@ -1,0 +1,86 @@
+-- A request at its place in a process.
+use Rattle.std.proofs.Common.{◌≡◌, ℕ, ◌+◌, ◌∙◌, Bool, true, None, List, ap, get_or, set, subst, sym}
+use Rattle.std.proofs.lemmas.Option.{get_or_from_slice_get}
+use Rattle.cf_turn.specs.Works.{Work}
+use Rattle.cf_host.specs.declared.request.Request.{Request}
+use Rattle.cf_host.specs.declared.ticket.Asked.{Asked}
+use Rattle.cf_host.specs.declared.ticket.Asked.TheVariants.{Act}
+use Rattle.cf_host.specs.declared.ticket.Ticket.{Ticket}
+use Rattle.cf_part.specs.Parts.{Part}
+use Rattle.cf_host.specs.Hosts.{Answers, FollowsIn, Host, IsShownPart, IsTicketOf, OnRequest, OnRequestFor, OpensOf}
+use Rattle.cf_host.specs.Requests.{Follows, IsAt, IsPartOf, IsShutAt, OnWork}
+use Rattle.cf_host.specs.Tickets.{Opens, Shuts, Tickets}
+
+-- what an index gives is the request that stands there
+pub same_at : (number place : ℕ) (requests : List Request) (x : Request) (at : IsAt number place requests) → x ≡ get_or requests place x → x ≡ at.request
+same_at number place requests x at value = value ∙ get_or_from_slice_get requests place at.request x at.is
+
+pub on_request : (call : Work → Work → Type 0) (request place : ℕ) (old view new : Host) (x after : Request) → view ≡ old → IsAt request place old.requests →
+    x ≡ get_or view.requests place x → OnWork call x after → new ≡ record view { requests = set view.requests place after } → OnRequest call request old new
+on_request call request place old view new x after is at value calls rest =
+    let there = subst (λ (h : Host). IsAt request place h.requests) (sym is) at in
+    subst (λ (h : Host). OnRequest call request h new) is
+    (record {
+      place = place;
+      at = there;
+      after = after;
+      calls = subst (λ (r : Request). OnWork call r after) (same_at request place view.requests x there value) calls;
+      rest = rest;
+    })
+
+pub answers : (of : ℕ → Asked) (change : Request → Request → Type 0) (number place : ℕ) (old view new : Host) (x after : Request) → view ≡ old → IsTicketOf old number of place →
+    x ≡ get_or view.requests place x → change x after → Shuts number view.tickets new.tickets →
+    new ≡ record view { tickets = new.tickets; requests = set view.requests place after } → Answers of change old number new
+answers of change number place old view new x after is ticket value changes shuts rest =
+    let it = subst (λ (h : Host). IsTicketOf h number of place) (sym is) ticket in
+    subst (λ (h : Host). Answers of change h number new) is
+    (record {
+      place = place;
+      is = it;
+      after = after;
+      changes = subst (λ (r : Request). change r after) (same_at it.request place view.requests x it.at value) changes;
+      shuts = shuts;
+      rest = rest;
+    })
+
+pub shut_at : (place : ℕ) (requests : List Request) (x : Request) → IsShutAt place requests → x ≡ get_or requests place x → x.work ≡ None
+shut_at place requests x shut value = ap (λ (r : Request). r.work) (value ∙ get_or_from_slice_get requests place shut.0 x shut.1) ∙ shut.2
+
+pub shown : (request place : ℕ) (old view : Host) (x : Request) (part : Part) → view ≡ old → IsAt request place view.requests → x ≡ get_or view.requests place x → IsPartOf x part →
+    IsShownPart old request part
+shown request place old view x part is at value of =
+    subst (λ (h : Host). IsShownPart h request part) is
+    (record { place = place; at = at; is = subst (λ (r : Request). IsPartOf r part) (same_at request place view.requests x at value) of })
+
+pub follows_in : (request : ℕ) (old view new : Host) → view ≡ old → Follows request view.requests new.requests → new ≡ record view { requests = new.requests } → FollowsIn request old new
+follows_in request old view new is follows rest = subst (λ (h : Host). FollowsIn request h new) is (record { follows = follows; rest = rest })
+
+-- with a place for a ticket
+abbrev pub ready : Host → Host
+ready h = record h { tickets = record h.tickets { is_ready = true } }
+
+pub opens_ready : (of : Asked) (number : ℕ) (old new : Tickets) → OpensOf of number (record old { is_ready = true }) new → OpensOf of number old new
+opens_ready of number old new o =
+    record { ticket = o.ticket; opens = record { number = o.opens.number; last = o.opens.last; waiting = o.opens.waiting }; is = o.is; named = o.named }
+
+pub on_request_for : (call : ℕ → Work → Work → Type 0) (request number place : ℕ) (old mid view new : Host) (x after : Request) (ticket : Ticket) → mid ≡ ready old → view ≡ mid →
+    IsAt request place old.requests → x ≡ get_or view.requests place x → number ≡ view.tickets.last + 1 → OnWork (call number) x after → Opens ticket view.tickets new.tickets →
+    ticket.of ≡ Act request → new ≡ record view { tickets = new.tickets; requests = set view.requests place after } → OnRequestFor call request number old new
+on_request_for call request number place old mid view new x after ticket from_old from_mid at value named calls opens of rest =
+    let is : view ≡ ready old = from_mid ∙ from_old in
+    let there : x ≡ get_or old.requests place x = value ∙ ap (λ (h : Host). get_or h.requests place x) is in
+    let opened = subst (λ (h : Host). Opens ticket h.tickets new.tickets) is opens in
+    let next : number ≡ old.tickets.last + 1 = named ∙ ap (λ (h : Host). h.tickets.last + 1) is in
+    record {
+      place = place;
+      at = at;
+      after = after;
+      calls = subst (λ (r : Request). OnWork (call number) r after) (same_at request place old.requests x at there) calls;
+      opens = record {
+        ticket = ticket;
+        opens = record { number = opened.number; last = opened.last; waiting = opened.waiting };
+        is = of;
+        named = opened.number ∙ sym next;
+      };
+      rest = rest ∙ ap (λ (h : Host). record h { tickets = new.tickets; requests = set h.requests place after }) is;
+    }

@@ -1,0 +1,13 @@
+use Rattle.std.proofs.Common.{ℕ, refl, subst}
+use Rattle.cf_host.specs.Asking.{Asking}
+use Rattle.cf_host.specs.Pulses.{later_by}
+use Rattle.cf_host.specs.Requests.{OnWork}
+use Rattle.cf_host.proofs.Placed.{on_request_for}
+use Rattle.cf_host.proofs.host.Host.act.Goals as goal
+
+pub returns-clause-ok : goal.returns-clause-ok
+returns-clause-ok c =
+    let number = c.next-number.result in
+    let calls = subst (λ (t : ℕ). OnWork (Asking number c.args.act t) c.index_mut.result.now c.asks.new.self) c.saturating_add-until.ensures c.in-Ok.ensures.ok in
+    on_request_for (λ n. Asking n c.args.act (later_by 60000 c.args.now)) c.args.request number c.in_ok-place.place c.args.self.now c.reserve.new.self _ _ c.index_mut.result.now c.asks.new.self
+    c.open-ticket.result c.in_ok-reserve.ensures.ok c.self.view_is c.in_ok-place.ensures.at c.index_mut.ensures.value c.next-number.ensures calls c.open-ticket.ensures.opens c.open-ticket.ensures.of refl

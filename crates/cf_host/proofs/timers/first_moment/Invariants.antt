@@ -1,0 +1,11 @@
+use Rattle.std.proofs.Common.{◌≡◌, ◌≤◌, drop}
+use Rattle.std.specs.Prelude.{min}
+use Rattle.cf_host.specs.Waking.{first_moment, never}
+use Rattle.cf_host.proofs.timers.first_moment.Given as goal
+
+-- the least of all is that so far, or comes behind
+abbrev pub invariant-loop-request : goal.invariant-loop-request
+invariant-loop-request l = record {
+  is : first_moment l.clock l.requests ≡ min l.first (first_moment l.clock (drop l.request-index l.requests));
+  low : l.first ≤ never;
+}

@@ -1,0 +1,7 @@
+use Rattle.std.proofs.Common.{◌≡◌}
+use Rattle.cf_host.specs.Waking.{moments_below}
+use Rattle.cf_host.proofs.timers.moment_in.Given as goal
+
+-- the first so far
+abbrev pub invariant-loop-stage : goal.invariant-loop-stage
+invariant-loop-stage l = l.first ≡ moments_below l.stage l.view l.notes l.clock

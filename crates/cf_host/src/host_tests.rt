@@ -1,0 +1,356 @@
+//! What a process of session 1 with one thread does in requests of one stage with a function, call by call.
+use crate::host::Host;
+use crate::news::Look;
+use crate::order::{NoAnswer, NoCall, Order};
+use crate::requests::Length;
+use cf_due::Act;
+use cf_forms::{Args, Form};
+use cf_notes::{EndsWith, Note};
+use cf_outcome::{Outcome, Value};
+use cf_part::{Question, Shown};
+use cf_plan::{Plan, PlanBuilder};
+use cf_turn::Told;
+use std::alloc::Global;
+use std::fmt::Debug;
+use std::process::Abort;
+
+/// One call, with what it answers last, where that is compared.
+#[derive(Clone, Copy, Debug)]
+enum Move {
+    Tells(u64, Order),
+    Beats(u64, u64),
+    News(u64, usize),
+    Opened(u64),
+    Reads(u64),
+    Stands(u64),
+    Refuses(u64, u64),
+    Closes(u64),
+    Waits(u64, u64),
+    Drops(u64),
+    Ends(u64),
+    Unfit(u64, NoAnswer),
+    Wants(u64),
+    Limits(u64, u64),
+    NotOpen(u64),
+    Stirs(u64),
+    Stops,
+}
+
+use Move::*;
+
+/// Both requests have no words yet.
+static LENGTHS: [Length; 2] = [
+    Length {
+        request: 9,
+        words: 0,
+    },
+    Length {
+        request: 10,
+        words: 0,
+    },
+];
+
+const BEATS: Order = Order::Beats { ticket: 1 };
+
+const NEWS: Order = Order::News {
+    ticket: 2,
+    look: Look::Whole,
+};
+
+const OPEN: Order = Order::Open {
+    ticket: 3,
+    request: 9,
+};
+
+const READ: Order = Order::Row {
+    ticket: 4,
+    request: 9,
+    question: Question::Read { at: 0 },
+};
+
+const CLAIM: Order = Order::Row {
+    ticket: 5,
+    request: 9,
+    question: Question::Put { at: 0 },
+};
+
+const CALL: Order = Order::Call {
+    ticket: 6,
+    request: 9,
+    stage: 0,
+    function: 7,
+    args: Args::None,
+};
+
+const FINISH: Order = Order::Row {
+    ticket: 7,
+    request: 9,
+    question: Question::Put { at: 1 },
+};
+
+const SHOW: Order = Order::Show {
+    request: 9,
+    stage: 0,
+    shown: Shown::Outcome(Outcome::Value(Value::Int(2))),
+};
+
+const CLOSE: Order = Order::Row {
+    ticket: 8,
+    request: 9,
+    question: Question::Close { at: 2 },
+};
+
+/// A request of which a look tells is opened, read, claimed, called, finished and closed.
+static WORKS: [Move; 25] = [
+    NotOpen(9),
+    Tells(0, BEATS),
+    Tells(0, NEWS),
+    Tells(0, Order::Sleep { until: u64::MAX }),
+    Beats(0, 1),
+    News(2, 1),
+    Tells(0, OPEN),
+    Tells(0, Order::Sleep { until: 200 }),
+    Opened(3),
+    Wants(9),
+    Tells(0, READ),
+    Reads(4),
+    Tells(0, CLAIM),
+    Unfit(6, NoAnswer::NoTicket),
+    Stands(5),
+    Unfit(5, NoAnswer::NoTicket),
+    Tells(0, CALL),
+    Unfit(6, NoAnswer::Unfit),
+    Ends(6),
+    Tells(0, FINISH),
+    Stands(7),
+    Tells(0, SHOW),
+    Tells(0, CLOSE),
+    Closes(8),
+    Tells(0, Order::Sleep { until: 200 }),
+];
+
+/// One thread claims in one of two requests, and in the other one once the first function has ended.
+static SHARES: [Move; 20] = [
+    Tells(0, BEATS),
+    Tells(0, NEWS),
+    Beats(0, 1),
+    News(2, 2),
+    Tells(0, OPEN),
+    Tells(
+        0,
+        Order::Open {
+            ticket: 4,
+            request: 10,
+        },
+    ),
+    Opened(3),
+    Opened(4),
+    Tells(
+        0,
+        Order::Row {
+            ticket: 5,
+            request: 9,
+            question: Question::Read { at: 0 },
+        },
+    ),
+    Tells(
+        0,
+        Order::Row {
+            ticket: 6,
+            request: 10,
+            question: Question::Read { at: 0 },
+        },
+    ),
+    Reads(5),
+    Reads(6),
+    Tells(
+        0,
+        Order::Row {
+            ticket: 7,
+            request: 9,
+            question: Question::Put { at: 0 },
+        },
+    ),
+    Tells(0, Order::Sleep { until: 200 }),
+    Refuses(0, 7),
+    Tells(
+        0,
+        Order::Row {
+            ticket: 8,
+            request: 10,
+            question: Question::Put { at: 0 },
+        },
+    ),
+    Tells(20, Order::Sleep { until: 200 }),
+    Drops(8),
+    Tells(
+        20,
+        Order::Row {
+            ticket: 9,
+            request: 9,
+            question: Question::Put { at: 0 },
+        },
+    ),
+    Tells(20, Order::Sleep { until: 200 }),
+];
+
+/// Beats and looks that stay without an answer are asked for again; so is a plan.
+static WAITS: [Move; 16] = [
+    Tells(0, BEATS),
+    Waits(5, 1),
+    Tells(5, NEWS),
+    Waits(6, 2),
+    Tells(6, Order::Sleep { until: 25 }),
+    Tells(25, Order::Beats { ticket: 3 }),
+    Tells(
+        26,
+        Order::News {
+            ticket: 4,
+            look: Look::Whole,
+        },
+    ),
+    Beats(26, 3),
+    News(4, 1),
+    Tells(
+        26,
+        Order::Open {
+            ticket: 5,
+            request: 9,
+        },
+    ),
+    Waits(30, 5),
+    Tells(30, Order::Sleep { until: 50 }),
+    Tells(
+        50,
+        Order::Open {
+            ticket: 6,
+            request: 9,
+        },
+    ),
+    Drops(6),
+    Stirs(50),
+    Tells(
+        50,
+        Order::News {
+            ticket: 7,
+            look: Look::Since(3),
+        },
+    ),
+];
+
+/// A process that is stopped claims nothing, and looks at the store's clock when a timer comes.
+static TIMES: [Move; 17] = [
+    Stops,
+    Tells(0, BEATS),
+    Tells(0, NEWS),
+    Beats(0, 1),
+    News(2, 1),
+    Tells(0, OPEN),
+    Opened(3),
+    Tells(0, READ),
+    Reads(4),
+    Tells(0, Order::Sleep { until: 200 }),
+    Limits(0, 5),
+    Tells(
+        0,
+        Order::Row {
+            ticket: 6,
+            request: 9,
+            question: Question::Put { at: 0 },
+        },
+    ),
+    Stands(6),
+    Tells(
+        0,
+        Order::Tell {
+            ticket: 5,
+            told: Told::Stands { stage: 0 },
+        },
+    ),
+    Tells(0, Order::Sleep { until: 100 }),
+    Tells(99, Order::Sleep { until: 100 }),
+    Tells(100, Order::Beats { ticket: 7 }),
+];
+
+/// A call that must go well.
+fn must<T: Drop, E: Debug + Drop>(rt: &impl Abort, told: Result<T, E>) -> T {
+    match told {
+        Ok(told) => told,
+        Err(fault) => panic!(rt; "{fault:?}"),
+    }
+}
+
+/// A plan of one stage with a function.
+fn plan_of(rt: &impl Abort, alloc: Global) -> Plan {
+    let mut builder = PlanBuilder::new(alloc);
+    must(rt, builder.stage(Form::Supply, &[], Some(0)));
+    must(rt, builder.build())
+}
+
+/// A request is opened, in which one stage calls function 7. It is a flow's.
+fn open(rt: &impl Abort, alloc: Global, host: &mut Host, ticket: u64) {
+    let plan = plan_of(rt, alloc);
+    let notes = [Note::Calls { function: 7 }];
+    must(rt, host.opened(ticket, &plan, &notes, 1, true));
+}
+
+/// Calls of users.
+fn ask(rt: &impl Abort, host: &mut Host, call: Move) {
+    match call {
+        Wants(request) => must(rt, host.wants(request, 0)),
+        NotOpen(request) => assert_eq!(rt; host.wants(request, 0), Err(NoCall::NotOpen)),
+        Limits(now, ticket) => {
+            let act = Act::Limit {
+                stage: 0,
+                moment: 5100,
+                gives: false,
+            };
+            assert_eq!(rt; host.act(now, 9, act), Ok(ticket));
+        }
+        Stirs(now) => host.stirred(now),
+        Stops => host.stop(),
+        _ => panic!(rt; "no call of a user"),
+    }
+}
+
+/// Answers about a row.
+fn answer(rt: &impl Abort, host: &mut Host, call: Move) {
+    match call {
+        Reads(ticket) => must(rt, host.entries(0, ticket, &[], &[])),
+        Stands(ticket) => must(rt, host.stands(ticket)),
+        Refuses(now, ticket) => must(rt, host.refused(now, ticket)),
+        Closes(ticket) => must(rt, host.closed(ticket, true)),
+        Drops(ticket) => must(rt, host.dropped(ticket)),
+        Ends(ticket) => must(rt, host.ended(ticket, EndsWith::Gives)),
+        Unfit(ticket, why) => assert_eq!(rt; host.stands(ticket), Err(why)),
+        _ => ask(rt, host, call),
+    }
+}
+
+/// Makes a call, and compares its answer.
+fn make(rt: &impl Abort, alloc: Global, host: &mut Host, call: Move) {
+    match call {
+        Tells(now, wanted) => assert_eq!(rt; must(rt, host.turn(now)), wanted),
+        Beats(now, ticket) => must(rt, host.beats(now, ticket, &[], 5000)),
+        News(ticket, many) => must(rt, host.news(0, ticket, &LENGTHS[..many.min(2)], 3)),
+        Waits(now, ticket) => must(rt, host.unknown(now, ticket)),
+        Opened(ticket) => open(rt, alloc, host, ticket),
+        _ => answer(rt, host, call),
+    }
+}
+
+/// Makes calls, one after another.
+fn make_all(rt: &impl Abort, alloc: Global, calls: &[Move]) {
+    let mut host = Host::new(alloc, 1, 1, 10000, true);
+    for call in calls {
+        make(rt, alloc, &mut host, *call);
+    }
+}
+
+#[test]
+fn does_what_is_to_be_done(rt: HostRuntime) {
+    make_all(&rt, rt.alloc(), WORKS.as_slice());
+    make_all(&rt, rt.alloc(), SHARES.as_slice());
+    make_all(&rt, rt.alloc(), WAITS.as_slice());
+    make_all(&rt, rt.alloc(), TIMES.as_slice());
+}
