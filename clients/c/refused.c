@@ -37,6 +37,9 @@ static struct {
   uint32_t calls;
   uint64_t word;
   cf_row_claim claim;
+  cf_host_order order;
+  cf_host_want wants[2];
+  cf_host_view host_view;
   size_t n;
 } out;
 
@@ -56,6 +59,9 @@ static const cf_request_sizes lanes = {.room = 1, .lanes = 2, .own = OWN};
 static const uint8_t lane_of[] = {0, 1};
 static const cf_row_opening opening = {.room = 1, .session = 700};
 static const cf_entry entry = {.word = 1};
+static const cf_host_opening host_opening = {.session = 700, .workers = 1, .lease = 1000};
+static const cf_host_acting acting = {.kind = CF_ACT_CANCEL, .stage = SOURCE};
+static const cf_note notes[] = {{0, 0}, {CF_NOTE_CALLS(1), 0}};
 static const cf_given first = {.stage = SOURCE, .value = {CF_INT, 5}};
 static const uint16_t of = SOURCE;
 static const uint16_t many_of[] = {SOURCE, TWICE, NOT_THERE};
@@ -165,6 +171,27 @@ static void view_calls(cf_handle *h, uint32_t wanted) {
   ROW(cf_row_next_claim(h, &out.task, 0, &out.number), wanted);
 }
 
+static void host_calls(cf_handle *h, uint32_t wanted) {
+  cf_handle empty = {0};
+  ROW(cf_host_follow(h, 7), wanted);
+  ROW(cf_host_act(h, 0, 7, &acting, &out.word), wanted);
+  ROW(cf_host_end(h, 0, 7, &out.word), wanted);
+  ROW(cf_host_wants(h, 7, SOURCE), wanted);
+  ROW(cf_host_lets_go(h, 7, SOURCE), wanted);
+  ROW(cf_host_stirred(h, 0), wanted);
+  ROW(cf_host_stop(h), wanted);
+  ROW(cf_host_turn(h, 0, &out.order), wanted);
+  ROW(cf_host_put(h, 7, out.wants, 2, &out.n), wanted);
+  ROW(cf_host_opened(h, 1, &empty, 0, 0, notes, STAGES), wanted == CF_WRONG_KIND ? CF_EMPTY : wanted);
+  ROW(cf_host_read(h, 0, 1, NULL, 0), wanted);
+  ROW(cf_host_beats(h, 0, 1, 0, NULL, 0), wanted);
+  ROW(cf_host_news(h, 0, 1, 0, NULL, 0), wanted);
+  ROW(cf_host_answered(h, 0, 1, CF_UNKNOWN), wanted);
+  ROW(cf_host_ended(h, 1, CF_ENDS_NIL, 0, 0), wanted);
+  ROW(cf_host_stage(h, 7, SOURCE, &out.stage), wanted);
+  ROW(cf_host_seen(h, 7, &out.host_view), wanted);
+}
+
 static void history_calls(cf_handle *h, uint32_t wanted) {
   ROW(cf_history_times(h, NULL, 0), wanted);
   ROW(cf_history_say(h, CF_SAY_NAME, NULL, 0, NULL, 0), wanted);
@@ -209,9 +236,9 @@ static void closed_calls(cf_handle *h, uint32_t wanted) {
 
 /* ---- One handle of each kind ---- */
 
-enum kind { BUILDER, PLAN, GRAPH, SWEEP, LEDGER, REQUEST, VIEW, HISTORY, CALLER, CLOSING, CLOSED, KINDS };
+enum kind { BUILDER, PLAN, GRAPH, SWEEP, LEDGER, REQUEST, VIEW, HOST, HISTORY, CALLER, CLOSING, CLOSED, KINDS };
 static void (*const calls_of[KINDS])(cf_handle *h, uint32_t wanted) = {builder_calls, plan_calls, graph_calls, sweep_calls, ledger_calls,
-    request_calls, view_calls, history_calls, caller_calls, closing_calls, closed_calls};
+    request_calls, view_calls, host_calls, history_calls, caller_calls, closing_calls, closed_calls};
 static cf_handle held[KINDS], other_caller;
 
 static void build(cf_handle *builder) {
@@ -233,6 +260,7 @@ static void make_all(void) {
   request = &held[REQUEST];
   ROW(cf_row_new(&held[PLAN], &opening, &held[VIEW]), CF_OK);
   view = &held[VIEW];
+  ROW(cf_host_new(&host_opening, &held[HOST]), CF_OK);
   ROW(cf_history_new(&held[PLAN], 1, NULL, 0, &held[HISTORY]), CF_OK);
   ROW(cf_desk_open_with(&held[PLAN], callers, CALLERS, &sizes), CF_OK);
   held[CALLER] = callers[0], other_caller = callers[1];
@@ -460,6 +488,21 @@ static void by_pointers(void) {
   ROW(cf_code_text(0, NULL, 1, &out.n), CF_NULL);
   ROW(cf_code_text(0, out.text, TEXT, NULL), CF_NULL);
   HOLDS(!cf_code_name(CF_NULL - 1) && cf_layout(NULL) == SIZE_MAX);
+  ROW(cf_host_new(NULL, &empty), CF_NULL);
+  ROW(cf_host_new(&host_opening, NULL), CF_NULL);
+  ROW(cf_host_act(&held[HOST], 0, 7, NULL, &out.word), CF_NULL);
+  ROW(cf_host_act(&held[HOST], 0, 7, &acting, NULL), CF_NULL);
+  ROW(cf_host_end(&held[HOST], 0, 7, NULL), CF_NULL);
+  ROW(cf_host_turn(&held[HOST], 0, NULL), CF_NULL);
+  ROW(cf_host_put(&held[HOST], 7, NULL, 1, &out.n), CF_NULL);
+  ROW(cf_host_put(&held[HOST], 7, out.wants, 2, NULL), CF_NULL);
+  ROW(cf_host_opened(&held[HOST], 1, NULL, 0, 0, notes, STAGES), CF_NULL);
+  ROW(cf_host_opened(&held[HOST], 1, plan, 0, 0, NULL, STAGES), CF_NULL);
+  ROW(cf_host_read(&held[HOST], 0, 1, NULL, 1), CF_NULL);
+  ROW(cf_host_beats(&held[HOST], 0, 1, 0, NULL, 1), CF_NULL);
+  ROW(cf_host_news(&held[HOST], 0, 1, 0, NULL, 1), CF_NULL);
+  ROW(cf_host_stage(&held[HOST], 7, SOURCE, NULL), CF_NULL);
+  ROW(cf_host_seen(&held[HOST], 7, NULL), CF_NULL);
   HOLDS(is_filled() && !empty.full);
 }
 
@@ -750,6 +793,63 @@ static void by_sessions(void) {
   cf_free(&crowd);
 }
 
+/* ---- What a host refuses: answers to no ticket or another question's, acts of no kind, and requests that aren't opened ---- */
+
+/* The next order but sleeping, which has this kind. */
+static uint64_t ordered(cf_handle *host, uint64_t now, uint32_t kind) {
+  cf_host_order order = {0};
+  HOLDS(cf_host_turn(host, now, &order) == CF_OK && order.kind == kind);
+  return order.ticket;
+}
+
+static void by_hosts(void) {
+  static const cf_noted no_note = {.word = 1, .note = {UINT64_MAX, 0}};
+  const cf_host_opening too_high = {.session = (uint64_t)1 << 39};
+  const cf_host_acting no_act = {.kind = 8}, no_form = {.kind = CF_ACT_ATTACH, .form = 19}, many = {.kind = CF_ACT_ATTACH, .sources = 3},
+                       unfit = {.kind = CF_ACT_ATTACH, .form = CF_APPLY, .function = CF_NO_FUNCTION};
+  cf_handle host = {0}, empty = {0};
+  fill();
+  ROW(cf_host_new(&too_high, &host), CF_NO_TOKENS);
+  ROW(cf_host_new(&host_opening, &host), CF_OK);
+  ROW(cf_host_new(&host_opening, &host), CF_FULL);
+  ROW(cf_host_act(&host, 0, 7, &no_act, &out.word), CF_NO_SUCH_NUMBER);
+  ROW(cf_host_act(&host, 0, 7, &no_form, &out.word), CF_NO_SUCH_NUMBER);
+  ROW(cf_host_act(&host, 0, 7, &many, &out.word), CF_WRONG_SOURCE_COUNT);
+  ROW(cf_host_act(&host, 0, 7, &unfit, &out.word), CF_BAD_ATTACH);
+  ROW(cf_host_act(&host, 0, 7, &acting, &out.word), CF_NOT_OPEN);
+  ROW(cf_host_follow(&host, 7), CF_OK);
+  ROW(cf_host_act(&host, 0, 7, &acting, &out.word), CF_NOT_OPEN);
+  ROW(cf_host_end(&host, 0, 7, &out.word), CF_NOT_OPEN);
+  ROW(cf_host_wants(&host, 7, SOURCE), CF_NOT_OPEN);
+  ROW(cf_host_lets_go(&host, 7, SOURCE), CF_NOT_OPEN);
+  ROW(cf_host_put(&host, 7, out.wants, 2, &out.n), CF_NOT_OPEN);
+  ROW(cf_host_stage(&host, 7, SOURCE, &out.stage), CF_NOT_OPEN);
+  ROW(cf_host_seen(&host, 7, &out.host_view), CF_NOT_OPEN);
+  ROW(cf_host_answered(&host, 0, 1, CF_UNKNOWN), CF_NO_TICKET);
+  ROW(cf_host_answered(&host, 0, 1, 6), CF_NO_SUCH_NUMBER);
+  ROW(cf_host_ended(&host, 1, CF_ENDS_GIVE, 0, 0), CF_NO_TICKET);
+  ROW(cf_host_ended(&host, 1, 5, 0, 0), CF_NO_SUCH_NUMBER);
+  const uint64_t beat = ordered(&host, 0, CF_ORDER_BEAT), list = ordered(&host, 0, CF_ORDER_LIST);
+  const uint64_t opening_of = ordered(&host, 0, CF_ORDER_OPEN);
+  ROW(cf_host_news(&host, 0, beat, 0, NULL, 0), CF_UNFIT);
+  ROW(cf_host_beats(&host, 0, list, 0, NULL, 0), CF_UNFIT);
+  ROW(cf_host_read(&host, 0, opening_of, NULL, 0), CF_UNFIT);
+  ROW(cf_host_read(&host, 0, opening_of, &no_note, 1), CF_NO_NOTE);
+  ROW(cf_host_answered(&host, 0, opening_of, CF_STANDS), CF_UNFIT);
+  ROW(cf_host_answered(&host, 0, beat, CF_DROPPED), CF_UNFIT);
+  ROW(cf_host_opened(&host, opening_of, &empty, 0, 0, notes, STAGES), CF_EMPTY);
+  ROW(cf_host_opened(&host, opening_of, &held[GRAPH], 0, 0, notes, STAGES), CF_WRONG_KIND);
+  ROW(cf_host_opened(&host, opening_of, &held[PLAN], 4096, 0, notes, STAGES), CF_ROOM);
+  ROW(cf_host_opened(&host, opening_of, &held[PLAN], 0, 0, notes, 1), CF_UNFIT);
+  ROW(cf_host_opened(&host, opening_of, &held[PLAN], 0, 0, &no_note.note, 1), CF_NO_NOTE);
+  ROW(cf_host_opened(&host, opening_of, &held[PLAN], 0, 0, notes, STAGES), CF_OK);
+  ROW(cf_host_opened(&host, opening_of, &held[PLAN], 0, 0, notes, STAGES), CF_NO_TICKET);
+  ROW(cf_host_wants(&host, 7, NOT_THERE), CF_NO_STAGE);
+  ROW(cf_host_stage(&host, 7, NOT_THERE, &out.stage), CF_NO_STAGE);
+  HOLDS(is_filled() && !empty.full);
+  cf_free(&host);
+}
+
 /* ---- Buffers that are too short: what is told is whole, and nothing behind the buffer's end is written ---- */
 
 static void by_buffers(void) {
@@ -810,6 +910,7 @@ int main(void) {
   by_other_numbers();
   by_views();
   by_sessions();
+  by_hosts();
   are_as_before();
   by_buffers();
   are_as_before();

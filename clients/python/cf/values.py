@@ -54,6 +54,7 @@ class Code(enum.IntEnum):
     NOT_OVER, LANES, NO_LANE, PAST_MOMENT = range(32, 36)
     BAD_TEXT, TOO_MANY = 36, 37
     UNDER_WAY, NO_TOKENS, NO_QUORUM = 38, 39, 40
+    NO_TICKET, UNFIT, NO_NOTE, NOT_OPEN = 41, 42, 43, 44
     NULL = 255
 
 

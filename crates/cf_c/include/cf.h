@@ -33,6 +33,7 @@
  *     (cf_ledger_new);
  *   - a request: a ledger that also knows whom to wake, what to run and until when (cf_request_new);
  *   - a view: what one session knows of a row of words in a store, and what it may put there (cf_row_new);
+ *   - a host: all requests of a store that a process works on, and what it does next with them (cf_host_new);
  *   - a history: what the words of a ledger or a request did, to be told as a text (cf_history_new);
  *   - a caller of a desk: a desk is a graph that several threads share without a lock, and each thread has a caller's
  *     handle of its own (cf_desk_open);
@@ -63,8 +64,9 @@
  * cf_ledger_apply, cf_ledger_step, cf_ledger_apply_all, cf_ledger_grow, cf_request_new, cf_request_apply,
  * cf_request_gather, cf_request_compose, cf_request_link, cf_request_next, cf_request_follow, cf_request_join,
  * cf_request_deadline, cf_request_pass, cf_request_refuse, cf_request_cancel_all, cf_request_grow, cf_request_do,
- * cf_row_new, cf_row_plan, cf_row_saw, cf_row_grow, cf_history_new, cf_history_times, cf_history_say,
- * cf_history_text and cf_run_script. No other call takes any.
+ * cf_row_new, cf_row_plan, cf_row_saw, cf_row_grow, cf_host_new, cf_host_follow, cf_host_act, cf_host_end, cf_host_turn,
+ * cf_host_opened, cf_host_read, cf_host_beats, cf_host_news, cf_history_new, cf_history_times,
+ * cf_history_say, cf_history_text and cf_run_script. No other call takes any.
  *
  * Codes. Each call answers a cf_code, except cf_free and the last four calls of this header. The code is CF_OK (0)
  * if the call did what it was asked. The comments list the other codes of each call. If several apply, the call
@@ -149,6 +151,10 @@ typedef enum {
   CF_UNDER_WAY = 38,          /* a put of the view is under way */
   CF_NO_TOKENS = 39,          /* there is no such session or token, or the session has fewer tokens left than words */
   CF_NO_QUORUM = 40,          /* a join wants none of its sources, or more than there are */
+  CF_NO_TICKET = 41,          /* no such ticket of a host is open, as behind its answer */
+  CF_UNFIT = 42,              /* an answer isn't one to its ticket's question */
+  CF_NO_NOTE = 43,            /* two numbers stand for no note */
+  CF_NOT_OPEN = 44,           /* a host doesn't work on the request, or hasn't opened it */
   CF_NULL = 255               /* a pointer is null that may not be; nothing was done */
 } cf_code;
 
@@ -1389,6 +1395,238 @@ uint32_t cf_row_finish(cf_handle *view, const cf_task *task, uint64_t *word);
  *
  * Code: CF_NOTHING if there is no such stage. */
 uint32_t cf_row_next_claim(cf_handle *view, const cf_task *task, uint16_t from, uint16_t *stage);
+
+/* ---- Hosts: what a process does with all its requests in a store ---- */
+
+/* A host is what one process does with all requests of a store that it works on: whom it asks what, which functions it
+ * calls, what it puts, which sessions it takes for gone, and whom it tells what. It has a view of the row of each
+ * request. It does no I/O, reads no clock, and knows payloads by their places alone. Your program has the store, the
+ * functions, the payloads and a clock. clients/c/host_of_a_store.c is a whole worker over SQLite.
+ *
+ * Your program asks cf_host_turn what is to be done next, until that is CF_ORDER_SLEEP. It may do several orders at a
+ * time, on threads of its own, with the host under one lock. Each question and each call has a ticket. Once it is
+ * answered, give the answer with this ticket, and ask for the next order. If no answer comes, say so by CF_UNKNOWN:
+ * the host asks again.
+ *
+ * A moment is a number of milliseconds on a clock of your program that never goes back. Each call that takes `now` is
+ * told the moment of the call. The store has a clock of its own, by which timers go.
+ *
+ * The store keeps, of each request, its plan with a note for each stage, and its row. A row is a list of entries, as
+ * for a view, each with a note and, where its word names one, a payload. The entries have places, counted from 1: the
+ * payload of an entry is known by the place, which is the number of a value or the code of an exception. A beat is a
+ * count that a session raises. A mark says how far a store had come when it told its news. */
+
+/* A note, which says what a word alone doesn't: a stage's function, which stage it tries again, when it times out. A
+ * store keeps its two numbers beside the word and gives them back. docs/FORMATS.md ("Notes beside words") says what
+ * they stand for. The notes of a plan's stages are yours. In `what` stands CF_NOTE_CALLS(f) where f is the number of
+ * the stage's function, from 1 on; CF_NOTE_TRIES(s) where it is to try the stage s again; or 0 where it has no
+ * function. The moment is 0. */
+typedef struct { uint64_t what; uint64_t moment; } cf_note;
+#define CF_NOTE_CALLS(function) (((uint64_t)1 << 56) + (uint32_t)(function))
+#define CF_NOTE_TRIES(stage) (((uint64_t)2 << 56) + ((uint64_t)(uint16_t)(stage) << 32))
+
+/* An entry of a row, with its note. */
+typedef struct { uint64_t word; uint64_t token; cf_note note; } cf_noted;
+
+/* What a host is opened with.
+ *   - session: the session's number, below 2^39. Draw it by chance, so that no two sessions have one number.
+ *   - workers: how many functions may run at a time.
+ *   - lease: for how many milliseconds a session that doesn't beat is waited for.
+ *   - takes_all: 0 if the host works only on requests that cf_host_follow names. With any other number it works on all
+ *     that the store tells of. */
+typedef struct { uint64_t session; uint32_t workers; uint64_t lease; uint32_t takes_all; } cf_host_opening;
+
+/* Opens a host that knows nothing yet, and puts it behind an empty handle.
+ *
+ * Codes: CF_FULL; CF_NO_TOKENS if opening->session isn't below 2^39; and CF_NO_MEMORY. */
+uint32_t cf_host_new(const cf_host_opening *opening, cf_handle *host);
+
+/* Works on a request from now on, if it doesn't yet.
+ *
+ * Code: CF_NO_MEMORY. */
+uint32_t cf_host_follow(cf_handle *host, uint64_t request);
+
+/* What a user asks of a request.
+ *   - kind: CF_ACT_COMPLETE, CF_ACT_FAIL: a stage gets the payload that stands beside the word. CF_ACT_CANCEL.
+ *     CF_ACT_CANCEL_IDLE does so only if the stage's function runs nowhere. CF_ACT_TIME_OUT, CF_ACT_GIVE_AT: the stage
+ *     times out at a moment, or is completed with the payload. CF_ACT_ATTACH: a stage is attached. One that composes
+ *     comes behind a promise, which is attached below it. CF_ACT_AGAIN: a further try of a stage is attached.
+ *   - stage: the stage, of all but CF_ACT_ATTACH.
+ *   - moment: the moment on the store's clock, of CF_ACT_TIME_OUT and CF_ACT_GIVE_AT.
+ *   - form, sources, first, second, function: of CF_ACT_ATTACH, as in a cf_event. The function's number may be any but
+ *     CF_NO_FUNCTION, which stands for none.
+ * The rest isn't looked at. */
+enum {
+  CF_ACT_COMPLETE = 0, CF_ACT_FAIL = 1, CF_ACT_CANCEL = 2, CF_ACT_CANCEL_IDLE = 3, CF_ACT_TIME_OUT = 4, CF_ACT_GIVE_AT = 5,
+  CF_ACT_ATTACH = 6, CF_ACT_AGAIN = 7
+};
+typedef struct {
+  uint32_t kind; uint16_t stage; uint64_t moment; uint32_t form; uint32_t sources; uint16_t first; uint16_t second; uint32_t function;
+} cf_host_acting;
+
+/* A user asks this of a request. What became of it is told by a CF_ORDER_TELL.
+ *   - ticket: gets the ticket of that order. Keep the act's payload under it until then.
+ *
+ * Codes:
+ *   - CF_NO_SUCH_NUMBER: there is no such kind, or no form has this number.
+ *   - CF_WRONG_SOURCE_COUNT: act->sources is above 2.
+ *   - CF_BAD_ATTACH: the form takes another number of sources, or its function is missing or unwanted.
+ *   - CF_NOT_OPEN: the host doesn't work on the request, or hasn't opened it.
+ *   - CF_NO_MEMORY. */
+uint32_t cf_host_act(cf_handle *host, uint64_t now, uint64_t request, const cf_host_acting *act, uint64_t *ticket);
+
+/* A user ends a request: it is closed once nothing is due in it. The ticket's CF_ORDER_TELL says when it is.
+ *
+ * Codes: CF_NOT_OPEN, CF_NO_MEMORY. */
+uint32_t cf_host_end(cf_handle *host, uint64_t now, uint64_t request, uint64_t *ticket);
+
+/* Somebody waits for a stage, which a CF_ORDER_SHOW tells once it is settled; or nobody does any more.
+ *
+ * Codes: CF_NOT_OPEN, and CF_NO_STAGE if there can't be such a stage. */
+uint32_t cf_host_wants(cf_handle *host, uint64_t request, uint16_t stage);
+uint32_t cf_host_lets_go(cf_handle *host, uint64_t request, uint16_t stage);
+
+/* The store says that something is new: what is new is asked for next. */
+uint32_t cf_host_stirred(cf_handle *host, uint64_t now);
+
+/* From now on the host claims no stage, and so has no further function called. All else goes on. */
+uint32_t cf_host_stop(cf_handle *host);
+
+/* What is to be done next, by its kind:
+ *   - CF_ORDER_SLEEP: nothing, before `moment` or an answer or another call of yours.
+ *   - CF_ORDER_BEAT: raise the session's count in the store, read all sessions' counts and the store's clock. Answer
+ *     by cf_host_beats.
+ *   - CF_ORDER_LIST: read how many words each request has that isn't closed. Answer by cf_host_news.
+ *   - CF_ORDER_NEWS: the same of the requests that changed since the answer with the mark `moment`.
+ *   - CF_ORDER_OPEN: read a request's plan. Answer by cf_host_opened.
+ *   - CF_ORDER_READ: read all entries of its row behind the first `place`. Answer by cf_host_read.
+ *   - CF_ORDER_PUT: put the entries that cf_host_put tells behind the first `place`, with their payloads, if just so
+ *     many stand there: all in one step, and an attach among them opens a closed request in this step. Answer by
+ *     CF_STANDS; by cf_host_read if more stand there; or by CF_REFUSED.
+ *   - CF_ORDER_CLOSE: close the request if just `place` entries stand there. Answer by CF_CLOSED, or by CF_NOT_CLOSED
+ *     if more do.
+ *   - CF_ORDER_CALL: call a function. `stage`, `function` and `args` say which and with what; a function's number is 0
+ *     where the notes say none. Answer by cf_host_ended.
+ *   - CF_ORDER_STOP: the function of the call with this ticket may end, since its stage was settled otherwise. Nothing
+ *     is to be answered but cf_host_ended, once it has.
+ *   - CF_ORDER_SHOW: tell those who wait for `stage` its `outcome`; or that nothing goes on in the request, if `told`
+ *     isn't 0.
+ *   - CF_ORDER_TELL: tell the user of the act with this ticket what became of it: `told`, and with CF_TOLD_STANDS the
+ *     stage.
+ * Each question may be answered by CF_UNKNOWN. Each about a request may be answered by CF_DROPPED: the store has it no
+ * more. */
+enum {
+  CF_ORDER_SLEEP = 0, CF_ORDER_BEAT = 1, CF_ORDER_LIST = 2, CF_ORDER_NEWS = 3, CF_ORDER_OPEN = 4, CF_ORDER_READ = 5, CF_ORDER_PUT = 6,
+  CF_ORDER_CLOSE = 7, CF_ORDER_CALL = 8, CF_ORDER_STOP = 9, CF_ORDER_SHOW = 10, CF_ORDER_TELL = 11
+};
+
+/* What is told:
+ *   - CF_TOLD_STANDS: what was asked stands. Of an attach `stage` is the new one.
+ *   - CF_TOLD_CLOSED: the request is closed.
+ *   - CF_TOLD_REFUSED: the store refused it, and nothing of it stands.
+ *   - CF_TOLD_UNKNOWN: no answer came in a minute. It may stand, or come to stand.
+ *   - CF_TOLD_NO_STAGE, CF_TOLD_NO_ROOM, CF_TOLD_NO_TRY, CF_TOLD_SETTLED, CF_TOLD_AS_ASKED, CF_TOLD_RUNS: nothing was
+ *     put, since a stage isn't there, there is no room, the stage has no function that could be tried again, it is
+ *     settled otherwise, it is settled as was asked, or its function runs.
+ *   - CF_TOLD_BROKEN, CF_TOLD_DROPPED, CF_TOLD_PAYLOAD: nothing goes on in the request any more, since a word stands
+ *     there that doesn't fit, the store has it no more, or a payload is lost. */
+enum {
+  CF_TOLD_STANDS = 0, CF_TOLD_CLOSED = 1, CF_TOLD_REFUSED = 2, CF_TOLD_UNKNOWN = 3, CF_TOLD_NO_STAGE = 4, CF_TOLD_NO_ROOM = 5,
+  CF_TOLD_NO_TRY = 6, CF_TOLD_SETTLED = 7, CF_TOLD_AS_ASKED = 8, CF_TOLD_RUNS = 9, CF_TOLD_BROKEN = 10, CF_TOLD_DROPPED = 11,
+  CF_TOLD_PAYLOAD = 12
+};
+
+/* An order. What it doesn't have is 0. */
+typedef struct {
+  uint32_t kind; uint32_t told; uint64_t ticket; uint64_t request; uint16_t stage; uint32_t function; size_t place; uint64_t moment;
+  cf_args args; cf_outcome outcome;
+} cf_host_order;
+
+/* Tells what is to be done next by now. Each order is told once.
+ *
+ * Code: CF_NO_MEMORY. Then nothing is lost: ask again. */
+uint32_t cf_host_turn(cf_handle *host, uint64_t now, cf_host_order *order);
+
+/* An entry that is to be put, and whose payload stands at its place, which `stage` names where there is one:
+ *   - CF_OF_NOBODY: no payload.
+ *   - CF_OF_ACT: what the user of the act gave.
+ *   - CF_OF_FUNCTION: what the function of a stage came to.
+ *   - CF_OF_ERROR: an error of yours in its place, since the store refused that.
+ *   - CF_OF_GONE: an error of yours that says that the session of a stage is gone. */
+enum { CF_OF_NOBODY = 0, CF_OF_ACT = 1, CF_OF_FUNCTION = 2, CF_OF_ERROR = 3, CF_OF_GONE = 4 };
+typedef struct { cf_noted entry; uint32_t source; uint16_t stage; } cf_host_want;
+
+/* Tells the entries of a request's put that is under way. They stay the same until the put is answered. There are at
+ * most 8.
+ *   - wants, room: a buffer, which gets them as far as there is room.
+ *   - n: gets how many they are, which is 0 if no put is under way.
+ *
+ * Code: CF_NOT_OPEN. */
+uint32_t cf_host_put(cf_handle *host, uint64_t request, cf_host_want *wants, size_t room, size_t *n);
+
+/* The answers. Each closes its ticket. These are their codes, after those that a call names. Nothing has changed then:
+ *   - CF_NO_TICKET: no such ticket is open. The question was answered before.
+ *   - CF_UNFIT: the answer isn't one to this ticket's question.
+ *   - CF_NO_MEMORY, of those with a list: the ticket stays open. Answer again. */
+
+/* The plan of a request.
+ *   - plan: the plan, which stays behind its handle.
+ *   - room: how many stages may be attached later.
+ *   - is_flow: 0, or any other number if the request is to be closed once all its stages are settled.
+ *   - notes, n: a note for each stage.
+ *
+ * Codes: CF_EMPTY and CF_WRONG_KIND, of either handle; CF_ROOM, as for cf_graph_new; CF_NO_NOTE if two of these
+ * numbers stand for none; and CF_UNFIT also if n isn't the number of stages. */
+uint32_t cf_host_opened(cf_handle *host, uint64_t ticket, cf_handle *plan, uint16_t room, uint32_t is_flow, const cf_note *notes, size_t n);
+
+/* All entries that stand behind the place that was asked from, or where a put was to stand, at least one then. They
+ * may be the put's own, if an answer was missing before.
+ *
+ * Code: CF_NO_NOTE if a note's two numbers stand for none. The host can't work on such a request: answer CF_DROPPED. */
+uint32_t cf_host_read(cf_handle *host, uint64_t now, uint64_t ticket, const cf_noted *entries, size_t n);
+
+/* How often a session has beaten. */
+typedef struct { uint64_t session; uint64_t count; } cf_host_beat;
+
+/* All sessions' beats, and the store's clock. */
+uint32_t cf_host_beats(cf_handle *host, uint64_t now, uint64_t ticket, uint64_t clock, const cf_host_beat *beats, size_t n);
+
+/* How many words a request has. */
+typedef struct { uint64_t request; size_t words; } cf_host_length;
+
+/* The requests that are open, or that changed, and the mark up to which that is told. */
+uint32_t cf_host_news(cf_handle *host, uint64_t now, uint64_t ticket, uint64_t mark, const cf_host_length *requests, size_t n);
+
+/* An answer without a list: CF_STANDS or CF_REFUSED to a put; CF_CLOSED or CF_NOT_CLOSED to a close; CF_UNKNOWN, no
+ * answer came, or a question that isn't a put was refused; and CF_DROPPED, the store has the request no more.
+ *
+ * Code: CF_NO_SUCH_NUMBER for any other number. */
+enum { CF_STANDS = 0, CF_CLOSED = 1, CF_NOT_CLOSED = 2, CF_UNKNOWN = 3, CF_REFUSED = 4, CF_DROPPED = 5 };
+uint32_t cf_host_answered(cf_handle *host, uint64_t now, uint64_t ticket, uint32_t answer);
+
+/* A function has ended.
+ *   - kind: CF_ENDS_GIVE, with a payload; CF_ENDS_NIL, without one; CF_ENDS_THROW, with an error as payload;
+ *     CF_ENDS_PASS, with the error whose payload stands at the place `code`; or CF_ENDS_LINK, of one that composes,
+ *     with another stage.
+ *   - code, stage: as said. Others aren't looked at.
+ *
+ * Code: CF_NO_SUCH_NUMBER if there is no such kind. */
+enum { CF_ENDS_GIVE = 0, CF_ENDS_NIL = 1, CF_ENDS_THROW = 2, CF_ENDS_PASS = 3, CF_ENDS_LINK = 4 };
+uint32_t cf_host_ended(cf_handle *host, uint64_t ticket, uint32_t kind, uint32_t code, uint16_t stage);
+
+/* Tells what a stage of a request is, by what the host has seen.
+ *
+ * Codes: CF_NOT_OPEN, and CF_NO_STAGE if there is no such stage. */
+uint32_t cf_host_stage(cf_handle *host, uint64_t request, uint16_t stage, cf_stage *now);
+
+/* What a host has seen of a request: how many words, how many stages there are by these, and CF_TOLD_BROKEN,
+ * CF_TOLD_DROPPED or CF_TOLD_PAYLOAD if nothing goes on there any more, else 0. */
+typedef struct { size_t words; uint16_t stages; uint32_t fault; } cf_host_view;
+
+/* Tells that.
+ *
+ * Code: CF_NOT_OPEN. */
+uint32_t cf_host_seen(cf_handle *host, uint64_t request, cf_host_view *seen);
 
 /* ---- Histories: what happened, told as texts ---- */
 

@@ -11,6 +11,7 @@
 //! | `ledger` | a graph with the words of all that was done to it |
 //! | `request` | one request of a service as a machine, which tells each settled stage once |
 //! | `row` | one session's view of a row in a store |
+//! | `host` | all requests of a store that a process works on, as a machine |
 //! | `history` | what happened to a request, told for people and for the programs |
 //! | `opening`, `desk` | the callers of a graph that several share: how it is opened, and what each of them is asked |
 //! | `close` | a desk that is being closed, and a closed one with its records |
@@ -24,6 +25,7 @@ mod events;
 mod graph;
 mod handle;
 mod history;
+mod host;
 mod ledger;
 mod opening;
 mod plan;

@@ -6,7 +6,7 @@ use Rattle.std.proofs.lemmas.Option.{slice_get_past}
 use Rattle.cf_c_handles.specs.Codes.{number_of}
 use Rattle.cf_c_handles.specs.Texts.{all_codes, code_text, name_of}
 use Rattle.cf_c_handles.specs.declared.code.Code.{Code}
-use Rattle.cf_c_handles.specs.declared.code.Code.TheVariants.{TooManyStages, SourceNotLower, WrongSourceCount, FunctionMissing, FunctionUnwanted, TooManyEdges, NoSuchStage, NoMemory, TooManyLimits, Empty, Full, WrongKind, NoSuchNumber, NoStage, BadAttach, Room, Nothing, Callers, Log, Calls, Functions, PassFull, LogFull, OtherDesk, NotAll, NoWord, BadScript, StillShared, NotHeld, NoRoom, Lost, NotOver, Lanes, NoLane, PastMoment, BadText, TooMany, UnderWay, NoTokens, NoQuorum}
+use Rattle.cf_c_handles.specs.declared.code.Code.TheVariants.{TooManyStages, SourceNotLower, WrongSourceCount, FunctionMissing, FunctionUnwanted, TooManyEdges, NoSuchStage, NoMemory, TooManyLimits, Empty, Full, WrongKind, NoSuchNumber, NoStage, BadAttach, Room, Nothing, Callers, Log, Calls, Functions, PassFull, LogFull, OtherDesk, NotAll, NoWord, BadScript, StillShared, NotHeld, NoRoom, Lost, NotOver, Lanes, NoLane, PastMoment, BadText, TooMany, UnderWay, NoTokens, NoQuorum, NoTicket, Unfit, NoNote, NotOpen}
 
 text_of_number : (c : Code) → code_text (number_of c) ≡ Some (name_of c)
 text_of_number TooManyStages = refl
@@ -49,10 +49,14 @@ text_of_number TooMany = refl
 text_of_number UnderWay = refl
 text_of_number NoTokens = refl
 text_of_number NoQuorum = refl
+text_of_number NoTicket = refl
+text_of_number Unfit = refl
+text_of_number NoNote = refl
+text_of_number NotOpen = refl
 
 pub code_named : (number : ℕ) (c : Code) → number ≡ number_of c → code_text number ≡ Some (name_of c)
 code_named number c is = ap code_text is ∙ text_of_number c
 
 -- no number above those of the codes has a text, but that of a null pointer
-pub no_text : (number : ℕ) → 40 < number → number ≢ 255 → code_text number ≡ None
+pub no_text : (number : ℕ) → 44 < number → number ≢ 255 → code_text number ≡ None
 no_text n above other = rw (ne_eqb n 0 (λ e. absurd (omega arith)), ne_eqb n 255 other) (ap (option_map name_of) (slice_get_past all_codes (n - 1) (omega arith)))

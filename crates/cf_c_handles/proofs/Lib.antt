@@ -6,6 +6,8 @@ pub mod CodeNames
 pub mod DeskSteps
 pub mod EventsBack
 pub mod Histories
+pub mod HostRows
+pub mod Hosts
 pub mod LedgerSteps
 pub mod News
 pub mod RequestRows

@@ -7,7 +7,7 @@ use Rattle.cf_desk.specs.declared.faults.DeskFault.TheVariants as desk
 use Rattle.cf_desk.specs.declared.faults.OpenFault.{OpenFault}
 use Rattle.cf_desk.specs.declared.faults.OpenFault.TheVariants as opening
 use Rattle.cf_c_handles.specs.declared.code.Code.{Code}
-use Rattle.cf_c_handles.specs.declared.code.Code.TheVariants.{TooManyStages, SourceNotLower, WrongSourceCount, FunctionMissing, FunctionUnwanted, TooManyEdges, NoSuchStage, NoMemory, TooManyLimits, Empty, Full, WrongKind, NoSuchNumber, NoStage, BadAttach, Room, Nothing, Callers, Log, Calls, Functions, PassFull, LogFull, OtherDesk, NotAll, NoWord, BadScript, StillShared, NotHeld, NoRoom, Lost, NotOver, Lanes, NoLane, PastMoment, BadText, TooMany, UnderWay, NoTokens, NoQuorum}
+use Rattle.cf_c_handles.specs.declared.code.Code.TheVariants.{TooManyStages, SourceNotLower, WrongSourceCount, FunctionMissing, FunctionUnwanted, TooManyEdges, NoSuchStage, NoMemory, TooManyLimits, Empty, Full, WrongKind, NoSuchNumber, NoStage, BadAttach, Room, Nothing, Callers, Log, Calls, Functions, PassFull, LogFull, OtherDesk, NotAll, NoWord, BadScript, StillShared, NotHeld, NoRoom, Lost, NotOver, Lanes, NoLane, PastMoment, BadText, TooMany, UnderWay, NoTokens, NoQuorum, NoTicket, Unfit, NoNote, NotOpen}
 
 -- the number that C sees
 abbrev pub number_of : Code → ℕ
@@ -51,6 +51,10 @@ number_of TooMany = 37
 number_of UnderWay = 38
 number_of NoTokens = 39
 number_of NoQuorum = 40
+number_of NoTicket = 41
+number_of Unfit = 42
+number_of NoNote = 43
+number_of NotOpen = 44
 
 -- the code of a plan's fault
 abbrev pub plan_code : PlanFault → Code

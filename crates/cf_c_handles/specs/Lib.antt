@@ -9,6 +9,11 @@ pub mod EventWords
 pub mod Graphs
 pub mod Handles
 pub mod Histories
+pub mod HostAnswers
+pub mod HostOrders
+pub mod HostValues
+pub mod HostViews
+pub mod Hosts
 pub mod LedgerSteps
 pub mod Ledgers
 pub mod Meetings

@@ -3,7 +3,7 @@ use Rattle.std.specs.Prelude.{◌≡◌, ℕ, List, [], ◌∷◌, ◌++◌, ◌
 use Rattle.std.specs.Option.{option_map}
 use Rattle.cf_c_handles.specs.Codes.{number_of}
 use Rattle.cf_c_handles.specs.declared.code.Code.{Code}
-use Rattle.cf_c_handles.specs.declared.code.Code.TheVariants.{TooManyStages, SourceNotLower, WrongSourceCount, FunctionMissing, FunctionUnwanted, TooManyEdges, NoSuchStage, NoMemory, TooManyLimits, Empty, Full, WrongKind, NoSuchNumber, NoStage, BadAttach, Room, Nothing, Callers, Log, Calls, Functions, PassFull, LogFull, OtherDesk, NotAll, NoWord, BadScript, StillShared, NotHeld, NoRoom, Lost, NotOver, Lanes, NoLane, PastMoment, BadText, TooMany, UnderWay, NoTokens, NoQuorum}
+use Rattle.cf_c_handles.specs.declared.code.Code.TheVariants.{TooManyStages, SourceNotLower, WrongSourceCount, FunctionMissing, FunctionUnwanted, TooManyEdges, NoSuchStage, NoMemory, TooManyLimits, Empty, Full, WrongKind, NoSuchNumber, NoStage, BadAttach, Room, Nothing, Callers, Log, Calls, Functions, PassFull, LogFull, OtherDesk, NotAll, NoWord, BadScript, StillShared, NotHeld, NoRoom, Lost, NotOver, Lanes, NoLane, PastMoment, BadText, TooMany, UnderWay, NoTokens, NoQuorum, NoTicket, Unfit, NoNote, NotOpen}
 
 -- a buffer with a text in it as far as it reaches, and behind the text's end what was there
 abbrev pub filled : List ℕ → List ℕ → List ℕ
@@ -16,7 +16,7 @@ pub record GivesText (text old new : List ℕ) (whole : ℕ) : Type 0 where
 
 -- all codes, by their numbers from 1 on
 abbrev pub all_codes : List Code
-all_codes = TooManyStages ∷ SourceNotLower ∷ WrongSourceCount ∷ FunctionMissing ∷ FunctionUnwanted ∷ TooManyEdges ∷ NoSuchStage ∷ NoMemory ∷ TooManyLimits ∷ Empty ∷ Full ∷ WrongKind ∷ NoSuchNumber ∷ NoStage ∷ BadAttach ∷ Room ∷ Nothing ∷ Callers ∷ Log ∷ Calls ∷ Functions ∷ PassFull ∷ LogFull ∷ OtherDesk ∷ NotAll ∷ NoWord ∷ BadScript ∷ StillShared ∷ NotHeld ∷ NoRoom ∷ Lost ∷ NotOver ∷ Lanes ∷ NoLane ∷ PastMoment ∷ BadText ∷ TooMany ∷ UnderWay ∷ NoTokens ∷ NoQuorum ∷ []
+all_codes = TooManyStages ∷ SourceNotLower ∷ WrongSourceCount ∷ FunctionMissing ∷ FunctionUnwanted ∷ TooManyEdges ∷ NoSuchStage ∷ NoMemory ∷ TooManyLimits ∷ Empty ∷ Full ∷ WrongKind ∷ NoSuchNumber ∷ NoStage ∷ BadAttach ∷ Room ∷ Nothing ∷ Callers ∷ Log ∷ Calls ∷ Functions ∷ PassFull ∷ LogFull ∷ OtherDesk ∷ NotAll ∷ NoWord ∷ BadScript ∷ StillShared ∷ NotHeld ∷ NoRoom ∷ Lost ∷ NotOver ∷ Lanes ∷ NoLane ∷ PastMoment ∷ BadText ∷ TooMany ∷ UnderWay ∷ NoTokens ∷ NoQuorum ∷ NoTicket ∷ Unfit ∷ NoNote ∷ NotOpen ∷ []
 
 -- the name of a code
 abbrev pub name_of : Code → List ℕ
@@ -60,6 +60,10 @@ name_of TooMany = codes "TooMany"
 name_of UnderWay = codes "UnderWay"
 name_of NoTokens = codes "NoTokens"
 name_of NoQuorum = codes "NoQuorum"
+name_of NoTicket = codes "NoTicket"
+name_of Unfit = codes "Unfit"
+name_of NoNote = codes "NoNote"
+name_of NotOpen = codes "NotOpen"
 
 -- the text of a number that a call may answer: "Ok", the name of a code, or that a pointer was null
 abbrev pub code_text : ℕ → Option (List ℕ)

@@ -83,6 +83,14 @@ pub enum Code {
     NoTokens,
     /// 40: a join is to want none of its sources, or more than there are.
     NoQuorum,
+    /// 41: no such ticket is open, as behind its answer.
+    NoTicket,
+    /// 42: an answer isn't one to its ticket's question, or an act doesn't fit its request.
+    Unfit,
+    /// 43: two numbers are no note's.
+    NoNote,
+    /// 44: a host doesn't work on the request, or hasn't opened it.
+    NotOpen,
 }
 
 impl From<AllocError> for Code {
@@ -150,6 +158,10 @@ pub fn text_of(number: u32) -> Option<&'static str>
         38 => Some("UnderWay"),
         39 => Some("NoTokens"),
         40 => Some("NoQuorum"),
+        41 => Some("NoTicket"),
+        42 => Some("Unfit"),
+        43 => Some("NoNote"),
+        44 => Some("NotOpen"),
         255 => Some("Null"),
         _ => None,
     }

@@ -12,6 +12,7 @@
 //! | `ledger` | a graph with the words of all that was done to it |
 //! | `request` | one request of a service as a machine, which tells each settled stage once |
 //! | `row` | one session's view of a row in a store |
+//! | `host` | all requests of a store that a process works on, as a machine |
 //! | `history` | what happened to a request, told for people and for the programs |
 //! | `desk` | the callers of a graph that several share: how it is opened, and what each of them is asked |
 //! | `close` | a desk that is being closed, and a closed one with its records |
@@ -26,6 +27,7 @@ pub mod desk;
 pub mod graph;
 pub mod handle;
 pub mod history;
+pub mod host;
 pub mod ledger;
 pub mod plan;
 pub mod request;

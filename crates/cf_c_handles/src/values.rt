@@ -8,6 +8,7 @@ ghost use Rattle.cf_c_handles.specs.Values.{answer_of, answer_with, args_with, a
 pub mod attaching;
 pub mod call;
 pub mod event;
+pub mod host;
 pub mod request;
 pub mod row;
 pub mod stage;

@@ -126,6 +126,14 @@ impl Refused {
     pub const NO_TOKENS: Refused = Refused(39);
     /// A join wants none of its stages, or more than there are.
     pub const NO_QUORUM: Refused = Refused(40);
+    /// No such ticket of a host is open.
+    pub const NO_TICKET: Refused = Refused(41);
+    /// An answer isn't one to its ticket's question.
+    pub const UNFIT: Refused = Refused(42);
+    /// Two numbers stand for no note.
+    pub const NO_NOTE: Refused = Refused(43);
+    /// A host doesn't work on the request, or hasn't opened it.
+    pub const NOT_OPEN: Refused = Refused(44);
     /// No code of the library: what is linked isn't the library that this crate was written for.
     pub const OTHER_LIBRARY: Refused = Refused(256);
 

@@ -110,6 +110,14 @@ pub const CF_UNDER_WAY: u32 = 38;
 pub const CF_NO_TOKENS: u32 = 39;
 /// A join wants none of its sources, or more than there are.
 pub const CF_NO_QUORUM: u32 = 40;
+/// No such ticket of a host is open, as behind its answer.
+pub const CF_NO_TICKET: u32 = 41;
+/// An answer isn't one to its ticket's question.
+pub const CF_UNFIT: u32 = 42;
+/// Two numbers stand for no note.
+pub const CF_NO_NOTE: u32 = 43;
+/// A host doesn't work on the request, or hasn't opened it.
+pub const CF_NOT_OPEN: u32 = 44;
 /// A pointer is null that may not be; nothing was done.
 pub const CF_NULL: u32 = 255;
 
@@ -266,6 +274,110 @@ pub const CF_DO_PASS: u32 = 4;
 pub const CF_DO_REFUSE: u32 = 5;
 /// A row of cf_request_do: cf_request_cancel_all.
 pub const CF_DO_CANCEL_ALL: u32 = 6;
+
+/// To complete a stage with the payload that stands beside the word.
+pub const CF_ACT_COMPLETE: u32 = 0;
+/// To fail a stage with the payload that stands there.
+pub const CF_ACT_FAIL: u32 = 1;
+/// To cancel a stage.
+pub const CF_ACT_CANCEL: u32 = 2;
+/// To cancel a stage, if its function runs nowhere.
+pub const CF_ACT_CANCEL_IDLE: u32 = 3;
+/// A stage times out at a moment.
+pub const CF_ACT_TIME_OUT: u32 = 4;
+/// A stage is completed with the payload at a moment.
+pub const CF_ACT_GIVE_AT: u32 = 5;
+/// To attach a stage.
+pub const CF_ACT_ATTACH: u32 = 6;
+/// To attach a further try of a stage.
+pub const CF_ACT_AGAIN: u32 = 7;
+
+/// Nothing is to be done before a moment, an answer or another call.
+pub const CF_ORDER_SLEEP: u32 = 0;
+/// To beat, and to read all beats and the store's clock.
+pub const CF_ORDER_BEAT: u32 = 1;
+/// To read how many words each request has that isn't closed.
+pub const CF_ORDER_LIST: u32 = 2;
+/// The same of the requests that changed since a mark.
+pub const CF_ORDER_NEWS: u32 = 3;
+/// To read a request's plan.
+pub const CF_ORDER_OPEN: u32 = 4;
+/// To read the entries of its row from a place on.
+pub const CF_ORDER_READ: u32 = 5;
+/// To put entries there.
+pub const CF_ORDER_PUT: u32 = 6;
+/// To close the request.
+pub const CF_ORDER_CLOSE: u32 = 7;
+/// To call a function.
+pub const CF_ORDER_CALL: u32 = 8;
+/// The function of a call may end.
+pub const CF_ORDER_STOP: u32 = 9;
+/// To tell those who wait for a stage.
+pub const CF_ORDER_SHOW: u32 = 10;
+/// To tell the user of an act what became of it.
+pub const CF_ORDER_TELL: u32 = 11;
+
+/// What was asked stands.
+pub const CF_TOLD_STANDS: u32 = 0;
+/// The request is closed.
+pub const CF_TOLD_CLOSED: u32 = 1;
+/// The store refused it, and nothing of it stands.
+pub const CF_TOLD_REFUSED: u32 = 2;
+/// No answer came in time. It may stand, or come to stand.
+pub const CF_TOLD_UNKNOWN: u32 = 3;
+/// A stage isn't there.
+pub const CF_TOLD_NO_STAGE: u32 = 4;
+/// There is no room for the stage.
+pub const CF_TOLD_NO_ROOM: u32 = 5;
+/// The stage has no function that could be tried again.
+pub const CF_TOLD_NO_TRY: u32 = 6;
+/// The stage is settled otherwise.
+pub const CF_TOLD_SETTLED: u32 = 7;
+/// The stage is settled as was asked.
+pub const CF_TOLD_AS_ASKED: u32 = 8;
+/// The function of the stage runs.
+pub const CF_TOLD_RUNS: u32 = 9;
+/// A word stands in the row that doesn't fit.
+pub const CF_TOLD_BROKEN: u32 = 10;
+/// The store has the request no more.
+pub const CF_TOLD_DROPPED: u32 = 11;
+/// A payload is lost.
+pub const CF_TOLD_PAYLOAD: u32 = 12;
+
+/// No payload.
+pub const CF_OF_NOBODY: u32 = 0;
+/// What the user of the act gave.
+pub const CF_OF_ACT: u32 = 1;
+/// What the function of a stage came to.
+pub const CF_OF_FUNCTION: u32 = 2;
+/// An error in its place, since the store refused that.
+pub const CF_OF_ERROR: u32 = 3;
+/// An error that says that the session of a stage is gone.
+pub const CF_OF_GONE: u32 = 4;
+
+/// The put stands.
+pub const CF_STANDS: u32 = 0;
+/// The request is closed.
+pub const CF_CLOSED: u32 = 1;
+/// More stands there.
+pub const CF_NOT_CLOSED: u32 = 2;
+/// No answer came.
+pub const CF_UNKNOWN: u32 = 3;
+/// The put was refused.
+pub const CF_REFUSED: u32 = 4;
+/// The store has the request no more.
+pub const CF_DROPPED: u32 = 5;
+
+/// A function gave a payload.
+pub const CF_ENDS_GIVE: u32 = 0;
+/// It came to none.
+pub const CF_ENDS_NIL: u32 = 1;
+/// It threw an error, which is its payload.
+pub const CF_ENDS_THROW: u32 = 2;
+/// It passes on the error whose payload stands at a place.
+pub const CF_ENDS_PASS: u32 = 3;
+/// It gave another stage.
+pub const CF_ENDS_LINK: u32 = 4;
 
 /// It waits for its sources, or for who settles it.
 pub const CF_IS_PENDING: u32 = 0;
@@ -711,6 +823,134 @@ pub struct cf_row_claim {
     pub stage: u16,
 }
 
+/// A note as two numbers.
+#[repr(C)]
+#[derive(Clone, Copy, Debug, Default, PartialEq, Eq)]
+pub struct cf_note {
+    /// Its kind, a stage and a function.
+    pub what: u64,
+    /// The moment of a timer, or 0.
+    pub moment: u64,
+}
+
+/// An entry of a row, with its note.
+#[repr(C)]
+#[derive(Clone, Copy, Debug, Default, PartialEq, Eq)]
+pub struct cf_noted {
+    /// The word.
+    pub word: u64,
+    /// The token.
+    pub token: u64,
+    /// The note.
+    pub note: cf_note,
+}
+
+/// What a host is opened with.
+#[repr(C)]
+#[derive(Clone, Copy, Debug, Default, PartialEq, Eq)]
+pub struct cf_host_opening {
+    /// The session's number, below 2^39.
+    pub session: u64,
+    /// How many functions run at a time.
+    pub workers: u32,
+    /// How long a session that doesn't beat is waited for, in milliseconds.
+    pub lease: u64,
+    /// Whether it works on all requests.
+    pub takes_all: u32,
+}
+
+/// What a user asks of a request.
+#[repr(C)]
+#[derive(Clone, Copy, Debug, Default, PartialEq, Eq)]
+pub struct cf_host_acting {
+    /// `CF_ACT_COMPLETE` to `CF_ACT_AGAIN`.
+    pub kind: u32,
+    /// The stage.
+    pub stage: u16,
+    /// The moment on the store's clock.
+    pub moment: u64,
+    /// The form of an attached stage.
+    pub form: u32,
+    /// How many sources it has.
+    pub sources: u32,
+    /// The first of them.
+    pub first: u16,
+    /// The second of them.
+    pub second: u16,
+    /// Its function's number, or `CF_NO_FUNCTION`.
+    pub function: u32,
+}
+
+/// What a host has to do next.
+#[repr(C)]
+#[derive(Clone, Copy, Debug, Default, PartialEq, Eq)]
+pub struct cf_host_order {
+    /// `CF_ORDER_SLEEP` to `CF_ORDER_TELL`.
+    pub kind: u32,
+    /// `CF_TOLD_STANDS` to `CF_TOLD_PAYLOAD`.
+    pub told: u32,
+    /// The ticket of the question, the call or the act.
+    pub ticket: u64,
+    /// The request.
+    pub request: u64,
+    /// The stage.
+    pub stage: u16,
+    /// The number of the function.
+    pub function: u32,
+    /// How many entries stand before those that are asked for.
+    pub place: usize,
+    /// Until when to sleep, or since which mark news are asked for.
+    pub moment: u64,
+    /// What the function is to be called with.
+    pub args: cf_args,
+    /// The outcome of the stage.
+    pub outcome: cf_outcome,
+}
+
+/// An entry that is to be put, and whose payload stands at its place.
+#[repr(C)]
+#[derive(Clone, Copy, Debug, Default, PartialEq, Eq)]
+pub struct cf_host_want {
+    /// The entry.
+    pub entry: cf_noted,
+    /// `CF_OF_NOBODY` to `CF_OF_GONE`.
+    pub source: u32,
+    /// The stage.
+    pub stage: u16,
+}
+
+/// How often a session has beaten.
+#[repr(C)]
+#[derive(Clone, Copy, Debug, Default, PartialEq, Eq)]
+pub struct cf_host_beat {
+    /// The session.
+    pub session: u64,
+    /// How often.
+    pub count: u64,
+}
+
+/// How many words a request has.
+#[repr(C)]
+#[derive(Clone, Copy, Debug, Default, PartialEq, Eq)]
+pub struct cf_host_length {
+    /// The request.
+    pub request: u64,
+    /// How many words.
+    pub words: usize,
+}
+
+/// What a host has seen of a request.
+#[repr(C)]
+#[derive(Clone, Copy, Debug, Default, PartialEq, Eq)]
+pub struct cf_host_view {
+    /// How many words.
+    pub words: usize,
+    /// How many stages there are by these.
+    pub stages: u16,
+    /// Why nothing goes on there any more, or 0.
+    pub fault: u32,
+}
+
 /// A function of yours, as cf_work calls it.
 pub type cf_stage_function = unsafe extern "C" fn(context: *mut c_void, task: *const cf_task, answer: *mut cf_answer);
 
@@ -941,6 +1181,42 @@ extern "C" {
     /// Tells the lowest stage from the number `from` on that the view's session could claim next: one that is ready, or one that is ready once what
     /// the task holds is finished.
     pub fn cf_row_next_claim(view: *mut cf_handle, task: *const cf_task, from: u16, stage: *mut u16) -> u32;
+    /// Opens a host that knows nothing yet, and puts it behind an empty handle.
+    pub fn cf_host_new(opening: *const cf_host_opening, host: *mut cf_handle) -> u32;
+    /// Works on a request from now on.
+    pub fn cf_host_follow(host: *mut cf_handle, request: u64) -> u32;
+    /// A user asks this of a request. It tells the ticket under which its user is told of it.
+    pub fn cf_host_act(host: *mut cf_handle, now: u64, request: u64, act: *const cf_host_acting, ticket: *mut u64) -> u32;
+    /// A user ends a request.
+    pub fn cf_host_end(host: *mut cf_handle, now: u64, request: u64, ticket: *mut u64) -> u32;
+    /// Somebody waits for a stage.
+    pub fn cf_host_wants(host: *mut cf_handle, request: u64, stage: u16) -> u32;
+    /// Nobody waits for a stage any more.
+    pub fn cf_host_lets_go(host: *mut cf_handle, request: u64, stage: u16) -> u32;
+    /// The store says that something is new.
+    pub fn cf_host_stirred(host: *mut cf_handle, now: u64) -> u32;
+    /// From now on no further function is called.
+    pub fn cf_host_stop(host: *mut cf_handle) -> u32;
+    /// Tells what is to be done next.
+    pub fn cf_host_turn(host: *mut cf_handle, now: u64, order: *mut cf_host_order) -> u32;
+    /// Tells the entries of a request's put that is under way.
+    pub fn cf_host_put(host: *mut cf_handle, request: u64, wants: *mut cf_host_want, room: usize, n: *mut usize) -> u32;
+    /// Answers with the plan of a request.
+    pub fn cf_host_opened(host: *mut cf_handle, ticket: u64, plan: *mut cf_handle, room: u16, is_flow: u32, notes: *const cf_note, n: usize) -> u32;
+    /// Answers with the entries that stand behind a place.
+    pub fn cf_host_read(host: *mut cf_handle, now: u64, ticket: u64, entries: *const cf_noted, n: usize) -> u32;
+    /// Answers with all sessions' beats and the store's clock.
+    pub fn cf_host_beats(host: *mut cf_handle, now: u64, ticket: u64, clock: u64, beats: *const cf_host_beat, n: usize) -> u32;
+    /// Answers with how many words requests have, up to a mark.
+    pub fn cf_host_news(host: *mut cf_handle, now: u64, ticket: u64, mark: u64, requests: *const cf_host_length, n: usize) -> u32;
+    /// Answers without a list: `CF_STANDS` to `CF_DROPPED`.
+    pub fn cf_host_answered(host: *mut cf_handle, now: u64, ticket: u64, answer: u32) -> u32;
+    /// A function has ended: `CF_ENDS_GIVE` to `CF_ENDS_LINK`.
+    pub fn cf_host_ended(host: *mut cf_handle, ticket: u64, kind: u32, code: u32, stage: u16) -> u32;
+    /// Tells what a stage of a request is.
+    pub fn cf_host_stage(host: *mut cf_handle, request: u64, stage: u16, now: *mut cf_stage) -> u32;
+    /// Tells how much the host has seen of a request.
+    pub fn cf_host_seen(host: *mut cf_handle, request: u64, seen: *mut cf_host_view) -> u32;
     /// Makes a history, of which nothing is said yet.
     pub fn cf_history_new(plan: *mut cf_handle, room: u16, words: *const u64, n: usize, history: *mut cf_handle) -> u32;
     /// Says when the events were done, in place of what was said of it before.
@@ -1004,6 +1280,15 @@ pub fn mismatch() -> Option<&'static str> {
         known!(cf_entry: word token),
         known!(cf_row_opening: room first session),
         known!(cf_row_claim: session stage),
+        known!(cf_note: what moment),
+        known!(cf_noted: word token note),
+        known!(cf_host_opening: session workers lease takes_all),
+        known!(cf_host_acting: kind stage moment form sources first second function),
+        known!(cf_host_order: kind told ticket request stage function place moment args outcome),
+        known!(cf_host_want: entry source stage),
+        known!(cf_host_beat: session count),
+        known!(cf_host_length: request words),
+        known!(cf_host_view: words stages fault),
     ];
     structures.iter().find_map(|it| *it)
 }

@@ -123,7 +123,7 @@ fn fields_are_those_of_the_header() {
         assert_eq!(parts_of_rust(declared), of_c, "{name}");
         found += 1;
     }
-    assert_eq!(found, 27);
+    assert_eq!(found, 36);
 }
 
 #[test]

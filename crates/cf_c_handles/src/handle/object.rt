@@ -5,6 +5,7 @@ ghost use Rattle.cf_c_handles.specs.Records.{CallsHaveWords, HasWord};
 
 use cf_core::{Graph, Sweep};
 use cf_desk::{Closed, Desk, Notice, Pass};
+use cf_host::Host;
 use cf_ledger::Ledger;
 use cf_plan::{Plan, PlanBuilder};
 use cf_request::Machine;
@@ -33,6 +34,8 @@ pub enum Object {
     Row(Row),
     /// What happened to a request, to be told. In a box, so that no other handle takes more memory.
     History(Box<History>),
+    /// All requests of a store that a process works on. In a box for the same reason.
+    Host(Box<Host>),
     /// A caller of a graph that several share.
     Caller(Caller),
     /// What a caller had seen, for another one to heed.

@@ -50,7 +50,8 @@ pub fn stage(held: &mut Object, stage: u16) -> Result<CfStage, Code>
     of_ledger!(held, ledger => stage_now(ledger, stage))
 }
 
-fn stage_now(ledger: &Ledger, stage: u16) -> Result<CfStage, Code>
+/// What a stage of this ledger is.
+pub(crate) fn stage_now(ledger: &Ledger, stage: u16) -> Result<CfStage, Code>
     ensures { TellsStage stage ledger.now result }
 {
     if stage >= ledger.stages() {
