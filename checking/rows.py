@@ -5,7 +5,7 @@ from typing import List, NamedTuple, Optional, Sequence, Tuple
 
 from checking.crates import TOP, edits_of_gate, own
 from checking.tools import ASGI, BUILDS_WHEELS, DEBIANS, DJANGO, JUNIT, MAVEN, MODULE, NAMESPACES, PACKS, POSTGRES, POSTGRES_JDBC, PROMETHEUS
-from checking.tools import PYTEST, SECOND, SLF4J, SQLITE_JDBC, Tools
+from checking.tools import PYTEST, SECOND, SLF4J, SQLITE, SQLITE_JDBC, Tools
 
 HEADER = "crates/cf_c/include"
 WARNED = ["-Wall", "-Wextra", "-pedantic", "-Werror"]
@@ -33,17 +33,25 @@ def wanted(folder: str, name: str) -> Optional[str]:
     return path.read_text(encoding="utf-8") if path.is_file() else blocks(folder).get(name)
 
 
+def killed_first(words: List[str]) -> List[str]:
+    """A worker over a file beside it, which is killed, and then another one, which goes on."""
+    return ["sh", "-c", 'rm -f "$0"*; ! "$@" "$0" die && "$@" "$0"', words[-1] + ".db", *words]
+
+
 def rows_of_c(tools: Tools, made: Path) -> List[Row]:
     rows = []
     for name in sorted(path.name for path in (TOP / "clients/c").glob("*.c")):
         plain, checked, watched = (str(made / (name[:-2] + end)) for end in ("", ".asan", ".valgrind"))
-        rest = ["-std=c11", "-O1", SEEN, "-pthread", *WARNED, "-I" + HEADER, "clients/c/" + name, str(made / "libcf.a"), "-o"]
+        is_stored = name == "host_of_a_store.c"
+        needs, linked = (["library", SQLITE], ["-lsqlite3"]) if is_stored else (["library"], [])
+        rest = ["-std=c11", "-O1", SEEN, "-pthread", *WARNED, "-I" + HEADER, "clients/c/" + name, str(made / "libcf.a"), *linked, "-o"]
         prints = ("clients/c", name)
-        rows.append(Row(name, ["library", "clang"], [[tools["clang"], *rest, plain], [plain]], prints))
+        run = killed_first if is_stored else lambda words: words
+        rows.append(Row(name, [*needs, "clang"], [[tools["clang"], *rest, plain], run([plain])], prints))
         sanitized = [tools["address sanitizer"], "-fsanitize=address,undefined", "-fno-sanitize-recover=undefined", *rest, checked]
-        rows.append(Row(name + " with the sanitizers", ["library", "address sanitizer"], [sanitized, [checked]], prints))
-        under = [[tools["clang"], *rest, watched], [tools["valgrind"], *UNDER, watched]]
-        rows.append(Row(name + " under valgrind", ["library", "clang", "valgrind"], under, prints))
+        rows.append(Row(name + " with the sanitizers", [*needs, "address sanitizer"], [sanitized, run([checked])], prints))
+        under = [[tools["clang"], *rest, watched], run([tools["valgrind"], *UNDER, watched])]
+        rows.append(Row(name + " under valgrind", [*needs, "clang", "valgrind"], under, prints))
     return rows
 
 

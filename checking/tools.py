@@ -27,6 +27,7 @@ PLUGINS = ["apache/maven/plugins/maven-compiler-plugin", "apache/maven/plugins/m
 SLF4J = "SLF4J, as Debian's libslf4j-java has it"
 NAMESPACES = "file system of its own, as unshare makes it"
 SECOND = "second processor"
+SQLITE = "SQLite for C, as Debian's libsqlite3-dev has it"
 PACKS = "cargo that can package without a lock file"
 NOTHING = "int main(void) { return 0; }\n"
 
@@ -54,6 +55,7 @@ class Tools:
         compilers = [self.of_kit(), "clang"]
         self.found["clang"] = self.first(compilers, "#include <stdbool.h>\n" + NOTHING, "-fsyntax-only")
         self.found["C compiler"] = self.first(["clang", "gcc"], "#include <stdlib.h>\n" + NOTHING, "-shared")
+        self.found[SQLITE] = self.first(["clang", "gcc"], "#include <sqlite3.h>\n" + NOTHING, "-lsqlite3")
         self.found["binutils"] = shutil.which("ar") and shutil.which("nm") and shutil.which("objcopy")
         self.found["address sanitizer"] = self.first([*compilers, "gcc"], "#include <stdbool.h>\n" + NOTHING, "-fsanitize=address,undefined")
         javac = shutil.which("javac")

@@ -41,6 +41,7 @@ PAGES = [
     Page("cf_ledgers", "Ledgers", "graphs that keep the word of each event", "ledger.c"),
     Page("cf_requests", "Requests", "what a service does for one request", "host.c"),
     Page("cf_rows", "Views", "what one session knows of a row in a store", "row.c"),
+    Page("cf_hosts", "Hosts", "what a process does with all its requests in a store", "host_of_a_store.c"),
     Page("cf_histories", "Histories", "what happened, told as texts", "histories.c"),
     Page("cf_texts", "Scripts", "scripts, and the texts of outcomes and codes", "script.c"),
     Page("cf_versions", "The library itself", "the library's version, names of codes, and layouts", "versions.c"),
