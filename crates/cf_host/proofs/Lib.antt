@@ -4,6 +4,7 @@ pub mod Covered
 pub mod Leasts
 pub mod Counted
 pub mod Placed
+pub mod Refused
 pub mod Ordering
 pub mod Sleeping
 pub mod Worked

@@ -1,9 +1,14 @@
 -- What users call.
 use Rattle.std.specs.Prelude.{◌≡◌, ℕ, ◌<◌, Bool, List, [], ◌∷◌, ◌++◌, length, slice_set}
+use Rattle.cf_due.specs.Acts.{IsFitting}
 use Rattle.cf_due.specs.declared.acts.Act.{Act}
 use Rattle.cf_notes.specs.declared.wants.EndsWith.{EndsWith}
 use Rattle.cf_part.specs.Answers.{Ends, IsRunning}
 use Rattle.cf_turn.specs.Works.{Work, wish_of}
+use Rattle.cf_host.specs.Requests.{IsOpenIn, LacksStage}
+use Rattle.cf_host.specs.declared.order.NoCall.{NoCall}
+use Rattle.cf_host.specs.declared.order.NoCall.TheVariants.{NotOpen, Unfit, NoMemory}
+use Rattle.cf_host.specs.declared.request.Request.{Request}
 
 -- a user asks for an act, and waits until a moment
 abbrev pub Asking : ℕ → Act → ℕ → Work → Work → Type 0
@@ -23,3 +28,23 @@ pub record CallEnding (stage : ℕ) (answer : EndsWith) (old new : Work) : Type 
   pub runs : IsRunning old.part stage
   pub part : Ends old.part stage answer new.part
   pub rest : new ≡ record old { part = new.part }
+
+-- ---- why a call is refused
+
+-- an act: whether it fits is seen first
+abbrev pub IsNoAsking : Act → ℕ → List Request → NoCall → Type 0
+IsNoAsking act request requests Unfit = ¬ IsFitting act
+IsNoAsking act request requests NotOpen = IsFitting act × (¬ IsOpenIn request requests)
+IsNoAsking act request requests NoMemory = IsFitting act × IsOpenIn request requests
+
+-- the end of a request
+abbrev pub IsNoEnding : ℕ → List Request → NoCall → Type 0
+IsNoEnding request requests NotOpen = ¬ IsOpenIn request requests
+IsNoEnding request requests NoMemory = IsOpenIn request requests
+IsNoEnding request requests Unfit = ⊥
+
+-- somebody's waiting for a stage, which takes no memory
+abbrev pub IsNoWanting : ℕ → ℕ → List Request → NoCall → Type 0
+IsNoWanting stage request requests NotOpen = ¬ IsOpenIn request requests
+IsNoWanting stage request requests Unfit = LacksStage request stage requests
+IsNoWanting stage request requests NoMemory = ⊥

@@ -74,6 +74,19 @@ IsOpenAt place requests = (r : Request) × (slice_get requests place ≡ Some r)
 abbrev pub IsShutAt : ℕ → List Request → Type 0
 IsShutAt place requests = (r : Request) × (slice_get requests place ≡ Some r) × (r.work ≡ None)
 
+-- the request of this number is there, and opened
+pub record IsOpenIn (number : ℕ) (requests : List Request) : Type 0 where
+  pub place : ℕ
+  pub at : IsAt number place requests
+  pub opened : IsOpenAt place requests
+
+-- it is, but has no place for a stage
+pub record LacksStage (number stage : ℕ) (requests : List Request) : Type 0 where
+  pub place : ℕ
+  pub at : IsAt number place requests
+  pub opened : IsOpenAt place requests
+  pub lacks : ¬ HasPlace at.request.work stage
+
 -- a request is taken up, unless it is there
 pub data Follows (number : ℕ) (old new : List Request) : Type 0 where
   known : (place : ℕ) → IsAt number place old → new ≡ old → Follows number old new

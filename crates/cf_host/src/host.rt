@@ -1,10 +1,11 @@
 //! A process at work on the requests of a store.
 ghost use Rattle.std.specs.Prelude.{◌≡◌, ◌<◌, IfErr, IfNone, IfOk, IfSome, None, OnErr, OnOk, false, length, min, true};
 ghost use Rattle.cf_due.specs.Acts.{IsFitting};
-ghost use Rattle.cf_host.specs.Asking.{Asking, Ending, Wanting};
+ghost use Rattle.cf_host.specs.Asking.{Asking, Ending, IsNoAsking, IsNoEnding, IsNoWanting, Wanting};
 ghost use Rattle.cf_host.specs.Hosts.{FollowsIn, IsShownPart, Keeps, OnRequest, OnRequestFor, new_host};
 ghost use Rattle.cf_host.specs.Pulses.{later_by};
-ghost use Rattle.cf_host.specs.Requests.{IsAt, IsOpenAt};
+ghost use Rattle.cf_host.specs.declared.order.NoCall.TheVariants.{NoMemory, NotOpen};
+ghost use Rattle.cf_host.specs.Requests.{IsAt, IsOpenAt, IsOpenIn};
 
 use crate::news::News;
 use crate::order::NoCall;
@@ -83,7 +84,8 @@ impl Host {
 
     /// The session's part in a request, once it is opened: what it has seen, and the put that is under way.
     pub fn part(&self, request: u64) -> Option<&Part>
-        ensures { IfSome result (λ part. IsShownPart self.now request part.now) }
+        ensures some { IfSome result (λ part. IsShownPart self.now request part.now) }
+        ensures none { IfNone result (¬ IsOpenIn request self.now.requests) }
     {
         let place = place_of(&self.requests, request)?;
         let part = self.requests[place].part()?;
@@ -104,6 +106,7 @@ impl Host {
         ensures ok { IfOk result (λ number.
             OnRequestFor (λ n. Asking n act (later_by 60000 now)) request number self.old self.new) }
         ensures err { OnErr result (Keeps self.old self.new) }
+        ensures why { IfErr result (λ why. IsNoAsking act request self.old.requests why) }
     {
         if !act.fits() {
             return Err(NoCall::Unfit);
@@ -125,6 +128,7 @@ impl Host {
         ensures ok { IfOk result (λ number.
             OnRequestFor (λ n. Ending n (later_by 60000 now)) request number self.old self.new) }
         ensures err { OnErr result (Keeps self.old self.new) }
+        ensures why { IfErr result (λ why. IsNoEnding request self.old.requests why) }
     {
         let place = self.opened_at(request)?;
         self.reserve()?;
@@ -142,6 +146,7 @@ impl Host {
     pub fn wants(&mut self, request: u64, stage: u16) -> Result<(), NoCall>
         ensures ok { OnOk result (OnRequest (Wanting stage true) request self.old self.new) }
         ensures err { OnErr result (self.new ≡ self.old) }
+        ensures why { IfErr result (λ why. IsNoWanting stage request self.old.requests why) }
     {
         let place = self.opened_at(request)?;
         if !self.requests[place].has_place(stage) {
@@ -155,6 +160,7 @@ impl Host {
     pub fn lets_go(&mut self, request: u64, stage: u16) -> Result<(), NoCall>
         ensures ok { OnOk result (OnRequest (Wanting stage false) request self.old self.new) }
         ensures err { OnErr result (self.new ≡ self.old) }
+        ensures why { IfErr result (λ why. IsNoWanting stage request self.old.requests why) }
     {
         let place = self.opened_at(request)?;
         if !self.requests[place].has_place(stage) {
@@ -185,6 +191,7 @@ impl Host {
         ensures at { IfOk result (λ place. IsAt request place self.now.requests) }
         ensures there { IfOk result (λ place. place < length self.now.requests) }
         ensures opened { IfOk result (λ place. IsOpenAt place self.now.requests) }
+        ensures why { IfErr result (λ why. (why ≡ NotOpen) × (¬ IsOpenIn request self.now.requests)) }
     {
         let Some(place) = place_of(&self.requests, request) else {
             return Err(NoCall::NotOpen);
@@ -201,6 +208,7 @@ impl Host {
           tickets = record self.old.tickets { is_ready = true };
         }) }
         ensures err { OnErr result (self.new ≡ self.old) }
+        ensures why { IfErr result (λ why. why ≡ NoMemory) }
     {
         match self.tickets.reserve() {
             Ok(()) => Ok(()),
