@@ -11,3 +11,4 @@ pub mod Worked
 pub mod Effects
 pub mod CalledOnce
 pub mod Turned
+pub mod Unfit

@@ -8,4 +8,5 @@ pub mod Asking
 pub mod Busy
 pub mod Waking
 pub mod Hosts
+pub mod Fitting
 pub mod Laws

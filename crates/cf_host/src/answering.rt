@@ -4,6 +4,7 @@ ghost use Rattle.std.specs.Bool.{OnFalse, OnTrue};
 ghost use Rattle.cf_part.specs.Parts.{IsClose, IsPut, IsRead};
 ghost use Rattle.cf_host.specs.Requests.{OnWork, asked_in};
 ghost use Rattle.cf_host.specs.Answering.{Breaking, Closing, Hearing, Landing, Meeting, Reading, Refusing, Waiting};
+ghost use Rattle.cf_host.specs.Fitting.{TakesEntries};
 ghost use Rattle.cf_host.specs.Hosts.{IsDropped, StaysShut};
 
 use crate::order::NoAnswer;
@@ -25,6 +26,7 @@ impl Request {
         requires { length notes.now ≡ length entries.now }
         ensures ok { OnOk result (OnWork (Hearing now entries.now notes.now) self.old self.new) }
         ensures why { IfErr result (λ why. why ≡ NoAnswer.Unfit) }
+        ensures unfit { IfErr result (λ why. ¬ TakesEntries entries.now self.old) }
         ensures err { OnErr result (self.new ≡ self.old) }
     {
         let asked = self.asked();

@@ -2,8 +2,9 @@
 //! question, is refused and changes nothing.
 ghost use Rattle.std.specs.Prelude.{◌≡◌, ◌<◌, IfErr, IfOk, OnErr, OnOk, Some, length};
 ghost use Rattle.cf_host.specs.Answering.{Breaking, Closing, Hearing, Landing, Refusing, Waiting};
+ghost use Rattle.cf_host.specs.Fitting.{AsksBeats, AsksClose, AsksNews, AsksPlan, AsksPut, AsksRow, AwaitsEnd, FitsEntries, FitsPlan, IsOpenFor, MayLack, MayLose, UnfitOnlyIf};
 ghost use Rattle.cf_host.specs.Hosts.{Answers, AnswersRow, EndsCall, HearsBeats, HearsNews, IsDropped, IsOpened, IsRefused, IsTicketOf, LacksBeats, LacksNews, LosesRequest, StaysShut, StaysUnanswered};
-ghost use Rattle.cf_host.specs.Requests.{IsAt, IsOpenAt, IsShutAt};
+ghost use Rattle.cf_host.specs.Requests.{IsAt, IsOpenAt, IsShutAt, NoneAt};
 ghost use Rattle.cf_host.specs.Tickets.{ticket_of};
 ghost use Rattle.cf_host.specs.declared.ticket.Asked.TheVariants.{Open as OfOpen, Row as OfRow};
 
@@ -33,6 +34,7 @@ impl Host {
         ensures ok { OnOk result (Answers OfOpen
             (IsOpened self.old.session plan.now notes.now room is_flow) self.old ticket self.new) }
         ensures why { IfErr result (λ why. IsRefused self.old ticket why) }
+        ensures unfit { IfErr result (λ why. UnfitOnlyIf (¬ FitsPlan plan.now notes.now room self.old ticket) why) }
         ensures err { OnErr result (self.new ≡ self.old) }
     {
         let place = self.to_open(ticket)?;
@@ -57,6 +59,7 @@ impl Host {
     ) -> Result<(), NoAnswer>
         ensures ok { OnOk result (AnswersRow (Hearing now entries.now notes.now) self.old ticket self.new) }
         ensures why { IfErr result (λ why. IsRefused self.old ticket why) }
+        ensures unfit { IfErr result (λ why. UnfitOnlyIf (¬ FitsEntries entries.now notes.now self.old ticket) why) }
         ensures err { OnErr result (self.new ≡ self.old) }
     {
         let place = self.row_of(ticket)?;
@@ -72,6 +75,7 @@ impl Host {
     pub fn stands(&mut self, ticket: u64) -> Result<(), NoAnswer>
         ensures ok { OnOk result (AnswersRow Landing self.old ticket self.new) }
         ensures why { IfErr result (λ why. IsRefused self.old ticket why) }
+        ensures unfit { IfErr result (λ why. UnfitOnlyIf (¬ AsksPut self.old ticket) why) }
         ensures err { OnErr result (self.new ≡ self.old) }
     {
         let place = self.row_of(ticket)?;
@@ -87,6 +91,7 @@ impl Host {
     pub fn refused(&mut self, now: u64, ticket: u64) -> Result<(), NoAnswer>
         ensures ok { OnOk result (AnswersRow (Refusing now) self.old ticket self.new) }
         ensures why { IfErr result (λ why. IsRefused self.old ticket why) }
+        ensures unfit { IfErr result (λ why. UnfitOnlyIf (¬ AsksPut self.old ticket) why) }
         ensures err { OnErr result (self.new ≡ self.old) }
     {
         let place = self.row_of(ticket)?;
@@ -102,6 +107,7 @@ impl Host {
     pub fn closed(&mut self, ticket: u64, is_closed: bool) -> Result<(), NoAnswer>
         ensures ok { OnOk result (AnswersRow (Closing is_closed) self.old ticket self.new) }
         ensures why { IfErr result (λ why. IsRefused self.old ticket why) }
+        ensures unfit { IfErr result (λ why. UnfitOnlyIf (¬ AsksClose self.old ticket) why) }
         ensures err { OnErr result (self.new ≡ self.old) }
     {
         let place = self.row_of(ticket)?;
@@ -123,6 +129,7 @@ impl Host {
     ) -> Result<(), NoAnswer>
         ensures ok { OnOk result (HearsBeats self.old now ticket beats.now clock self.new) }
         ensures why { IfErr result (λ why. IsRefused self.old ticket why) }
+        ensures unfit { IfErr result (λ why. UnfitOnlyIf (¬ AsksBeats self.old ticket) why) }
         ensures err { OnErr result (self.new ≡ self.old) }
     {
         let asked = self.find(ticket)?;
@@ -151,6 +158,7 @@ impl Host {
     ) -> Result<(), NoAnswer>
         ensures ok { OnOk result (HearsNews self.old now ticket lengths.now mark self.new) }
         ensures why { IfErr result (λ why. IsRefused self.old ticket why) }
+        ensures unfit { IfErr result (λ why. UnfitOnlyIf (¬ AsksNews self.old ticket) why) }
         ensures err { OnErr result (self.new ≡ self.old) }
     {
         let asked = self.find(ticket)?;
@@ -169,6 +177,7 @@ impl Host {
     pub fn unknown(&mut self, now: u64, ticket: u64) -> Result<(), NoAnswer>
         ensures ok { OnOk result (StaysUnanswered self.old now ticket self.new) }
         ensures why { IfErr result (λ why. IsRefused self.old ticket why) }
+        ensures unfit { IfErr result (λ why. UnfitOnlyIf (¬ IsOpenFor MayLack self.old ticket) why) }
         ensures err { OnErr result (self.new ≡ self.old) }
     {
         let asked = self.find(ticket)?;
@@ -185,6 +194,7 @@ impl Host {
     pub fn dropped(&mut self, ticket: u64) -> Result<(), NoAnswer>
         ensures ok { OnOk result (LosesRequest self.old ticket self.new) }
         ensures why { IfErr result (λ why. IsRefused self.old ticket why) }
+        ensures unfit { IfErr result (λ why. UnfitOnlyIf (¬ IsOpenFor MayLose self.old ticket) why) }
         ensures err { OnErr result (self.new ≡ self.old) }
     {
         let asked = self.find(ticket)?;
@@ -199,6 +209,7 @@ impl Host {
     pub fn ended(&mut self, ticket: u64, answer: EndsWith) -> Result<(), NoAnswer>
         ensures ok { OnOk result (EndsCall answer self.old ticket self.new) }
         ensures why { IfErr result (λ why. IsRefused self.old ticket why) }
+        ensures unfit { IfErr result (λ why. UnfitOnlyIf (¬ AwaitsEnd self.old ticket) why) }
         ensures err { OnErr result (self.new ≡ self.old) }
     {
         let asked = self.find(ticket)?;
@@ -239,6 +250,7 @@ impl Host {
     fn lack_plan(&mut self, now: u64, ticket: u64) -> Result<(), NoAnswer>
         ensures ok { OnOk result (Answers OfOpen (StaysShut now) self.old ticket self.new) }
         ensures why { IfErr result (λ why. IsRefused self.old ticket why) }
+        ensures unfit { IfErr result (λ why. UnfitOnlyIf (¬ AsksPlan self.old ticket) why) }
         ensures err { OnErr result (self.new ≡ self.old) }
     {
         let place = self.to_open(ticket)?;
@@ -251,6 +263,7 @@ impl Host {
     fn lack_entries(&mut self, now: u64, ticket: u64) -> Result<(), NoAnswer>
         ensures ok { OnOk result (AnswersRow (Waiting now) self.old ticket self.new) }
         ensures why { IfErr result (λ why. IsRefused self.old ticket why) }
+        ensures unfit { IfErr result (λ why. UnfitOnlyIf (¬ AsksRow self.old ticket) why) }
         ensures err { OnErr result (self.new ≡ self.old) }
     {
         let place = self.row_of(ticket)?;
@@ -263,6 +276,7 @@ impl Host {
     fn lose_plan(&mut self, ticket: u64) -> Result<(), NoAnswer>
         ensures ok { OnOk result (Answers OfOpen IsDropped self.old ticket self.new) }
         ensures why { IfErr result (λ why. IsRefused self.old ticket why) }
+        ensures unfit { IfErr result (λ why. UnfitOnlyIf (¬ AsksPlan self.old ticket) why) }
         ensures err { OnErr result (self.new ≡ self.old) }
     {
         let place = self.to_open(ticket)?;
@@ -275,6 +289,7 @@ impl Host {
     fn lose_row(&mut self, ticket: u64) -> Result<(), NoAnswer>
         ensures ok { OnOk result (AnswersRow Breaking self.old ticket self.new) }
         ensures why { IfErr result (λ why. IsRefused self.old ticket why) }
+        ensures unfit { IfErr result (λ why. UnfitOnlyIf (¬ AsksRow self.old ticket) why) }
         ensures err { OnErr result (self.new ≡ self.old) }
     {
         let place = self.row_of(ticket)?;
@@ -287,6 +302,7 @@ impl Host {
     fn find(&self, ticket: u64) -> Result<Ticket, NoAnswer>
         ensures is { IfOk result (λ t. ticket_of ticket self.now.tickets.waiting ≡ Some t) }
         ensures why { IfErr result (λ why. IsRefused self.now ticket why) }
+        ensures none { IfErr result (λ why. why ≡ NoAnswer.NoTicket) }
     {
         match self.tickets.find(ticket) {
             Some(found) => Ok(found),
@@ -300,6 +316,7 @@ impl Host {
         ensures there { IfOk result (λ place. place < length self.now.requests) }
         ensures opened { IfOk result (λ place. IsOpenAt place self.now.requests) }
         ensures why { IfErr result (λ why. IsRefused self.now ticket why) }
+        ensures unfit { IfErr result (λ why. UnfitOnlyIf (¬ AsksRow self.now ticket) why) }
     {
         let asked = self.find(ticket)?;
         let Asked::Row { request } = asked.of else {
@@ -318,6 +335,7 @@ impl Host {
         ensures there { IfOk result (λ place. place < length self.now.requests) }
         ensures shut { IfOk result (λ place. IsShutAt place self.now.requests) }
         ensures why { IfErr result (λ why. IsRefused self.now ticket why) }
+        ensures unfit { IfErr result (λ why. UnfitOnlyIf (¬ AsksPlan self.now ticket) why) }
     {
         let asked = self.find(ticket)?;
         let Asked::Open { request } = asked.of else {
@@ -334,6 +352,7 @@ impl Host {
     fn place(&self, request: u64) -> Result<usize, NoAnswer>
         ensures is { IfOk result (λ place. IsAt request place self.now.requests) }
         ensures there { IfOk result (λ place. place < length self.now.requests) }
+        ensures none { IfErr result (λ why. NoneAt request (length self.now.requests) self.now.requests) }
         ensures why { IfErr result (λ why. why ≡ NoAnswer.Unfit) }
     {
         match place_of(&self.requests, request) {
