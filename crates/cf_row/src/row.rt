@@ -156,6 +156,8 @@ impl Row {
     }
 
     /// This entry stands behind all that was seen. It is refused for the first of: memory, a ledger's reasons.
+    // (In line, though two crates call it: each word from C comes this way.)
+    #[inline(always)]
     pub fn saw(&mut self, entry: Entry) -> Result<Reply, LedgerFault>
         requires none { self.old.put ≡ [] }
         ensures done { IfOk result (λ reply. Takes self.old.replica entry reply self.new.replica) }
