@@ -9,8 +9,6 @@
 #![tactic(auto)]
 
 mod set;
-#[cfg(test)]
-mod tests;
 mod word;
 
 pub use set::BitSet;

@@ -9,8 +9,6 @@
 #![tactic(auto)]
 
 mod abandoning;
-#[cfg(test)]
-mod act_tests;
 mod acts;
 mod attaching;
 mod claiming;
@@ -19,8 +17,6 @@ mod finishing;
 pub mod laws;
 mod promises;
 mod settling;
-#[cfg(test)]
-mod tests;
 mod ticking;
 mod timers;
 

@@ -15,16 +15,12 @@ mod asking;
 mod busy;
 mod clock;
 mod host;
-#[cfg(test)]
-mod host_tests;
 pub mod laws;
 mod news;
 mod order;
 mod pulse;
 mod request;
 mod requests;
-#[cfg(test)]
-mod tests;
 mod ticket;
 mod tickets;
 mod timers;

@@ -16,8 +16,6 @@ mod note;
 mod noted;
 mod notes;
 mod stage;
-#[cfg(test)]
-mod tests;
 mod wants;
 mod words;
 

@@ -18,8 +18,6 @@ mod putting;
 mod question;
 mod seeing;
 mod step;
-#[cfg(test)]
-mod tests;
 
 pub use cf_ledger::{LedgerFault, Misfit};
 pub use cf_notes::{EndsWith, Note, Noted, Owed, Source, Want};

@@ -14,8 +14,6 @@ mod closing;
 mod ends;
 pub mod laws;
 mod planning;
-#[cfg(test)]
-mod tests;
 mod turn;
 mod wish;
 mod work;

@@ -10,8 +10,6 @@
 mod beat;
 pub mod laws;
 mod sight;
-#[cfg(test)]
-mod tests;
 mod watch;
 
 pub use beat::Beat;

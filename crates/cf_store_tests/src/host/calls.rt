@@ -1,8 +1,5 @@
 //! Each call once, as a host makes them.
-use crate::clock::Reading;
-use crate::news::{Look, News};
-use crate::ticket::Asked;
-use crate::tickets::Tickets;
+use cf_host::{Asked, Look, News, Reading, Tickets};
 use std::alloc::AllocError;
 
 #[test]

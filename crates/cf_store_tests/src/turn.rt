@@ -1,7 +1,5 @@
 //! What a work of session 1 tells in a request of two stages, call by call: a supply, and an apply of it.
-use crate::turn::Turn;
-use crate::wish::Told;
-use crate::work::Work;
+use crate::checks::must;
 use cf_due::{Act, NoAct};
 use cf_forms::{Args, Form, Of};
 use cf_notes::{EndsWith, Note};
@@ -9,9 +7,9 @@ use cf_outcome::{Cause, Outcome, Value};
 use cf_part::{Entry, Fault, Part, Question, Shown};
 use cf_plan::{Plan, PlanBuilder};
 use cf_row::TOKENS;
+use cf_turn::{Told, Turn, Work};
 use cf_watch::Watch;
 use std::alloc::Global;
-use std::fmt::Debug;
 use std::process::Abort;
 
 /// One call: a turn at a moment, with what it tells; or another one. Of entries at a put's place it is told whether they
@@ -213,14 +211,6 @@ static ENDED: [Move; 10] = [
     Closes(true),
     Tells(0, Told::Closed),
 ];
-
-/// A call that must go well.
-fn must<T: Drop, E: Debug + Drop>(rt: &impl Abort, told: Result<T, E>) -> T {
-    match told {
-        Ok(told) => told,
-        Err(fault) => panic!(rt; "{fault:?}"),
-    }
-}
 
 /// The work of session 1, where somebody waits for the supply.
 fn work_of(rt: &impl Abort, alloc: Global, is_flow: bool) -> Work {

@@ -1,6 +1,7 @@
 //! What acts put in a row of a source, a supply that session 2 has claimed, and an apply of it. Session 1 has number 1.
-use crate::acts::{Act, Acting, NoAct, act_on};
-use crate::tests::{holds, must, plan_of};
+use crate::checks::{holds, must};
+use crate::due::due::plan_of;
+use cf_due::{Act, Acting, NoAct, act_on};
 use cf_forms::{Form, Of};
 use cf_notes::{Note, Noted, Source, Want};
 use cf_row::{Entry, Row, TOKENS};

@@ -1,17 +1,14 @@
 //! What a process of session 1 with one thread does in requests of one stage with a function, call by call.
-use crate::host::Host;
-use crate::news::Look;
-use crate::order::{NoAnswer, NoCall, Order};
-use crate::requests::Length;
+use crate::checks::must;
 use cf_due::Act;
 use cf_forms::{Args, Form};
+use cf_host::{Host, Length, Look, NoAnswer, NoCall, Order};
 use cf_notes::{EndsWith, Note};
 use cf_outcome::{Outcome, Value};
 use cf_part::{Question, Shown};
 use cf_plan::{Plan, PlanBuilder};
 use cf_turn::Told;
 use std::alloc::Global;
-use std::fmt::Debug;
 use std::process::Abort;
 
 /// One call, with what it answers last, where that is compared.
@@ -271,14 +268,6 @@ static TIMES: [Move; 17] = [
     Tells(99, Order::Sleep { until: 100 }),
     Tells(100, Order::Beats { ticket: 7 }),
 ];
-
-/// A call that must go well.
-fn must<T: Drop, E: Debug + Drop>(rt: &impl Abort, told: Result<T, E>) -> T {
-    match told {
-        Ok(told) => told,
-        Err(fault) => panic!(rt; "{fault:?}"),
-    }
-}
 
 /// A plan of one stage with a function.
 fn plan_of(rt: &impl Abort, alloc: Global) -> Plan {

@@ -1,6 +1,5 @@
 //! Rows of calls, each with who is gone behind it.
-use crate::beat::Beat;
-use crate::watch::Watch;
+use cf_watch::{Beat, Watch};
 use std::alloc::{AllocError, Global};
 use std::process::Abort;
 

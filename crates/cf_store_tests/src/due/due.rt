@@ -1,15 +1,12 @@
 //! What is due of a request of three stages, as rows: a source, which may be a promise, a supply, and an apply of the supply.
-ghost use Rattle.std.specs.Prelude.{◌≡◌, IsTrue, Ok};
-
-use crate::due::{Due, next_due};
-use crate::finishing::Finishing;
+use crate::checks::{holds, must};
+use cf_due::{Due, Finishing, next_due};
 use cf_forms::Form;
 use cf_notes::{EndsWith, Note, Noted, Owed, Source, Timer, Want};
 use cf_plan::{Plan, PlanBuilder};
 use cf_row::{Entry, Row, TOKENS};
 use cf_watch::Watch;
 use std::alloc::Global;
-use std::fmt::Debug;
 use std::process::Abort;
 
 /// Session 1, for which words are put, and session 2.
@@ -275,23 +272,6 @@ const CASES: [Case; 18] = [
         ..COMPLETED
     },
 ];
-
-/// This holds.
-pub(crate) fn holds(rt: &impl Abort, is_so: bool)
-    ensures { IsTrue is_so }
-{
-    assert!(rt; is_so);
-}
-
-/// What was answered, which is no error.
-pub(crate) fn must<T: Drop, E: Debug + Drop>(rt: &impl Abort, told: Result<T, E>) -> T
-    ensures { told ≡ Ok result }
-{
-    match told {
-        Ok(told) => told,
-        Err(fault) => panic!(rt; "{fault:?}"),
-    }
-}
 
 /// The plan of the three stages.
 pub(crate) fn plan_of(rt: &impl Abort, alloc: Global) -> Plan {

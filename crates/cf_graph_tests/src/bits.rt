@@ -1,5 +1,5 @@
 //! Each call over the borders of words and at the greatest length, as rows.
-use crate::set::BitSet;
+use cf_bits::BitSet;
 use std::process::Abort;
 use std::test::Fail;
 

@@ -1,16 +1,13 @@
 //! What a part of session 1 does in a request of one stage with a function, call by call.
-use crate::owing::Debt;
-use crate::part::Part;
-use crate::question::{Fault, PutOf, Question};
-use crate::step::{Shown, Step};
+use crate::checks::must;
 use cf_forms::{Args, Form};
 use cf_ledger::{LedgerFault, Misfit};
 use cf_notes::{EndsWith, Note, Owed, Source, Timer, Want, function_of, timer_of};
 use cf_outcome::{Outcome, Value};
+use cf_part::{Debt, Fault, Part, PutOf, Question, Shown, Step};
 use cf_plan::{Plan, PlanBuilder};
 use cf_row::{Entry, TOKENS};
 use std::alloc::Global;
-use std::fmt::Debug;
 use std::process::Abort;
 
 /// One call, with what it answers last, where that is compared.
@@ -218,14 +215,6 @@ static NOTES: [Move; 21] = [
     Times(0, 40, 4),
     Faults(Some(Fault::Broken)),
 ];
-
-/// A call that must go well.
-fn must<T: Drop, E: Debug + Drop>(rt: &impl Abort, told: Result<T, E>) -> T {
-    match told {
-        Ok(told) => told,
-        Err(fault) => panic!(rt; "{fault:?}"),
-    }
-}
 
 /// The part of session 1, where somebody waits for stage 0, or nobody does any more.
 fn part_of(rt: &impl Abort, alloc: Global, is_wanted: bool) -> Part {

@@ -1,13 +1,10 @@
 //! A row with a note of each kind, and the numbers of notes.
-use crate::note::Note;
-use crate::noted::{Noted, Timer};
-use crate::notes::Notes;
-use crate::words::{NoteWords, decode, encode};
+use crate::checks::must;
 use cf_forms::{Answer, Form, Of};
 use cf_model::{Attached, Event, Finished, Reply, Ticked};
+use cf_notes::{Note, NoteWords, Noted, Notes, Timer, decode, encode};
 use cf_plan::PlanBuilder;
 use std::alloc::Global;
-use std::fmt::Debug;
 use std::process::Abort;
 use std::test::Fail;
 
@@ -23,14 +20,6 @@ fn plain(function: Option<u32>) -> Noted {
         given: None,
         timer: None,
         abandoned: None,
-    }
-}
-
-/// What was answered, which is no error.
-fn must<T: Drop, E: Debug + Drop>(rt: &impl Abort, told: Result<T, E>) -> T {
-    match told {
-        Ok(told) => told,
-        Err(fault) => panic!(rt; "{fault:?}"),
     }
 }
 

@@ -1,0 +1,3 @@
+//! What is due, and what acts put.
+mod acts;
+mod due;
