@@ -433,7 +433,8 @@ def rows_of_languages(tools: Tools, made: Path) -> List[Row]:
 
 
 def rows_of_packages(tools: Tools, made: Path) -> List[Row]:
-    """What others install is made twice, and is the same; then it is installed where nothing else is, and its page's first program runs."""
+    """What others install is made twice, and is the same; then it is installed where nothing else is, and its page's first program runs. What
+    is tried in two ways is made by the row before, which shares a tool of IN_TURN."""
     python, javac, builds = tools["python3"], "JDK of 17 or later", BUILDS_WHEELS
     made_of = [
         ("c", "C", ["pkg-config"], ("clients/c", "request.c")),
@@ -446,14 +447,15 @@ def rows_of_packages(tools: Tools, made: Path) -> List[Row]:
         folder, with_builds = str(made / "packages" / language), tools[builds] if language == "python" else python
         make = ["env", "JAVAC=" + tools[javac], with_builds, "clients/packages/make", "--trial", "--quick", "--twice", "--only", language, folder]
         rows.append(Row(f"the package for {name}", [*needs, *more], [make, [python, "clients/packages/try", language, folder]], prints))
-    for trial, name, languages, more, prints in [
-        ("sdist", "Python's source distribution over a library", ["c", "python"], [builds], ("README.md", "first.py")),
-        ("maven", "a project of Maven over the package for Java", ["java"], [javac, MAVEN], ("clients/java", "First")),
-    ]:
-        folder, onlys = str(made / "packages" / trial), [word for it in languages for word in ("--only", it)]
-        maker = tools[builds] if builds in more else python
-        make = ["env", "JAVAC=" + tools[javac], maker, "clients/packages/make", "--trial", "--quick", *onlys, folder]
-        rows.append(Row(name, [*needs, *more], [make, [python, "clients/packages/try", trial, folder]], prints))
+    sdist, tried = str(made / "packages/sdist"), [python, "clients/packages/try"]
+    commands = [
+        [tools[builds], "clients/packages/make", "--trial", "--quick", "--only", "c", sdist],
+        ["sh", "-c", f"cp {made}/packages/python/*.tar.gz {sdist}"],
+        [*tried, "sdist", sdist],
+    ]
+    rows.append(Row("Python's source distribution over a library", [*needs, builds], commands, ("README.md", "first.py")))
+    commands = [[*tried, "maven", str(made / "packages/java")]]
+    rows.append(Row("a project of Maven over the package for Java", [*needs, javac, MAVEN], commands, ("clients/java", "First")))
     at = "clients/packages"
     parts = [sorted(str(path.relative_to(TOP)) for path in (TOP / at).glob("*.py")), [f"{at}/make"], [f"{at}/try"], [f"{at}/container"]]
     typed = [tools["mypy"], "--strict", "--follow-imports=silent", "--cache-dir", str(made / "mypy-packages")]

@@ -1,6 +1,6 @@
 #!/usr/bin/env python3
-"""Builds the wheel, installs it in a fresh virtual environment, and runs there the first program and the
-tests. Nothing is fetched.
+"""Builds the wheel, installs it in a fresh virtual environment, imports there each module, and runs the first program and some tests of
+each folder. All tests are run in the tree. Nothing is fetched.
 
     CF_LIBRARY_DIR=/folder/of/libcf.a python3 clients/python/tests/installed.py [FOLDER]
 
@@ -16,6 +16,11 @@ import tempfile
 from pathlib import Path
 
 CLIENT = Path(__file__).resolve().parents[1]
+
+
+# Each module that the wheel has: those over others' packages import these only when they are used.
+IMPORTS = "import importlib, pkgutil, cf; [importlib.import_module(it.name) for it in pkgutil.walk_packages(cf.__path__, 'cf.')]"
+SOME = [("tests/service", "test_f*.py"), ("tests/testing", "test_searches.py"), ("tests", "test_steps.py")]  # by folder
 
 
 def told(folder, *command, **environment):
@@ -63,8 +68,9 @@ def main(made):
         raise SystemExit(f"installed.py: {wheel.name} isn't for all versions of Python from 3.8 on")
     told(made, python, "-c", "from cf.store.web.server import Page; Page()")  # (page.html is there, too)
     told(made, python, CLIENT / "examples/first.py")
-    for tests in ("tests/service", "tests/testing", "tests"):
-        told(made, python, "-m", "unittest", "discover", "-s", CLIENT / tests, CF_INSTALLED="1")
+    told(made, python, "-c", IMPORTS)
+    for folder, files in SOME:
+        told(made, python, "-m", "unittest", "discover", "-s", CLIENT / folder, "-p", files, CF_INSTALLED="1")
     print(wheel.name, "is installed and runs")
 
 
