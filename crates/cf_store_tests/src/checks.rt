@@ -4,11 +4,11 @@ ghost use Rattle.std.specs.Prelude.{◌≡◌, IsTrue, Ok};
 use std::fmt::Debug;
 use std::process::Abort;
 
-/// This holds.
-pub(crate) fn holds(rt: &impl Abort, is_so: bool)
+/// This holds. The name tells what doesn't.
+pub(crate) fn holds<N: Debug + Drop>(rt: &impl Abort, is_so: bool, name: N)
     ensures { IsTrue is_so }
 {
-    assert!(rt; is_so);
+    assert!(rt; is_so, "{name:?}");
 }
 
 /// What was answered, which is no error.

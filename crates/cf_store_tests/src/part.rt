@@ -1,5 +1,5 @@
 //! What a part of session 1 does in a request of one stage with a function, call by call.
-use crate::checks::must;
+use crate::checks::{holds, must};
 use cf_forms::{Args, Form};
 use cf_ledger::{LedgerFault, Misfit};
 use cf_notes::{EndsWith, Note, Owed, Source, Timer, Want, function_of, timer_of};
@@ -11,7 +11,7 @@ use std::alloc::Global;
 use std::process::Abort;
 
 /// One call, with what it answers last, where that is compared.
-#[derive(Clone, Copy, Debug)]
+#[derive(Clone, Copy)]
 enum Move {
     Hears(usize),
     Plans(u64, Note, PutOf),
@@ -101,7 +101,7 @@ const ERROR: Option<Debt> = Some(Debt {
 });
 
 /// The value is put until it stands: as it is where no answer came, and behind a refusal of it and of the error.
-static KEEPS: [Move; 31] = [
+const KEEPS: [Move; 31] = [
     Asks(0, READ),
     Asks(0, None),
     Reads(0, None),
@@ -136,7 +136,7 @@ static KEEPS: [Move; 31] = [
 ];
 
 /// Another session's claim stands where this one's was to stand, so nothing is called, and who waits sees the fault.
-static MEETS: [Move; 10] = [
+const MEETS: [Move; 10] = [
     Asks(0, READ),
     Reads(0, None),
     Plans(CLAIM, Note::Nothing, PutOf::Rest),
@@ -160,7 +160,7 @@ static MEETS: [Move; 10] = [
 ];
 
 /// What runs is stopped once, where another caller has completed the stage. Nobody waits for that.
-static STOPS: [Move; 11] = [
+const STOPS: [Move; 11] = [
     Asks(0, READ),
     Reads(0, None),
     Plans(CLAIM, Note::Nothing, PutOf::Rest),
@@ -176,7 +176,7 @@ static STOPS: [Move; 11] = [
 
 /// A note comes with a read; with a put that stands; with one that had landed before, in the place of which its own
 /// entry is met; and with an entry before another one that doesn't fit.
-static NOTES: [Move; 21] = [
+const NOTES: [Move; 21] = [
     Calls(0, Some(7)),
     Asks(0, READ),
     Reads(0, Some((OTHER_TICK, LIMIT_40))),
@@ -216,17 +216,24 @@ static NOTES: [Move; 21] = [
     Faults(Some(Fault::Broken)),
 ];
 
+/// The name of a case, whether somebody waits for stage 0, and what is done.
+type Case = (&'static str, bool, &'static [Move]);
+
+static CASES: [Case; 4] = [
+    ("keeps", true, &KEEPS),
+    ("meets", true, &MEETS),
+    ("stops", false, &STOPS),
+    ("notes", false, &NOTES),
+];
+
 /// The part of session 1, where somebody waits for stage 0, or nobody does any more.
 fn part_of(rt: &impl Abort, alloc: Global, is_wanted: bool) -> Part {
     let mut builder = PlanBuilder::new(alloc);
     must(rt, builder.stage(Form::Supply, &[], Some(0)));
     let plan: Plan = must(rt, builder.build());
-    assert!(rt; plan.has_place(1));
+    holds(rt, plan.has_place(1) && plan.stages() == 1, "plan");
     let notes = [Note::Calls { function: 7 }];
-    assert!(rt; plan.stages() == 1);
-    let Ok(mut part) = Part::new(alloc, &plan, &notes, 1, 1, 0, false) else {
-        panic!(rt; "there is no memory");
-    };
+    let mut part = must(rt, Part::new(alloc, &plan, &notes, 1, 1, 0, false));
     part.wants(0);
     if !is_wanted {
         part.lets_go(0);
@@ -234,121 +241,129 @@ fn part_of(rt: &impl Abort, alloc: Global, is_wanted: bool) -> Part {
     part
 }
 
-/// A put of one word is planned.
-fn plan_put(rt: &impl Abort, part: &mut Part, word: u64, note: Note, of: PutOf) {
+/// Whether a put of one word is planned.
+fn plans(part: &mut Part, word: u64, note: Note, of: PutOf) -> bool {
     let want = Want {
         word,
         note,
         source: Source::Nothing,
     };
-    assert!(rt; part.may_plan(u64::MAX));
-    must(rt, part.plan(&[want], of));
-    assert_eq!(rt; part.wants_of_put(), [want].as_slice());
-    assert_eq!(rt; part.put_of(), of);
+    part.may_plan(u64::MAX)
+        && part.plan(&[want], of).is_ok()
+        && part.wants_of_put() == [want].as_slice()
+        && part.put_of() == of
 }
 
-/// A read is answered with nothing, or with a word of another session's and its note.
-fn answer_read(rt: &impl Abort, part: &mut Part, now: u64, other: Option<(u64, Note)>) {
-    let Some(Question::Read { .. }) = part.asked() else {
-        panic!(rt; "no read is asked for");
-    };
-    match other {
-        None => must(rt, part.read(now, &[], &[])),
-        Some((word, note)) => must(rt, part.read(now, &[by_other(word)], &[note])),
+/// Whether a read is answered with nothing, or with a word of another session's and its note.
+fn reads(part: &mut Part, now: u64, other: Option<(u64, Note)>) -> bool {
+    match (part.asked(), other) {
+        (Some(Question::Read { .. }), None) => part.read(now, &[], &[]).is_ok(),
+        (Some(Question::Read { .. }), Some((word, note))) => {
+            part.read(now, &[by_other(word)], &[note]).is_ok()
+        }
+        _ => false,
     }
 }
 
 /// A word that session 2 has put.
-fn by_other(word: u64) -> Entry {
+const fn by_other(word: u64) -> Entry {
     Entry {
         word,
         token: 2 * TOKENS,
     }
 }
 
-/// Another session's tick with a note stands where a put was to stand, and behind it an entry that doesn't fit.
-fn miss(rt: &impl Abort, part: &mut Part, stray: Entry, wanted: Misfit) {
-    let Some(Question::Put { .. }) = part.asked() else {
-        panic!(rt; "no put is asked for");
-    };
-    let entries = [by_other(OTHER_TICK), stray];
-    let told = part.others(0, &entries, &[LIMIT_40, Note::Nothing]);
-    assert_eq!(rt; told, Err(wanted));
-}
-
-/// A put is answered.
-fn answer_put(rt: &impl Abort, part: &mut Part, answer: Move) {
+/// Whether a put is answered.
+fn is_put_answered(part: &mut Part, answer: Move) -> bool {
     match (part.asked(), answer) {
         (Some(Question::Put { .. }), Stands) => part.stands(),
         (Some(Question::Put { .. }), Refuses(now)) => part.refused(now),
         (Some(Question::Put { .. }), Meets(first, note, landed)) => {
-            let told = must(rt, part.others(0, &[first], &[note]));
-            assert_eq!(rt; told, landed);
+            return part.others(0, &[first], &[note]) == Ok(landed);
         }
-        _ => panic!(rt; "no put is asked for"),
+        (Some(Question::Put { .. }), Misses(stray, wanted)) => {
+            // (behind another session's tick with a note, where the put was to stand)
+            let entries = [by_other(OTHER_TICK), stray];
+            return part.others(0, &entries, &[LIMIT_40, Note::Nothing]) == Err(wanted);
+        }
+        _ => return false,
     }
+    true
 }
 
-/// The request is closed, if nothing is under way.
-fn close(rt: &impl Abort, part: &mut Part) {
-    assert!(rt; part.may_plan(u64::MAX));
+/// Whether the request is closed, since nothing is under way.
+fn closes(part: &mut Part) -> bool {
+    if !part.may_plan(u64::MAX) {
+        return false;
+    }
     part.close();
     let Some(Question::Close { .. }) = part.asked() else {
-        panic!(rt; "it isn't asked for");
+        return false;
     };
     part.closed(true);
-    assert!(rt; part.is_closed() && !part.is_flow());
+    part.is_closed() && !part.is_flow()
 }
 
-/// The function of stage 0 has given a value.
-fn end(rt: &impl Abort, part: &mut Part) {
-    assert!(rt; part.is_running(0));
+/// Whether the function of stage 0 is running, and gives a value.
+fn ends(part: &mut Part) -> bool {
+    if !part.is_running(0) {
+        return false;
+    }
     part.ended(0, EndsWith::Gives);
+    true
 }
 
-/// Makes a call, and compares its answer.
-fn make(rt: &impl Abort, part: &mut Part, call: Move) {
+/// Tells a part what it answers nothing to.
+fn tell(part: &mut Part, call: Move) -> bool {
     match call {
         Hears(words) => part.told_length(words),
-        Plans(word, note, of) => plan_put(rt, part, word, note, of),
-        Asks(now, wanted) => assert_eq!(rt; part.question(now), wanted),
-        Reads(now, other) => answer_read(rt, part, now, other),
-        Stands | Refuses(_) | Meets(..) => answer_put(rt, part, call),
-        Misses(stray, wanted) => miss(rt, part, stray, wanted),
         Waits(now) => part.unknown(now),
-        Closes => close(rt, part),
         Breaks => part.breaks(Fault::Dropped),
-        Ends => end(rt, part),
-        Tells(wanted) => assert_eq!(rt; part.next(), wanted),
-        Owes(wanted) => assert_eq!(rt; part.owes(0), wanted),
-        Faults(wanted) => assert_eq!(rt; part.fault(), wanted),
-        Calls(stage, wanted) => assert_eq!(rt; function_of(part.notes(), stage), wanted),
-        Times(stage, moment, place) => is_timed(rt, part, stage, moment, place),
+        _ => return false,
+    }
+    true
+}
+
+/// Makes a call. It says whether the call may be made, and is answered so.
+fn is_answered(part: &mut Part, call: Move) -> bool {
+    match call {
+        Plans(word, note, of) => plans(part, word, note, of),
+        Asks(now, wanted) => part.question(now) == wanted,
+        Reads(now, other) => reads(part, now, other),
+        Stands | Refuses(_) | Meets(..) | Misses(..) => is_put_answered(part, call),
+        Closes => closes(part),
+        Ends => ends(part),
+        Tells(wanted) => part.next() == wanted,
+        Owes(wanted) => part.owes(0) == wanted,
+        Faults(wanted) => part.fault() == wanted,
+        Calls(stage, wanted) => function_of(part.notes(), stage) == wanted,
+        Times(stage, moment, place) => is_timed(part, stage, moment, place),
+        Hears(_) | Waits(_) | Breaks => tell(part, call),
     }
 }
 
-/// Stage `stage` times out at this moment, by the entry at this place.
-fn is_timed(rt: &impl Abort, part: &Part, stage: u16, moment: u64, place: u64) {
+/// Whether a stage times out at this moment, by the entry at this place.
+fn is_timed(part: &Part, stage: u16, moment: u64, place: u64) -> bool {
     let timer = Timer {
         moment,
         gives: false,
         place,
     };
-    assert_eq!(rt; timer_of(part.notes(), stage), Some(timer));
+    timer_of(part.notes(), stage) == Some(timer)
 }
 
 /// Makes calls, one after another.
-fn make_all(rt: &impl Abort, alloc: Global, is_wanted: bool, calls: &[Move]) {
-    let mut part = part_of(rt, alloc, is_wanted);
-    for call in calls {
-        make(rt, &mut part, *call);
+fn make_all(rt: &impl Abort, part: &mut Part, name: &'static str, calls: &[Move]) {
+    for (at, call) in calls.iter().enumerate() {
+        holds(rt, is_answered(part, *call), (name, at));
     }
 }
 
 #[test]
 fn does_what_is_to_be_done(rt: HostRuntime) {
-    make_all(&rt, rt.alloc(), true, KEEPS.as_slice());
-    make_all(&rt, rt.alloc(), true, MEETS.as_slice());
-    make_all(&rt, rt.alloc(), false, STOPS.as_slice());
-    make_all(&rt, rt.alloc(), false, NOTES.as_slice());
+    for (name, is_wanted, calls) in &CASES {
+        let mut part = part_of(&rt, rt.alloc(), *is_wanted);
+        make_all(&rt, &mut part, *name, *calls);
+        drop(part);
+    }
 }

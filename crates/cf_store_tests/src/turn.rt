@@ -1,5 +1,5 @@
 //! What a work of session 1 tells in a request of two stages, call by call: a supply, and an apply of it.
-use crate::checks::must;
+use crate::checks::{holds, must};
 use cf_due::{Act, NoAct};
 use cf_forms::{Args, Form, Of};
 use cf_notes::{EndsWith, Note};
@@ -72,7 +72,7 @@ const STANDS: Told = Told::Stands { stage: 0 };
 
 /// A ready stage is claimed, called and finished with the next claim; a finish that was lost is put again; and the flow
 /// is closed.
-static FLOWS: [Move; 19] = [
+const FLOWS: [Move; 19] = [
     AsksRead(0, 0),
     Reads,
     AsksPut(0, 0),
@@ -95,7 +95,7 @@ static FLOWS: [Move; 19] = [
 ];
 
 /// An act stands, one comes too late, and one attaches a stage.
-static ACTS: [Move; 14] = [
+const ACTS: [Move; 14] = [
     AsksRead(0, 0),
     Reads,
     Acts(COMPLETE),
@@ -117,7 +117,7 @@ static ACTS: [Move; 14] = [
 ];
 
 /// An act whose place was taken is put again, or told why it can't be. One that had landed before is told so.
-static AGAIN: [Move; 8] = [
+const AGAIN: [Move; 8] = [
     AsksRead(0, 0),
     Reads,
     Acts(COMPLETE),
@@ -128,7 +128,7 @@ static AGAIN: [Move; 8] = [
     Tells(0, STANDS),
 ];
 
-static TAKEN: [Move; 7] = [
+const TAKEN: [Move; 7] = [
     AsksRead(0, 0),
     Reads,
     Acts(COMPLETE),
@@ -138,7 +138,7 @@ static TAKEN: [Move; 7] = [
     Tells(0, SETTLED),
 ];
 
-static LANDED: [Move; 8] = [
+const LANDED: [Move; 8] = [
     AsksRead(0, 0),
     Reads,
     Acts(COMPLETE),
@@ -150,7 +150,7 @@ static LANDED: [Move; 8] = [
 ];
 
 /// An act is refused.
-static REFUSED: [Move; 7] = [
+const REFUSED: [Move; 7] = [
     AsksRead(0, 0),
     Reads,
     Acts(COMPLETE),
@@ -161,7 +161,7 @@ static REFUSED: [Move; 7] = [
 ];
 
 /// Behind a missing answer it isn't refused: it is put until it stands, or until its user waits no longer.
-static DOUBTED: [Move; 11] = [
+const DOUBTED: [Move; 11] = [
     AsksRead(0, 0),
     Reads,
     Acts(COMPLETE),
@@ -175,7 +175,7 @@ static DOUBTED: [Move; 11] = [
     Tells(40, STANDS),
 ];
 
-static LATE: [Move; 9] = [
+const LATE: [Move; 9] = [
     AsksRead(0, 0),
     Reads,
     Acts(COMPLETE),
@@ -188,7 +188,7 @@ static LATE: [Move; 9] = [
 ];
 
 /// A fault is told to all.
-static BROKEN: [Move; 7] = [
+const BROKEN: [Move; 7] = [
     Acts(COMPLETE),
     Ends,
     Breaks,
@@ -199,7 +199,7 @@ static BROKEN: [Move; 7] = [
 ];
 
 /// A user ends the request, which is closed once all is seen.
-static ENDED: [Move; 10] = [
+const ENDED: [Move; 10] = [
     AsksRead(0, 0),
     Reads,
     Ends,
@@ -212,19 +212,33 @@ static ENDED: [Move; 10] = [
     Tells(0, Told::Closed),
 ];
 
+/// The name of a case, whether its request is a flow, and what is done.
+type Case = (&'static str, bool, &'static [Move]);
+
+static CASES: [Case; 10] = [
+    ("flows", true, &FLOWS),
+    ("acts", false, &ACTS),
+    ("again", false, &AGAIN),
+    ("taken", false, &TAKEN),
+    ("landed", false, &LANDED),
+    ("refused", false, &REFUSED),
+    ("doubted", false, &DOUBTED),
+    ("late", false, &LATE),
+    ("broken", false, &BROKEN),
+    ("ended", false, &ENDED),
+];
+
 /// The work of session 1, where somebody waits for the supply.
 fn work_of(rt: &impl Abort, alloc: Global, is_flow: bool) -> Work {
     let mut builder = PlanBuilder::new(alloc);
     must(rt, builder.stage(Form::Supply, &[], Some(0)));
     must(rt, builder.stage(Form::Apply, &[0], Some(1)));
     let plan: Plan = must(rt, builder.build());
-    assert!(rt; plan.has_place(1) && plan.stages() == 2);
+    holds(rt, plan.has_place(1) && plan.stages() == 2, "plan");
     let notes = [Note::Calls { function: 7 }, Note::Calls { function: 8 }];
-    let Ok(part) = Part::new(alloc, &plan, &notes, 1, 1, 0, is_flow) else {
-        panic!(rt; "there is no memory");
-    };
+    let part = must(rt, Part::new(alloc, &plan, &notes, 1, 1, 0, is_flow));
     let mut work = Work::new(alloc, part);
-    assert!(rt; work.part().has_place(0));
+    holds(rt, work.part().has_place(0), "supply");
     work.wants(0);
     if is_flow {
         work.lets_go(0);
@@ -233,131 +247,118 @@ fn work_of(rt: &impl Abort, alloc: Global, is_flow: bool) -> Work {
     work
 }
 
-/// A user asks for an act.
-fn ask(rt: &impl Abort, work: &mut Work, act: Act) {
-    assert!(rt; act.fits());
-    must(rt, work.asks(NUMBER, act, UNTIL));
+/// Whether a read is answered: nothing more stands there.
+fn reads(work: &mut Work) -> bool {
+    match work.part().asked() {
+        Some(Question::Read { .. }) => work.read(0, &[], &[]).is_ok(),
+        _ => false,
+    }
 }
 
-/// A read is answered: nothing more stands there.
-fn answer_read(rt: &impl Abort, work: &mut Work) {
-    let Some(Question::Read { .. }) = work.part().asked() else {
-        panic!(rt; "no read is asked for");
-    };
-    must(rt, work.read(0, &[], &[]));
-}
-
-/// A put is answered.
-fn answer_put(rt: &impl Abort, work: &mut Work, answer: Move) {
+/// Whether a put is answered.
+fn is_put_answered(work: &mut Work, answer: Move) -> bool {
     match (work.part().asked(), answer) {
         (Some(Question::Put { .. }), Stands) => work.stands(),
         (Some(Question::Put { .. }), Refuses(now)) => work.refused(now),
         (Some(Question::Put { .. }), Meets(first, landed)) => {
-            let told = must(rt, work.others(0, &[first], &[Note::Nothing]));
-            assert_eq!(rt; told, landed);
+            return work.others(0, &[first], &[Note::Nothing]) == Ok(landed);
         }
-        _ => panic!(rt; "no put is asked for"),
+        _ => return false,
     }
+    true
 }
 
-/// A close is answered.
-fn answer_close(rt: &impl Abort, work: &mut Work, is_closed: bool) {
+/// Whether a close is answered.
+fn closes(work: &mut Work, is_closed: bool) -> bool {
     let Some(Question::Close { .. }) = work.part().asked() else {
-        panic!(rt; "no close is asked for");
+        return false;
     };
     work.closed(is_closed);
+    true
 }
 
-/// A function has ended.
-fn end(rt: &impl Abort, work: &mut Work, stage: u16, answer: EndsWith) {
-    assert!(rt; work.part().is_running(stage));
+/// Whether a function is running, and has ended.
+fn finishes(work: &mut Work, stage: u16, answer: EndsWith) -> bool {
+    if !work.part().is_running(stage) {
+        return false;
+    }
     work.ended(stage, answer);
+    true
 }
 
-/// Makes a turn, and compares what it tells. A stage may be claimed in a flow.
-fn turn(rt: &impl Abort, work: &mut Work, watch: &Watch, now: u64, wanted: Option<Turn>) {
-    let may_claim = work.part().is_flow();
-    assert_eq!(rt; work.turn(now, watch, 0, may_claim), wanted);
-}
-
-/// A question is asked.
-fn asks(rt: &impl Abort, work: &mut Work, watch: &Watch, now: u64, question: Question) {
-    turn(rt, work, watch, now, Some(Turn::Ask(question)));
-}
-
-/// A user is told.
-fn tells(rt: &impl Abort, work: &mut Work, watch: &Watch, now: u64, told: Told) {
-    let number = NUMBER;
-    turn(rt, work, watch, now, Some(Turn::Tell { number, told }));
-}
-
-/// The supply is shown.
-fn shows(rt: &impl Abort, work: &mut Work, watch: &Watch, now: u64, shown: Shown) {
-    turn(rt, work, watch, now, Some(Turn::Show { stage: 0, shown }));
-}
-
-/// Makes a turn, or another call.
-fn make(rt: &impl Abort, work: &mut Work, watch: &Watch, call: Move) {
-    match call {
-        Acts(act) => ask(rt, work, act),
-        Ends => must(rt, work.ends(NUMBER, UNTIL)),
-        AsksRead(now, at) => asks(rt, work, watch, now, Question::Read { at }),
-        AsksPut(now, at) => asks(rt, work, watch, now, Question::Put { at }),
-        AsksClose(now, at) => asks(rt, work, watch, now, Question::Close { at }),
-        Tells(now, told) => tells(rt, work, watch, now, told),
-        Shows(now, shown) => shows(rt, work, watch, now, shown),
-        Calls(now, stage, function, args) => turn(
-            rt,
-            work,
-            watch,
+/// What a turn at a moment has to tell, by a call that is a turn.
+fn told_in(call: Move) -> Option<(u64, Option<Turn>)> {
+    let (now, turn) = match call {
+        AsksRead(now, at) => (now, Turn::Ask(Question::Read { at })),
+        AsksPut(now, at) => (now, Turn::Ask(Question::Put { at })),
+        AsksClose(now, at) => (now, Turn::Ask(Question::Close { at })),
+        Tells(now, told) => (
             now,
-            Some(Turn::Call {
+            Turn::Tell {
+                number: NUMBER,
+                told,
+            },
+        ),
+        Shows(now, shown) => (now, Turn::Show { stage: 0, shown }),
+        Calls(now, stage, function, args) => (
+            now,
+            Turn::Call {
                 stage,
                 function,
                 args,
-            }),
+            },
         ),
-        Rests(now) => turn(rt, work, watch, now, None),
-        Reads => answer_read(rt, work),
-        Stands | Refuses(_) | Meets(..) => answer_put(rt, work, call),
-        Loses(now) => work.unknown(now),
-        Closes(is_closed) => answer_close(rt, work, is_closed),
-        Breaks => work.breaks(Fault::Dropped),
-        Finishes(stage, answer) => end(rt, work, stage, answer),
+        Rests(now) => return Some((now, None)),
+        _ => return None,
+    };
+    Some((now, Some(turn)))
+}
+
+/// Makes a call that is no turn. It says whether it may be made, and is answered so.
+fn is_made(work: &mut Work, call: Move) -> bool {
+    match call {
+        Acts(act) => act.fits() && work.asks(NUMBER, act, UNTIL).is_ok(),
+        Ends => work.ends(NUMBER, UNTIL).is_ok(),
+        Reads => reads(work),
+        Stands | Refuses(_) | Meets(..) => is_put_answered(work, call),
+        Closes(is_closed) => closes(work, is_closed),
+        Finishes(stage, answer) => finishes(work, stage, answer),
+        Loses(now) => {
+            work.unknown(now);
+            true
+        }
+        Breaks => {
+            work.breaks(Fault::Dropped);
+            true
+        }
+        _ => false,
+    }
+}
+
+/// Makes a turn, and compares what it tells, or makes another call. A stage may be claimed in a flow.
+fn is_answered(work: &mut Work, watch: &Watch, call: Move) -> bool {
+    match told_in(call) {
+        Some((now, wanted)) => {
+            let may_claim = work.part().is_flow();
+            work.turn(now, watch, 0, may_claim) == wanted
+        }
+        None => is_made(work, call),
     }
 }
 
 /// Makes calls, one after another.
-fn make_all(rt: &impl Abort, alloc: Global, is_flow: bool, calls: &[Move]) {
-    let mut work = work_of(rt, alloc, is_flow);
-    let watch = Watch::new(alloc, 100);
-    for call in calls {
-        make(rt, &mut work, &watch, *call);
+fn make_all(rt: &impl Abort, work: &mut Work, watch: &Watch, name: &'static str, calls: &[Move]) {
+    for (at, call) in calls.iter().enumerate() {
+        holds(rt, is_answered(work, watch, *call), (name, at));
     }
 }
 
 #[test]
-fn a_flow_is_done(rt: HostRuntime) {
-    make_all(&rt, rt.alloc(), true, FLOWS.as_slice());
-}
-
-#[test]
-fn acts_are_told(rt: HostRuntime) {
-    make_all(&rt, rt.alloc(), false, ACTS.as_slice());
-    make_all(&rt, rt.alloc(), false, AGAIN.as_slice());
-    make_all(&rt, rt.alloc(), false, TAKEN.as_slice());
-    make_all(&rt, rt.alloc(), false, LANDED.as_slice());
-}
-
-#[test]
-fn refusals_are_told(rt: HostRuntime) {
-    make_all(&rt, rt.alloc(), false, REFUSED.as_slice());
-    make_all(&rt, rt.alloc(), false, DOUBTED.as_slice());
-    make_all(&rt, rt.alloc(), false, LATE.as_slice());
-}
-
-#[test]
-fn ends_are_told(rt: HostRuntime) {
-    make_all(&rt, rt.alloc(), false, BROKEN.as_slice());
-    make_all(&rt, rt.alloc(), false, ENDED.as_slice());
+fn tells_what_is_to_be_done(rt: HostRuntime) {
+    let watch = Watch::new(rt.alloc(), 100);
+    for (name, is_flow, calls) in &CASES {
+        let mut work = work_of(&rt, rt.alloc(), *is_flow);
+        make_all(&rt, &mut work, &watch, *name, *calls);
+        drop(work);
+    }
 }

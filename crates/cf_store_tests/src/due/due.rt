@@ -132,7 +132,7 @@ const GETS: Timer = Timer {
     ..TIMES_OUT
 };
 
-const CASES: [Case; 18] = [
+static CASES: [Case; 18] = [
     START,
     Case {
         may_claim: false,
@@ -274,12 +274,24 @@ const CASES: [Case; 18] = [
 ];
 
 /// The plan of the three stages.
-pub(crate) fn plan_of(rt: &impl Abort, alloc: Global) -> Plan {
+fn plan_of(rt: &impl Abort, alloc: Global) -> Plan {
     let mut builder = PlanBuilder::new(alloc);
     must(rt, builder.stage(Form::Source, &[], None));
     must(rt, builder.stage(Form::Supply, &[], Some(0)));
     must(rt, builder.stage(Form::Apply, &[1], Some(1)));
     must(rt, builder.build())
+}
+
+/// The row of session 1, with room for so many stages more, which has seen this entry.
+pub(crate) fn row_of(rt: &impl Abort, alloc: Global, room: u16, seen: Option<Entry>) -> Row {
+    let plan = plan_of(rt, alloc);
+    holds(rt, plan.has_place(room), "place");
+    let mut row = must(rt, Row::new(alloc, &plan, room, 1, 1));
+    drop(plan);
+    if let Some(entry) = seen {
+        let _ = must(rt, row.saw(entry));
+    }
+    row
 }
 
 /// A watch that knows session 2, which is gone or isn't.
@@ -294,22 +306,15 @@ fn watch_of(rt: &impl Abort, alloc: Global, is_gone: bool) -> Watch {
     watch
 }
 
-/// What is due in a case.
-fn due_in(rt: &impl Abort, alloc: Global, case: &Case) -> Option<Due> {
-    let plan = plan_of(rt, alloc);
-    holds(rt, plan.has_place(0));
-    let mut row = must(rt, Row::new(alloc, &plan, 0, 1, 1));
-    if let Some(entry) = case.seen {
-        let _ = must(rt, row.saw(entry));
-    }
-    let watch = watch_of(rt, alloc, case.is_gone);
+/// What is due in a case, by this row and this watch.
+fn due_in(row: &Row, watch: &Watch, case: &Case) -> Option<Due> {
     let notes = [case.source, case.supply, KNOWN];
     let owed = [None, case.owed, None];
     next_due(
         row.replica(),
         &notes,
         &owed,
-        &watch,
+        watch,
         case.clock,
         case.may_claim,
     )
@@ -317,8 +322,12 @@ fn due_in(rt: &impl Abort, alloc: Global, case: &Case) -> Option<Due> {
 
 #[test]
 fn tells_what_is_due(rt: HostRuntime) {
-    for case in &CASES {
-        let told = due_in(&rt, rt.alloc(), case);
-        assert_eq!(rt; told, case.due);
+    for (at, case) in CASES.iter().enumerate() {
+        let watch = watch_of(&rt, rt.alloc(), case.is_gone);
+        let row = row_of(&rt, rt.alloc(), 0, case.seen);
+        let due = due_in(&row, &watch, case);
+        drop(row);
+        drop(watch);
+        holds(&rt, due == case.due, at);
     }
 }

@@ -1,4 +1,5 @@
 //! Each call once, as a host makes them.
+use crate::checks::holds;
 use cf_host::{Asked, Look, News, Reading, Tickets};
 use std::alloc::AllocError;
 
@@ -9,11 +10,11 @@ fn a_timer_comes_by_the_stores_clock(rt: HostRuntime) {
         asked: 10,
         now: 30,
     };
-    assert!(&rt; reading.has_come(5000));
-    assert!(&rt; !reading.has_come(5001));
-    assert_eq!(&rt; reading.moment_after(40, 100), Some(5130));
-    assert_eq!(&rt; reading.moment_after(40, u64::MAX), None);
-    assert_eq!(&rt; reading.due_at(5130), 160);
+    let has_come = reading.has_come(5000) & !reading.has_come(5001);
+    let after = reading.moment_after(40, 100) == Some(5130);
+    let never = reading.moment_after(40, u64::MAX).is_none();
+    let is_due = reading.due_at(5130) == 160;
+    holds(&rt, has_come & after & never & is_due, "reading");
 }
 
 #[test]
@@ -27,17 +28,46 @@ fn each_ticket_is_answered_once(rt: HostRuntime) -> Result<(), AllocError> {
         stage: 2,
     };
     let call = tickets.open(call, 6);
-    assert_eq!(&rt; tickets.call_of(7, 2), call.number);
-    assert_eq!(&rt; tickets.find(call.number), Some(call));
+    let is_open = tickets.find(call.number) == Some(call);
+    holds(
+        &rt,
+        is_open & (tickets.call_of(7, 2) == call.number),
+        "open",
+    );
     tickets.close(call.number);
-    assert_eq!(&rt; tickets.call_of(7, 2), 0);
-    assert_eq!(&rt; tickets.find(call.number), None);
-    assert_eq!(&rt; tickets.find(beats.number), Some(beats));
+    let is_closed = tickets.find(call.number).is_none() & (tickets.call_of(7, 2) == 0);
+    let others = tickets.find(beats.number) == Some(beats);
+    holds(&rt, is_closed & others, "closed");
     Ok(())
 }
 
-/// Answers a look that is asked for by now, with this mark, and says whether it is the one that is wanted.
-fn is_answered(news: &mut News, now: u64, mark: u64, wanted: Look) -> bool {
+/// What is asked of the news at a moment.
+#[derive(Clone, Copy)]
+enum Step {
+    /// A look, or none.
+    Asks(Option<Look>),
+    /// A look, which is answered with this mark.
+    Reads(Look, u64),
+    Silence,
+    Stir,
+    WantAll,
+}
+
+static STEPS: [(u64, Step); 10] = [
+    (0, Step::Asks(Some(Look::Whole))),
+    (0, Step::Asks(None)),
+    (10, Step::Silence),
+    (29, Step::Asks(None)),
+    (30, Step::Reads(Look::Whole, 9)),
+    (229, Step::Asks(None)),
+    (230, Step::Reads(Look::Since(9), 11)),
+    (231, Step::Stir),
+    (231, Step::WantAll),
+    (231, Step::Reads(Look::Whole, 12)),
+];
+
+/// Whether this look is asked for, and answered with this mark.
+fn is_read(news: &mut News, now: u64, wanted: Look, mark: u64) -> bool {
     match news.question(now) {
         Some(look) => {
             news.take_answer(now, mark);
@@ -47,17 +77,22 @@ fn is_answered(news: &mut News, now: u64, mark: u64, wanted: Look) -> bool {
     }
 }
 
+/// Takes a step, and says whether a question is answered so.
+fn is_asked(news: &mut News, now: u64, step: Step) -> bool {
+    match step {
+        Step::Asks(wanted) => return news.question(now) == wanted,
+        Step::Reads(wanted, mark) => return is_read(news, now, wanted, mark),
+        Step::Silence => news.take_silence(now),
+        Step::Stir => news.stir(now),
+        Step::WantAll => news.want_all(),
+    }
+    true
+}
+
 #[test]
 fn looks_begin_at_the_mark(rt: HostRuntime) {
     let mut news = News::new();
-    assert_eq!(&rt; news.question(0), Some(Look::Whole));
-    assert_eq!(&rt; news.question(0), None);
-    news.take_silence(10);
-    assert_eq!(&rt; news.question(29), None);
-    assert!(&rt; is_answered(&mut news, 30, 9, Look::Whole));
-    assert!(&rt; !is_answered(&mut news, 229, 11, Look::Since(9)));
-    assert!(&rt; is_answered(&mut news, 230, 11, Look::Since(9)));
-    news.stir(231);
-    news.want_all();
-    assert!(&rt; is_answered(&mut news, 231, 12, Look::Whole));
+    for (at, (now, step)) in STEPS.iter().enumerate() {
+        holds(&rt, is_asked(&mut news, *now, *step), at);
+    }
 }

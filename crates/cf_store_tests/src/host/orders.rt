@@ -1,5 +1,5 @@
 //! What a process of session 1 with one thread does in requests of one stage with a function, call by call.
-use crate::checks::must;
+use crate::checks::{holds, must};
 use cf_due::Act;
 use cf_forms::{Args, Form};
 use cf_host::{Host, Length, Look, NoAnswer, NoCall, Order};
@@ -12,7 +12,7 @@ use std::alloc::Global;
 use std::process::Abort;
 
 /// One call, with what it answers last, where that is compared.
-#[derive(Clone, Copy, Debug)]
+#[derive(Clone, Copy)]
 enum Move {
     Tells(u64, Order),
     Beats(u64, u64),
@@ -98,7 +98,7 @@ const CLOSE: Order = Order::Row {
 };
 
 /// A request of which a look tells is opened, read, claimed, called, finished and closed.
-static WORKS: [Move; 25] = [
+const WORKS: [Move; 25] = [
     NotOpen(9),
     Tells(0, BEATS),
     Tells(0, NEWS),
@@ -127,7 +127,7 @@ static WORKS: [Move; 25] = [
 ];
 
 /// One thread claims in one of two requests, and in the other one once the first function has ended.
-static SHARES: [Move; 20] = [
+const SHARES: [Move; 20] = [
     Tells(0, BEATS),
     Tells(0, NEWS),
     Beats(0, 1),
@@ -192,7 +192,7 @@ static SHARES: [Move; 20] = [
 ];
 
 /// Beats and looks that stay without an answer are asked for again; so is a plan.
-static WAITS: [Move; 16] = [
+const WAITS: [Move; 16] = [
     Tells(0, BEATS),
     Waits(5, 1),
     Tells(5, NEWS),
@@ -236,7 +236,7 @@ static WAITS: [Move; 16] = [
 ];
 
 /// A process that is stopped claims nothing, and looks at the store's clock when a timer comes.
-static TIMES: [Move; 17] = [
+const TIMES: [Move; 17] = [
     Stops,
     Tells(0, BEATS),
     Tells(0, NEWS),
@@ -269,6 +269,14 @@ static TIMES: [Move; 17] = [
     Tells(100, Order::Beats { ticket: 7 }),
 ];
 
+/// What is done, by name.
+static CASES: [(&str, &[Move]); 4] = [
+    ("works", &WORKS),
+    ("shares", &SHARES),
+    ("waits", &WAITS),
+    ("times", &TIMES),
+];
+
 /// A plan of one stage with a function.
 fn plan_of(rt: &impl Abort, alloc: Global) -> Plan {
     let mut builder = PlanBuilder::new(alloc);
@@ -276,70 +284,87 @@ fn plan_of(rt: &impl Abort, alloc: Global) -> Plan {
     must(rt, builder.build())
 }
 
-/// A request is opened, in which one stage calls function 7. It is a flow's.
-fn open(rt: &impl Abort, alloc: Global, host: &mut Host, ticket: u64) {
-    let plan = plan_of(rt, alloc);
+/// Whether a request of this plan is opened, in which one stage calls function 7. It is a flow's.
+fn opens(host: &mut Host, plan: &Plan, ticket: u64) -> bool {
     let notes = [Note::Calls { function: 7 }];
-    must(rt, host.opened(ticket, &plan, &notes, 1, true));
+    host.opened(ticket, plan, &notes, 1, true).is_ok()
 }
 
-/// Calls of users.
-fn ask(rt: &impl Abort, host: &mut Host, call: Move) {
+/// Whether a limit of the request's stage is asked for, by this ticket.
+fn limits(host: &mut Host, now: u64, ticket: u64) -> bool {
+    let act = Act::Limit {
+        stage: 0,
+        moment: 5100,
+        gives: false,
+    };
+    host.act(now, 9, act) == Ok(ticket)
+}
+
+/// Whether a user's call is answered so.
+fn is_asked(host: &mut Host, call: Move) -> bool {
     match call {
-        Wants(request) => must(rt, host.wants(request, 0)),
-        NotOpen(request) => assert_eq!(rt; host.wants(request, 0), Err(NoCall::NotOpen)),
-        Limits(now, ticket) => {
-            let act = Act::Limit {
-                stage: 0,
-                moment: 5100,
-                gives: false,
-            };
-            assert_eq!(rt; host.act(now, 9, act), Ok(ticket));
+        Wants(request) => host.wants(request, 0).is_ok(),
+        NotOpen(request) => host.wants(request, 0) == Err(NoCall::NotOpen),
+        Limits(now, ticket) => limits(host, now, ticket),
+        Stirs(now) => {
+            host.stirred(now);
+            true
         }
-        Stirs(now) => host.stirred(now),
-        Stops => host.stop(),
-        _ => panic!(rt; "no call of a user"),
+        Stops => {
+            host.stop();
+            true
+        }
+        _ => false,
     }
 }
 
-/// Answers about a row.
-fn answer(rt: &impl Abort, host: &mut Host, call: Move) {
+/// Whether an answer about a row is taken so.
+fn is_row_answered(host: &mut Host, call: Move) -> bool {
     match call {
-        Reads(ticket) => must(rt, host.entries(0, ticket, &[], &[])),
-        Stands(ticket) => must(rt, host.stands(ticket)),
-        Refuses(now, ticket) => must(rt, host.refused(now, ticket)),
-        Closes(ticket) => must(rt, host.closed(ticket, true)),
-        Drops(ticket) => must(rt, host.dropped(ticket)),
-        Ends(ticket) => must(rt, host.ended(ticket, EndsWith::Gives)),
-        Unfit(ticket, why) => assert_eq!(rt; host.stands(ticket), Err(why)),
-        _ => ask(rt, host, call),
+        Reads(ticket) => host.entries(0, ticket, &[], &[]).is_ok(),
+        Stands(ticket) => host.stands(ticket).is_ok(),
+        Refuses(now, ticket) => host.refused(now, ticket).is_ok(),
+        Closes(ticket) => host.closed(ticket, true).is_ok(),
+        Drops(ticket) => host.dropped(ticket).is_ok(),
+        Ends(ticket) => host.ended(ticket, EndsWith::Gives).is_ok(),
+        Unfit(ticket, why) => host.stands(ticket) == Err(why),
+        _ => is_asked(host, call),
     }
 }
 
-/// Makes a call, and compares its answer.
-fn make(rt: &impl Abort, alloc: Global, host: &mut Host, call: Move) {
+/// Whether a turn at this moment tells so.
+fn tells(host: &mut Host, now: u64, wanted: Order) -> bool {
+    match host.turn(now) {
+        Ok(told) => told == wanted,
+        Err(_) => false,
+    }
+}
+
+/// Whether a call is answered so.
+fn is_answered(host: &mut Host, plan: &Plan, call: Move) -> bool {
     match call {
-        Tells(now, wanted) => assert_eq!(rt; must(rt, host.turn(now)), wanted),
-        Beats(now, ticket) => must(rt, host.beats(now, ticket, &[], 5000)),
-        News(ticket, many) => must(rt, host.news(0, ticket, &LENGTHS[..many.min(2)], 3)),
-        Waits(now, ticket) => must(rt, host.unknown(now, ticket)),
-        Opened(ticket) => open(rt, alloc, host, ticket),
-        _ => answer(rt, host, call),
+        Tells(now, wanted) => tells(host, now, wanted),
+        Beats(now, ticket) => host.beats(now, ticket, &[], 5000).is_ok(),
+        News(ticket, many) => host.news(0, ticket, &LENGTHS[..many.min(2)], 3).is_ok(),
+        Waits(now, ticket) => host.unknown(now, ticket).is_ok(),
+        Opened(ticket) => opens(host, plan, ticket),
+        _ => is_row_answered(host, call),
     }
 }
 
 /// Makes calls, one after another.
-fn make_all(rt: &impl Abort, alloc: Global, calls: &[Move]) {
-    let mut host = Host::new(alloc, 1, 1, 10000, true);
-    for call in calls {
-        make(rt, alloc, &mut host, *call);
+fn make_all(rt: &impl Abort, host: &mut Host, plan: &Plan, name: &'static str, calls: &[Move]) {
+    for (at, call) in calls.iter().enumerate() {
+        holds(rt, is_answered(host, plan, *call), (name, at));
     }
 }
 
 #[test]
 fn does_what_is_to_be_done(rt: HostRuntime) {
-    make_all(&rt, rt.alloc(), WORKS.as_slice());
-    make_all(&rt, rt.alloc(), SHARES.as_slice());
-    make_all(&rt, rt.alloc(), WAITS.as_slice());
-    make_all(&rt, rt.alloc(), TIMES.as_slice());
+    let plan = plan_of(&rt, rt.alloc());
+    for (name, calls) in &CASES {
+        let mut host = Host::new(rt.alloc(), 1, 1, 10000, true);
+        make_all(&rt, &mut host, &plan, *name, *calls);
+        drop(host);
+    }
 }
