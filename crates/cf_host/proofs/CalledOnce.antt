@@ -77,9 +77,9 @@ user_kept calls call is request old new k o =
     let effect = set_effect old.requests o.place at.request o.after at.is (named_on call at.request o.after o.calls) (moves_on call is at.request o.after o.calls) in
     subst (Kept calls) (sym (ap (λ (h : Host). h.requests) o.rest)) (kept_quiet calls old.requests (set old.requests o.place o.after) k effect)
 
-act_kept : (calls : ℕ → List ℕ) (call : ℕ → Work → Work → Type 0) → ((n : ℕ) → IsQuiet (call n)) → (request number : ℕ) (old new : Host) →
-    Kept calls old.requests → OnRequestFor call request number old new → Kept calls new.requests
-act_kept calls call is request number old new k o =
+act_kept : (calls : ℕ → List ℕ) (call : ℕ → Work → Work → Type 0) → ((n : ℕ) → IsQuiet (call n)) → (request now number : ℕ) (old new : Host) →
+    Kept calls old.requests → OnRequestFor call request now number old new → Kept calls new.requests
+act_kept calls call is request now number old new k o =
     let at = o.at in
     let effect = set_effect old.requests o.place at.request o.after at.is (named_on (call number) at.request o.after o.calls) (moves_on (call number) (is number) at.request o.after o.calls) in
     subst (Kept calls) (sym (ap (λ (h : Host). h.requests) o.rest)) (kept_quiet calls old.requests (set old.requests o.place o.after) k effect)
@@ -97,12 +97,12 @@ empty true = refl
 empty false = refl
 
 -- the stages that a turn's order calls
-ordered : (request : ℕ) (t : Turn) (order : Order) (old new : Tickets) (n : ℕ) → OrdersTurn request t order old new → called_in n (Some order) ≡ turn_calls request (Some t) n
-ordered request (TellTurn number told) order old new n (is, rest) = ap (λ (o : Order). called_in n (Some o)) is ∙ sym (empty (eqb request n))
-ordered request (ShowTurn i shown) order old new n (is, rest) = ap (λ (o : Order). called_in n (Some o)) is ∙ sym (empty (eqb request n))
-ordered request (StopTurn i) order old new n (is, rest) = ap (λ (o : Order). called_in n (Some o)) is ∙ sym (empty (eqb request n))
-ordered request (CallTurn i function args) order old new n (number, is, rest) = ap (λ (o : Order). called_in n (Some o)) is
-ordered request (AskTurn q) order old new n (number, is, rest) = ap (λ (o : Order). called_in n (Some o)) is ∙ sym (empty (eqb request n))
+ordered : (now request : ℕ) (t : Turn) (order : Order) (old new : Tickets) (n : ℕ) → OrdersTurn now request t order old new → called_in n (Some order) ≡ turn_calls request (Some t) n
+ordered now request (TellTurn number told) order old new n (is, rest) = ap (λ (o : Order). called_in n (Some o)) is ∙ sym (empty (eqb request n))
+ordered now request (ShowTurn i shown) order old new n (is, rest) = ap (λ (o : Order). called_in n (Some o)) is ∙ sym (empty (eqb request n))
+ordered now request (StopTurn i) order old new n (is, rest) = ap (λ (o : Order). called_in n (Some o)) is ∙ sym (empty (eqb request n))
+ordered now request (CallTurn i function args) order old new n (number, is, rest) = ap (λ (o : Order). called_in n (Some o)) is
+ordered now request (AskTurn q) order old new n (number, is, rest) = ap (λ (o : Order). called_in n (Some o)) is ∙ sym (empty (eqb request n))
 
 kept_same : (f g : ℕ → List ℕ) (requests : List Request) → ((n : ℕ) → f n ≡ g n) → Kept f requests → Kept g requests
 kept_same f g requests same k =
@@ -118,7 +118,7 @@ works_kept calls old now order new k w =
     let effect = turn_effect (moment_in old now w.may_claim) old.requests w.request w.turn new.requests k.apart w.turns in
     let more = kept_more calls (turn_calls w.request (Some w.turn)) old.requests new.requests k effect in
     kept_same (λ n. calls n ++ turn_calls w.request (Some w.turn) n) (λ n. calls n ++ called_in n (Some order)) new.requests
-    (λ n. ap (λ (l : List ℕ). calls n ++ l) (sym (ordered w.request w.turn order old.tickets new.tickets n w.orders))) more
+    (λ n. ap (λ (l : List ℕ). calls n ++ l) (sym (ordered now w.request w.turn order old.tickets new.tickets n w.orders))) more
 
 -- nothing is called by an order
 none_called : (calls : ℕ → List ℕ) (out : Option Order) (requests : List Request) → ((n : ℕ) → called_in n out ≡ []) → Kept calls requests → Kept (λ n. calls n ++ called_in n out) requests
@@ -173,10 +173,10 @@ call_kept calls old out new k (turns now order is o) =
     subst (λ (x : Option Order). Kept (λ n. calls n ++ called_in n x) new.requests) (sym is) (orders_kept calls old now order new k o)
 call_kept calls old out new k (follows request is f) =
     told_nothing calls out new.requests is (kept_quiet calls old.requests new.requests k (follows_effect request old.requests new.requests f.follows))
-call_kept calls old out new k (acts request number until act is a) =
-    told_nothing calls out new.requests is (act_kept calls (λ n. Asking n act until) (λ n w v c. AsksOf n act until refl c) request number old new k a)
-call_kept calls old out new k (ends request number until is a) =
-    told_nothing calls out new.requests is (act_kept calls (λ n. Ending n until) (λ n w v c. EndsOf (record { number = n; until = until }) refl c) request number old new k a)
+call_kept calls old out new k (acts now request number until act is a) =
+    told_nothing calls out new.requests is (act_kept calls (λ n. Asking n act until) (λ n w v c. AsksOf n act until refl c) request now number old new k a)
+call_kept calls old out new k (ends now request number until is a) =
+    told_nothing calls out new.requests is (act_kept calls (λ n. Ending n until) (λ n w v c. EndsOf (record { number = n; until = until }) refl c) request now number old new k a)
 call_kept calls old out new k (wants request stage is_wanted is a) =
     told_nothing calls out new.requests is (user_kept calls (Wanting stage is_wanted) (λ w v c. WantsOf stage is_wanted refl c.rest) request old new k a)
 call_kept calls old out new k (stirs due is e) = told_nothing calls out new.requests is (same_kept calls old new (ap (λ (h : Host). h.requests) e) k)

@@ -9,12 +9,12 @@ use Rattle.cf_host.specs.Hosts.{Host, Orders, OrdersTurn, WorksOn}
 use Rattle.cf_host.specs.Tickets.{AreSame, Shuts, Tickets}
 use Rattle.cf_host.proofs.Placed.{opens_ready, ready}
 
-turn_ready : (request : ℕ) (t : Turn) (order : Order) (old new : Tickets) → OrdersTurn request t order (record old { is_ready = true }) new → OrdersTurn request t order old new
-turn_ready request (TellTurn number told) order old new (is, s) = (is, record { last = s.last; waiting = s.waiting })
-turn_ready request (ShowTurn i shown) order old new (is, s) = (is, record { last = s.last; waiting = s.waiting })
-turn_ready request (StopTurn i) order old new (is, s) = (is, record { last = s.last; waiting = s.waiting })
-turn_ready request (CallTurn i function args) order old new (number, is, o) = (number, is, opens_ready (OfCall request i) number old new o)
-turn_ready request (AskTurn q) order old new (number, is, o) = (number, is, opens_ready (OfRow request) number old new o)
+turn_ready : (now request : ℕ) (t : Turn) (order : Order) (old new : Tickets) → OrdersTurn now request t order (record old { is_ready = true }) new → OrdersTurn now request t order old new
+turn_ready now request (TellTurn number told) order old new (is, s) = (is, record { last = s.last; waiting = s.waiting })
+turn_ready now request (ShowTurn i shown) order old new (is, s) = (is, record { last = s.last; waiting = s.waiting })
+turn_ready now request (StopTurn i) order old new (is, s) = (is, record { last = s.last; waiting = s.waiting })
+turn_ready now request (CallTurn i function args) order old new (number, is, o) = (number, is, opens_ready (OfCall request i) now number old new o)
+turn_ready now request (AskTurn q) order old new (number, is, o) = (number, is, opens_ready (OfRow request) now number old new o)
 
 works_ready : (old : Host) (now : ℕ) (order : Order) (new : Host) → WorksOn (ready old) now order new → WorksOn old now order new
 works_ready old now order new w =
@@ -24,15 +24,15 @@ works_ready old now order new w =
       request = w.request;
       turn = w.turn;
       turns = w.turns;
-      orders = turn_ready w.request w.turn order old.tickets new.tickets w.orders;
+      orders = turn_ready now w.request w.turn order old.tickets new.tickets w.orders;
       rest = w.rest;
     }
 
 pub orders_ready : (old : Host) (now : ℕ) (order : Order) (new : Host) → Orders (ready old) now order new → Orders old now order new
 orders_ready old now (Beats number) new o =
-    record { due = record { free = o.due.free; due = o.due.due }; opens = opens_ready OfBeats number old.tickets new.tickets o.opens; rest = o.rest }
+    record { due = record { free = o.due.free; due = o.due.due }; opens = opens_ready OfBeats now number old.tickets new.tickets o.opens; rest = o.rest }
 orders_ready old now (LooksFor number look) new o =
-    record { free = o.free; due = o.due; is = o.is; opens = opens_ready OfNews number old.tickets new.tickets o.opens; rest = o.rest }
+    record { free = o.free; due = o.due; is = o.is; opens = opens_ready OfNews now number old.tickets new.tickets o.opens; rest = o.rest }
 orders_ready old now (Open number request) new o =
     record {
       place = o.place;
@@ -40,7 +40,7 @@ orders_ready old now (Open number request) new o =
       there = o.there;
       named = o.named;
       due = o.due;
-      opens = opens_ready (OfOpen request) number old.tickets new.tickets o.opens;
+      opens = opens_ready (OfOpen request) now number old.tickets new.tickets o.opens;
       rest = o.rest;
     }
 orders_ready old now (Sleep until) new o =
@@ -62,7 +62,7 @@ orders_ready old now (Show request i shown) new o = works_ready old now (Show re
 orders_ready old now (Tell number told) new o = works_ready old now (Tell number told) new o
 
 -- what the first work that has a turn orders is no question of the process's own
-ordered_by : (t : Turn) (old : Host) (now request : ℕ) (order : Order) (new : Host) → OrdersTurn request t order old.tickets new.tickets → WorksOn old now order new → Orders old now order new
+ordered_by : (t : Turn) (old : Host) (now request : ℕ) (order : Order) (new : Host) → OrdersTurn now request t order old.tickets new.tickets → WorksOn old now order new → Orders old now order new
 ordered_by (TellTurn number told) old now request order new (is, s) w = subst (λ (o : Order). Orders old now o new) (sym is) (subst (λ (o : Order). WorksOn old now o new) is w)
 ordered_by (ShowTurn i shown) old now request order new (is, s) w = subst (λ (o : Order). Orders old now o new) (sym is) (subst (λ (o : Order). WorksOn old now o new) is w)
 ordered_by (StopTurn i) old now request order new (is, s) w = subst (λ (o : Order). Orders old now o new) (sym is) (subst (λ (o : Order). WorksOn old now o new) is w)

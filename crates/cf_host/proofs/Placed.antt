@@ -59,14 +59,14 @@ follows_in request old view new is follows rest = subst (λ (h : Host). FollowsI
 abbrev pub ready : Host → Host
 ready h = record h { tickets = record h.tickets { is_ready = true } }
 
-pub opens_ready : (of : Asked) (number : ℕ) (old new : Tickets) → OpensOf of number (record old { is_ready = true }) new → OpensOf of number old new
-opens_ready of number old new o =
-    record { ticket = o.ticket; opens = record { number = o.opens.number; last = o.opens.last; waiting = o.opens.waiting }; is = o.is; named = o.named }
+pub opens_ready : (of : Asked) (now number : ℕ) (old new : Tickets) → OpensOf of now number (record old { is_ready = true }) new → OpensOf of now number old new
+opens_ready of now number old new o =
+    record { ticket = o.ticket; opens = record { number = o.opens.number; last = o.opens.last; waiting = o.opens.waiting }; is = o.is; asked = o.asked; named = o.named }
 
-pub on_request_for : (call : ℕ → Work → Work → Type 0) (request number place : ℕ) (old mid view new : Host) (x after : Request) (ticket : Ticket) → mid ≡ ready old → view ≡ mid →
+pub on_request_for : (call : ℕ → Work → Work → Type 0) (request now number place : ℕ) (old mid view new : Host) (x after : Request) (ticket : Ticket) → mid ≡ ready old → view ≡ mid →
     IsAt request place old.requests → x ≡ get_or view.requests place x → number ≡ view.tickets.last + 1 → OnWork (call number) x after → Opens ticket view.tickets new.tickets →
-    ticket.of ≡ Act request → new ≡ record view { tickets = new.tickets; requests = set view.requests place after } → OnRequestFor call request number old new
-on_request_for call request number place old mid view new x after ticket from_old from_mid at value named calls opens of rest =
+    ticket.of ≡ Act request → ticket.asked ≡ now → new ≡ record view { tickets = new.tickets; requests = set view.requests place after } → OnRequestFor call request now number old new
+on_request_for call request now number place old mid view new x after ticket from_old from_mid at value named calls opens of asked rest =
     let is : view ≡ ready old = from_mid ∙ from_old in
     let there : x ≡ get_or old.requests place x = value ∙ ap (λ (h : Host). get_or h.requests place x) is in
     let opened = subst (λ (h : Host). Opens ticket h.tickets new.tickets) is opens in
@@ -80,6 +80,7 @@ on_request_for call request number place old mid view new x after ticket from_ol
         ticket = ticket;
         opens = record { number = opened.number; last = opened.last; waiting = opened.waiting };
         is = of;
+        asked = asked;
         named = opened.number ∙ sym next;
       };
       rest = rest ∙ ap (λ (h : Host). record h { tickets = new.tickets; requests = set h.requests place after }) is;

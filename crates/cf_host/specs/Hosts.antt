@@ -136,21 +136,22 @@ pub record FirstTurns (at : Moment) (old : List Request) (number : ℕ) (t : Tur
   pub is : slice_get new place ≡ Some after
   pub others : (k : ℕ) → place < k → slice_get new k ≡ slice_get old k
 
--- a ticket is opened of this
-pub record OpensOf (of : Asked) (number : ℕ) (old new : Tickets) : Type 0 where
+-- a ticket is opened of this, at this moment
+pub record OpensOf (of : Asked) (now number : ℕ) (old new : Tickets) : Type 0 where
   pub ticket : Ticket
   pub opens : Opens ticket old new
   pub is : ticket.of ≡ of
+  pub asked : ticket.asked ≡ now
   pub named : ticket.number ≡ number
 
--- what a turn of a request's work orders
-abbrev pub OrdersTurn : ℕ → Turn → Order → Tickets → Tickets → Type 0
-OrdersTurn request (TellTurn number told) order old new = (order ≡ Tell number told) × Shuts number old new
-OrdersTurn request (ShowTurn i shown) order old new = (order ≡ Show request i shown) × AreSame old new
-OrdersTurn request (StopTurn i) order old new = (order ≡ Stop (call_in request i old.waiting)) × AreSame old new
-OrdersTurn request (CallTurn i function args) order old new =
-    (number : ℕ) × (order ≡ Call number request i function args) × OpensOf (OfCall request i) number old new
-OrdersTurn request (AskTurn q) order old new = (number : ℕ) × (order ≡ Row number request q) × OpensOf (OfRow request) number old new
+-- what a turn of a request's work orders by now
+abbrev pub OrdersTurn : ℕ → ℕ → Turn → Order → Tickets → Tickets → Type 0
+OrdersTurn now request (TellTurn number told) order old new = (order ≡ Tell number told) × Shuts number old new
+OrdersTurn now request (ShowTurn i shown) order old new = (order ≡ Show request i shown) × AreSame old new
+OrdersTurn now request (StopTurn i) order old new = (order ≡ Stop (call_in request i old.waiting)) × AreSame old new
+OrdersTurn now request (CallTurn i function args) order old new =
+    (number : ℕ) × (order ≡ Call number request i function args) × OpensOf (OfCall request i) now number old new
+OrdersTurn now request (AskTurn q) order old new = (number : ℕ) × (order ≡ Row number request q) × OpensOf (OfRow request) now number old new
 
 -- the first work that has a turn has it
 pub record WorksOn (old : Host) (now : ℕ) (order : Order) (new : Host) : Type 0 where
@@ -159,7 +160,7 @@ pub record WorksOn (old : Host) (now : ℕ) (order : Order) (new : Host) : Type 
   pub request : ℕ
   pub turn : Turn
   pub turns : FirstTurns (moment_in old now may_claim) old.requests request turn new.requests
-  pub orders : OrdersTurn request turn order old.tickets new.tickets
+  pub orders : OrdersTurn now request turn order old.tickets new.tickets
   pub rest : new ≡ record old { tickets = new.tickets; requests = new.requests }
 
 -- no work has one
@@ -173,14 +174,14 @@ pub record WorksNothing (old : Host) (now : ℕ) (new : Host) : Type 0 where
 
 pub record AsksBeats (old : Host) (now number : ℕ) (new : Host) : Type 0 where
   pub due : BeatsAreDue old now
-  pub opens : OpensOf OfBeats number old.tickets new.tickets
+  pub opens : OpensOf OfBeats now number old.tickets new.tickets
   pub rest : new ≡ record old { tickets = new.tickets; pulse = beats_asked now old.lease old.pulse }
 
 pub record AsksNews (old : Host) (now number : ℕ) (look : Look) (new : Host) : Type 0 where
   pub free : old.news.asked ≡ None
   pub due : old.news.due ≤ now
   pub is : look ≡ look_of old.news.is_whole_due old.news.mark
-  pub opens : OpensOf OfNews number old.tickets new.tickets
+  pub opens : OpensOf OfNews now number old.tickets new.tickets
   pub rest : new ≡ record old { tickets = new.tickets; news = asked_by old.news }
 
 pub record AsksOpen (old : Host) (now number request : ℕ) (new : Host) : Type 0 where
@@ -189,7 +190,7 @@ pub record AsksOpen (old : Host) (now number request : ℕ) (new : Host) : Type 
   pub there : slice_get old.requests place ≡ Some before
   pub named : before.number ≡ request
   pub due : IsToOpen now before
-  pub opens : OpensOf (OfOpen request) number old.tickets new.tickets
+  pub opens : OpensOf (OfOpen request) now number old.tickets new.tickets
   pub rest : new ≡ record old { tickets = new.tickets; requests = slice_set old.requests place (record before { is_asked = true }) }
 
 -- NOTHING RESTS where a process sleeps: no beat, no look and no open is due, no work has anything to do, and nothing of it comes before
@@ -331,13 +332,13 @@ pub record OnRequest (call : Work → Work → Type 0) (request : ℕ) (old new 
   pub calls : OnWork call at.request after
   pub rest : new ≡ record old { requests = slice_set old.requests place after }
 
--- the same, with a ticket for the user, who waits until a moment
-pub record OnRequestFor (call : ℕ → Work → Work → Type 0) (request number : ℕ) (old new : Host) : Type 0 where
+-- the same, with a ticket for the user, who waits from now on
+pub record OnRequestFor (call : ℕ → Work → Work → Type 0) (request now number : ℕ) (old new : Host) : Type 0 where
   pub place : ℕ
   pub at : IsAt request place old.requests
   pub after : Request
   pub calls : OnWork (call number) at.request after
-  pub opens : OpensOf (OfAct request) number old.tickets new.tickets
+  pub opens : OpensOf (OfAct request) now number old.tickets new.tickets
   pub rest : new ≡ record old { tickets = new.tickets; requests = slice_set old.requests place after }
 
 pub record FollowsIn (request : ℕ) (old new : Host) : Type 0 where

@@ -24,8 +24,8 @@ use Rattle.cf_host.specs.Waking.{patience_of, wake_of}
 pub data IsCall (old : Host) (out : Option Order) (new : Host) : Type 0 where
   turns : (now : ℕ) (order : Order) → out ≡ Some order → Orders old now order new → IsCall old out new
   follows : (request : ℕ) → out ≡ None → FollowsIn request old new → IsCall old out new
-  acts : (request number until : ℕ) (act : Act) → out ≡ None → OnRequestFor (λ n. Asking n act until) request number old new → IsCall old out new
-  ends : (request number until : ℕ) → out ≡ None → OnRequestFor (λ n. Ending n until) request number old new → IsCall old out new
+  acts : (now request number until : ℕ) (act : Act) → out ≡ None → OnRequestFor (λ n. Asking n act until) request now number old new → IsCall old out new
+  ends : (now request number until : ℕ) → out ≡ None → OnRequestFor (λ n. Ending n until) request now number old new → IsCall old out new
   wants : (request stage : ℕ) (is_wanted : Bool) → out ≡ None → OnRequest (Wanting stage is_wanted) request old new → IsCall old out new
   stirs : (due : ℕ) → out ≡ None → new ≡ record old { news = record old.news { due = due } } → IsCall old out new
   stops : out ≡ None → new ≡ record old { is_stopping = true } → IsCall old out new

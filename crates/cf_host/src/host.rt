@@ -104,7 +104,7 @@ impl Host {
     /// A user asks for an act, and waits a minute for it at most. What became of it is told by this ticket.
     pub fn act(&mut self, now: u64, request: u64, act: Act) -> Result<u64, NoCall>
         ensures ok { IfOk result (λ number.
-            OnRequestFor (λ n. Asking n act (later_by 60000 now)) request number self.old self.new) }
+            OnRequestFor (λ n. Asking n act (later_by 60000 now)) request now number self.old self.new) }
         ensures err { OnErr result (Keeps self.old self.new) }
         ensures why { IfErr result (λ why. IsNoAsking act request self.old.requests why) }
     {
@@ -126,7 +126,7 @@ impl Host {
     /// A user ends a request, and waits a minute at most. It is closed once nothing is due in it.
     pub fn end(&mut self, now: u64, request: u64) -> Result<u64, NoCall>
         ensures ok { IfOk result (λ number.
-            OnRequestFor (λ n. Ending n (later_by 60000 now)) request number self.old self.new) }
+            OnRequestFor (λ n. Ending n (later_by 60000 now)) request now number self.old self.new) }
         ensures err { OnErr result (Keeps self.old self.new) }
         ensures why { IfErr result (λ why. IsNoEnding request self.old.requests why) }
     {

@@ -222,7 +222,7 @@ impl Request {
 /// What the turn of a request's work orders.
 fn order_of(tickets: &mut Tickets, now: u64, request: u64, turn: Turn) -> Order
     requires { tickets.old.is_ready ≡ true }
-    ensures { OrdersTurn request turn result tickets.old tickets.new }
+    ensures { OrdersTurn now request turn result tickets.old tickets.new }
 {
     match turn {
         Turn::Tell { number, told } => {

@@ -9,5 +9,5 @@ pub returns-clause-ok : goal.returns-clause-ok
 returns-clause-ok c =
     let number = c.next-number.result in
     let calls = subst (λ (t : ℕ). OnWork (Asking number c.args.act t) c.index_mut.result.now c.asks.new.self) c.saturating_add-until.ensures c.in-Ok.ensures.ok in
-    on_request_for (λ n. Asking n c.args.act (later_by 60000 c.args.now)) c.args.request number c.in_ok-place.place c.args.self.now c.reserve.new.self _ _ c.index_mut.result.now c.asks.new.self
-    c.open-ticket.result c.in_ok-reserve.ensures.ok c.self.view_is c.in_ok-place.ensures.at c.index_mut.ensures.value c.next-number.ensures calls c.open-ticket.ensures.opens c.open-ticket.ensures.of refl
+    on_request_for (λ n. Asking n c.args.act (later_by 60000 c.args.now)) c.args.request c.args.now number c.in_ok-place.place c.args.self.now c.reserve.new.self _ _ c.index_mut.result.now c.asks.new.self
+    c.open-ticket.result c.in_ok-reserve.ensures.ok c.self.view_is c.in_ok-place.ensures.at c.index_mut.ensures.value c.next-number.ensures calls c.open-ticket.ensures.opens c.open-ticket.ensures.of c.open-ticket.ensures.asked refl
