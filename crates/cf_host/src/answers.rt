@@ -1,6 +1,6 @@
 //! The answers of a store, and the ends of functions. Each is to an open ticket; one that isn't, or that doesn't fit its
 //! question, is refused and changes nothing.
-ghost use Rattle.std.specs.Prelude.{◌≡◌, ◌<◌, IfErr, IfOk, OnErr, OnOk, Some, length};
+ghost use Rattle.std.specs.Prelude.{◌≡◌, ◌≢◌, ◌<◌, IfErr, IfOk, OnErr, OnOk, Some, length};
 ghost use Rattle.cf_host.specs.Answering.{Breaking, Closing, Hearing, Landing, Refusing, Waiting};
 ghost use Rattle.cf_host.specs.Fitting.{AsksBeats, AsksClose, AsksNews, AsksPlan, AsksPut, AsksRow, AwaitsEnd, FitsEntries, FitsPlan, IsOpenFor, MayLack, MayLose, UnfitOnlyIf};
 ghost use Rattle.cf_host.specs.Hosts.{Answers, AnswersRow, EndsCall, HearsBeats, HearsNews, IsDropped, IsOpened, IsRefused, IsTicketOf, LacksBeats, LacksNews, LosesRequest, StaysShut, StaysUnanswered};
@@ -34,7 +34,8 @@ impl Host {
         ensures ok { OnOk result (Answers OfOpen
             (IsOpened self.old.session plan.now notes.now room is_flow) self.old ticket self.new) }
         ensures why { IfErr result (λ why. IsRefused self.old ticket why) }
-        ensures unfit { IfErr result (λ why. UnfitOnlyIf (¬ FitsPlan plan.now notes.now room self.old ticket) why) }
+        ensures unfit { IfErr result (λ why.
+            UnfitOnlyIf (¬ FitsPlan plan.now notes.now room self.old ticket) why) }
         ensures err { OnErr result (self.new ≡ self.old) }
     {
         let place = self.to_open(ticket)?;
@@ -59,7 +60,9 @@ impl Host {
     ) -> Result<(), NoAnswer>
         ensures ok { OnOk result (AnswersRow (Hearing now entries.now notes.now) self.old ticket self.new) }
         ensures why { IfErr result (λ why. IsRefused self.old ticket why) }
-        ensures unfit { IfErr result (λ why. UnfitOnlyIf (¬ FitsEntries entries.now notes.now self.old ticket) why) }
+        ensures unfit { IfErr result (λ why.
+            UnfitOnlyIf (¬ FitsEntries entries.now notes.now self.old ticket) why) }
+        ensures memory { IfErr result (λ why. why ≢ NoAnswer.NoMemory) }
         ensures err { OnErr result (self.new ≡ self.old) }
     {
         let place = self.row_of(ticket)?;
@@ -76,6 +79,7 @@ impl Host {
         ensures ok { OnOk result (AnswersRow Landing self.old ticket self.new) }
         ensures why { IfErr result (λ why. IsRefused self.old ticket why) }
         ensures unfit { IfErr result (λ why. UnfitOnlyIf (¬ AsksPut self.old ticket) why) }
+        ensures memory { IfErr result (λ why. why ≢ NoAnswer.NoMemory) }
         ensures err { OnErr result (self.new ≡ self.old) }
     {
         let place = self.row_of(ticket)?;
@@ -92,6 +96,7 @@ impl Host {
         ensures ok { OnOk result (AnswersRow (Refusing now) self.old ticket self.new) }
         ensures why { IfErr result (λ why. IsRefused self.old ticket why) }
         ensures unfit { IfErr result (λ why. UnfitOnlyIf (¬ AsksPut self.old ticket) why) }
+        ensures memory { IfErr result (λ why. why ≢ NoAnswer.NoMemory) }
         ensures err { OnErr result (self.new ≡ self.old) }
     {
         let place = self.row_of(ticket)?;
@@ -108,6 +113,7 @@ impl Host {
         ensures ok { OnOk result (AnswersRow (Closing is_closed) self.old ticket self.new) }
         ensures why { IfErr result (λ why. IsRefused self.old ticket why) }
         ensures unfit { IfErr result (λ why. UnfitOnlyIf (¬ AsksClose self.old ticket) why) }
+        ensures memory { IfErr result (λ why. why ≢ NoAnswer.NoMemory) }
         ensures err { OnErr result (self.new ≡ self.old) }
     {
         let place = self.row_of(ticket)?;
@@ -178,6 +184,7 @@ impl Host {
         ensures ok { OnOk result (StaysUnanswered self.old now ticket self.new) }
         ensures why { IfErr result (λ why. IsRefused self.old ticket why) }
         ensures unfit { IfErr result (λ why. UnfitOnlyIf (¬ IsOpenFor MayLack self.old ticket) why) }
+        ensures memory { IfErr result (λ why. why ≢ NoAnswer.NoMemory) }
         ensures err { OnErr result (self.new ≡ self.old) }
     {
         let asked = self.find(ticket)?;
@@ -195,6 +202,7 @@ impl Host {
         ensures ok { OnOk result (LosesRequest self.old ticket self.new) }
         ensures why { IfErr result (λ why. IsRefused self.old ticket why) }
         ensures unfit { IfErr result (λ why. UnfitOnlyIf (¬ IsOpenFor MayLose self.old ticket) why) }
+        ensures memory { IfErr result (λ why. why ≢ NoAnswer.NoMemory) }
         ensures err { OnErr result (self.new ≡ self.old) }
     {
         let asked = self.find(ticket)?;
@@ -210,6 +218,7 @@ impl Host {
         ensures ok { OnOk result (EndsCall answer self.old ticket self.new) }
         ensures why { IfErr result (λ why. IsRefused self.old ticket why) }
         ensures unfit { IfErr result (λ why. UnfitOnlyIf (¬ AwaitsEnd self.old ticket) why) }
+        ensures memory { IfErr result (λ why. why ≢ NoAnswer.NoMemory) }
         ensures err { OnErr result (self.new ≡ self.old) }
     {
         let asked = self.find(ticket)?;
@@ -251,6 +260,7 @@ impl Host {
         ensures ok { OnOk result (Answers OfOpen (StaysShut now) self.old ticket self.new) }
         ensures why { IfErr result (λ why. IsRefused self.old ticket why) }
         ensures unfit { IfErr result (λ why. UnfitOnlyIf (¬ AsksPlan self.old ticket) why) }
+        ensures memory { IfErr result (λ why. why ≢ NoAnswer.NoMemory) }
         ensures err { OnErr result (self.new ≡ self.old) }
     {
         let place = self.to_open(ticket)?;
@@ -264,6 +274,7 @@ impl Host {
         ensures ok { OnOk result (AnswersRow (Waiting now) self.old ticket self.new) }
         ensures why { IfErr result (λ why. IsRefused self.old ticket why) }
         ensures unfit { IfErr result (λ why. UnfitOnlyIf (¬ AsksRow self.old ticket) why) }
+        ensures memory { IfErr result (λ why. why ≢ NoAnswer.NoMemory) }
         ensures err { OnErr result (self.new ≡ self.old) }
     {
         let place = self.row_of(ticket)?;
@@ -277,6 +288,7 @@ impl Host {
         ensures ok { OnOk result (Answers OfOpen IsDropped self.old ticket self.new) }
         ensures why { IfErr result (λ why. IsRefused self.old ticket why) }
         ensures unfit { IfErr result (λ why. UnfitOnlyIf (¬ AsksPlan self.old ticket) why) }
+        ensures memory { IfErr result (λ why. why ≢ NoAnswer.NoMemory) }
         ensures err { OnErr result (self.new ≡ self.old) }
     {
         let place = self.to_open(ticket)?;
@@ -290,6 +302,7 @@ impl Host {
         ensures ok { OnOk result (AnswersRow Breaking self.old ticket self.new) }
         ensures why { IfErr result (λ why. IsRefused self.old ticket why) }
         ensures unfit { IfErr result (λ why. UnfitOnlyIf (¬ AsksRow self.old ticket) why) }
+        ensures memory { IfErr result (λ why. why ≢ NoAnswer.NoMemory) }
         ensures err { OnErr result (self.new ≡ self.old) }
     {
         let place = self.row_of(ticket)?;
@@ -317,6 +330,7 @@ impl Host {
         ensures opened { IfOk result (λ place. IsOpenAt place self.now.requests) }
         ensures why { IfErr result (λ why. IsRefused self.now ticket why) }
         ensures unfit { IfErr result (λ why. UnfitOnlyIf (¬ AsksRow self.now ticket) why) }
+        ensures memory { IfErr result (λ why. why ≢ NoAnswer.NoMemory) }
     {
         let asked = self.find(ticket)?;
         let Asked::Row { request } = asked.of else {
@@ -336,6 +350,7 @@ impl Host {
         ensures shut { IfOk result (λ place. IsShutAt place self.now.requests) }
         ensures why { IfErr result (λ why. IsRefused self.now ticket why) }
         ensures unfit { IfErr result (λ why. UnfitOnlyIf (¬ AsksPlan self.now ticket) why) }
+        ensures memory { IfErr result (λ why. why ≢ NoAnswer.NoMemory) }
     {
         let asked = self.find(ticket)?;
         let Asked::Open { request } = asked.of else {
