@@ -1,12 +1,18 @@
 -- What a process orders, where there is a place for a ticket.
-use Rattle.std.proofs.Common.{◌≡◌, ℕ, ◌∙◌, true, ap, sym, subst}
+use Rattle.std.proofs.Common.{◌≡◌, ℕ, ◌∙◌, Bool, List, Some, true, ap, get_or, length, refl, set, sym, subst}
+use Rattle.std.specs.Prelude.{slice_get}
+use Rattle.std.proofs.lemmas.Option.{get_or_from_slice_get}
 use Rattle.cf_turn.specs.declared.turn.Turn.{Turn}
 use Rattle.cf_turn.specs.declared.turn.Turn.TheVariants.{Tell as TellTurn, Show as ShowTurn, Stop as StopTurn, Call as CallTurn, Ask as AskTurn}
 use Rattle.cf_host.specs.declared.order.Order.{Order}
 use Rattle.cf_host.specs.declared.order.Order.TheVariants.{Beats, News as LooksFor, Open, Row, Call, Stop, Show, Tell, Sleep}
 use Rattle.cf_host.specs.declared.ticket.Asked.TheVariants.{Beats as OfBeats, News as OfNews, Open as OfOpen, Row as OfRow, Call as OfCall}
-use Rattle.cf_host.specs.Hosts.{Host, Orders, OrdersTurn, WorksOn}
-use Rattle.cf_host.specs.Tickets.{AreSame, Shuts, Tickets}
+use Rattle.cf_host.specs.declared.request.Request.{Request}
+use Rattle.cf_host.specs.declared.ticket.Ticket.{Ticket}
+use Rattle.cf_turn.specs.Turns.{moment_of}
+use Rattle.cf_host.specs.Hosts.{AsksOpen, BeatsAreDue, FirstTurns, Host, IsToOpen, IsToOpenAt, MayClaim, NoLookIsDue, NoneToOpen, Orders, OrdersTurn, WorksOn, moment_in}
+use Rattle.cf_host.specs.Pulses.{clock_of}
+use Rattle.cf_host.specs.Tickets.{AreSame, Opens, Shuts, Tickets}
 use Rattle.cf_host.proofs.Placed.{opens_ready, ready}
 
 turn_ready : (now request : ℕ) (t : Turn) (order : Order) (old new : Tickets) → OrdersTurn now request t order (record old { is_ready = true }) new → OrdersTurn now request t order old new
@@ -19,6 +25,9 @@ turn_ready now request (AskTurn q) order old new (number, is, o) = (number, is, 
 works_ready : (old : Host) (now : ℕ) (order : Order) (new : Host) → WorksOn (ready old) now order new → WorksOn old now order new
 works_ready old now order new w =
     record {
+      beats = λ due. w.beats (record { free = due.free; due = due.due });
+      news = w.news;
+      opens = w.opens;
       may_claim = w.may_claim;
       may = record { busy = w.may.busy; are = w.may.are; is = w.may.is };
       request = w.request;
@@ -32,10 +41,20 @@ pub orders_ready : (old : Host) (now : ℕ) (order : Order) (new : Host) → Ord
 orders_ready old now (Beats number) new o =
     record { due = record { free = o.due.free; due = o.due.due }; opens = opens_ready OfBeats now number old.tickets new.tickets o.opens; rest = o.rest }
 orders_ready old now (LooksFor number look) new o =
-    record { free = o.free; due = o.due; is = o.is; opens = opens_ready OfNews now number old.tickets new.tickets o.opens; rest = o.rest }
+    record {
+      beats = λ due. o.beats (record { free = due.free; due = due.due });
+      free = o.free;
+      due = o.due;
+      is = o.is;
+      opens = opens_ready OfNews now number old.tickets new.tickets o.opens;
+      rest = o.rest;
+    }
 orders_ready old now (Open number request) new o =
     record {
+      beats = λ due. o.beats (record { free = due.free; due = due.due });
+      news = o.news;
       place = o.place;
+      first = o.first;
       before = o.before;
       there = o.there;
       named = o.named;
@@ -77,3 +96,49 @@ pub turns_ready : (old view mid new : Host) (tickets : Tickets) (now : ℕ) (ord
 turns_ready old view mid new tickets now order is has mid_is o =
     let all : mid ≡ ready view = mid_is ∙ ap (λ (t : Tickets). record view { tickets = t }) has in
     subst (λ (h : Host). Orders h now order new) is (orders_ready view now order new (subst (λ (h : Host). Orders h now order new) all o))
+
+-- ---- where nothing else is due
+
+pub opens_first : (old view new : Host) (now place : ℕ) (x y : Request) (ticket : Ticket) (requests : List Request) → view ≡ old → ¬ BeatsAreDue old now → NoLookIsDue old now →
+    requests ≡ view.requests → IsToOpenAt now place requests → NoneToOpen now place requests → x ≡ get_or view.requests place x → y ≡ get_or view.requests place y →
+    Opens ticket view.tickets new.tickets → ticket.of ≡ OfOpen x.number → ticket.asked ≡ now →
+    new ≡ record view { tickets = new.tickets; requests = set view.requests place (record y { is_asked = true }) } → AsksOpen old now ticket.number x.number new
+opens_first old view new now place x y ticket requests is beats news all to_open first at_x at_y opens of asked rest =
+    let there = subst (λ (l : List Request). slice_get l place ≡ Some to_open.0) all to_open.1 in
+    let same_x : x ≡ to_open.0 = at_x ∙ get_or_from_slice_get view.requests place to_open.0 x there in
+    let same_y : y ≡ to_open.0 = at_y ∙ get_or_from_slice_get view.requests place to_open.0 y there in
+    subst (λ (h : Host). AsksOpen h now ticket.number x.number new) is
+    (record {
+      beats = subst (λ (h : Host). ¬ BeatsAreDue h now) (sym is) beats;
+      news = subst (λ (h : Host). NoLookIsDue h now) (sym is) news;
+      place = place;
+      first = subst (λ (l : List Request). NoneToOpen now place l) all first;
+      before = y;
+      there = there ∙ ap (λ (r : Request). Some r) (sym same_y);
+      named = ap (λ (r : Request). r.number) (same_y ∙ sym same_x);
+      due = subst (λ (r : Request). IsToOpen now r) (sym same_y) to_open.2;
+      opens = record { ticket = ticket; opens = opens; is = of; asked = asked; named = refl };
+      rest = rest;
+    })
+
+pub works_first : (old view new : Host) (now clock request : ℕ) (order : Order) (t : Turn) (may_claim : Bool) (requests after : List Request) → view ≡ old → ¬ BeatsAreDue old now →
+    NoLookIsDue old now → NoneToOpen now (length old.requests) old.requests → MayClaim old may_claim → clock ≡ clock_of view.pulse.reading → requests ≡ view.requests → new.requests ≡ after →
+    FirstTurns (moment_of now view.watch clock may_claim) requests request t after → OrdersTurn now request t order view.tickets new.tickets →
+    new ≡ record view { tickets = new.tickets; requests = new.requests } → Orders old now order new
+works_first old view new now clock request order t may_claim requests after is beats news opens may clock_is all written turns orders rest =
+    let by_after = subst (FirstTurns (moment_of now view.watch clock may_claim) requests request t) (sym written) turns in
+    let by_clock = subst (λ (c : ℕ). FirstTurns (moment_of now view.watch c may_claim) requests request t new.requests) clock_is by_after in
+    let of_view = subst (λ (l : List Request). FirstTurns (moment_in view now may_claim) l request t new.requests) all by_clock in
+    works_order old now order new
+    (record {
+      beats = beats;
+      news = news;
+      opens = opens;
+      may_claim = may_claim;
+      may = may;
+      request = request;
+      turn = t;
+      turns = subst (λ (h : Host). FirstTurns (moment_in h now may_claim) h.requests request t new.requests) is of_view;
+      orders = subst (λ (h : Host). OrdersTurn now request t order h.tickets new.tickets) is orders;
+      rest = subst (λ (h : Host). new ≡ record h { tickets = new.tickets; requests = new.requests }) is rest;
+    })

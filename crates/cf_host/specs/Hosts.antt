@@ -80,6 +80,10 @@ pub record BeatsAreDue (h : Host) (now : ℕ) : Type 0 where
   pub free : h.pulse.is_asked ≡ false
   pub due : beats_at_in h ≤ now
 
+-- a look is open, or isn't due
+abbrev pub NoLookIsDue : Host → ℕ → Type 0
+NoLookIsDue h now = (h.news.asked ≢ None) ⊎ (now < h.news.due)
+
 -- a request is to be opened
 pub record IsToOpen (now : ℕ) (r : Request) : Type 0 where
   pub work : r.work ≡ None
@@ -153,8 +157,11 @@ OrdersTurn now request (CallTurn i function args) order old new =
     (number : ℕ) × (order ≡ Call number request i function args) × OpensOf (OfCall request i) now number old new
 OrdersTurn now request (AskTurn q) order old new = (number : ℕ) × (order ≡ Row number request q) × OpensOf (OfRow request) now number old new
 
--- the first work that has a turn has it
+-- nothing else is due, and the first work that has a turn has it
 pub record WorksOn (old : Host) (now : ℕ) (order : Order) (new : Host) : Type 0 where
+  pub beats : ¬ BeatsAreDue old now
+  pub news : NoLookIsDue old now
+  pub opens : NoneToOpen now (length old.requests) old.requests
   pub may_claim : Bool
   pub may : MayClaim old may_claim
   pub request : ℕ
@@ -177,15 +184,21 @@ pub record AsksBeats (old : Host) (now number : ℕ) (new : Host) : Type 0 where
   pub opens : OpensOf OfBeats now number old.tickets new.tickets
   pub rest : new ≡ record old { tickets = new.tickets; pulse = beats_asked now old.lease old.pulse }
 
+-- no beats are due, but a look is
 pub record AsksNews (old : Host) (now number : ℕ) (look : Look) (new : Host) : Type 0 where
+  pub beats : ¬ BeatsAreDue old now
   pub free : old.news.asked ≡ None
   pub due : old.news.due ≤ now
   pub is : look ≡ look_of old.news.is_whole_due old.news.mark
   pub opens : OpensOf OfNews now number old.tickets new.tickets
   pub rest : new ≡ record old { tickets = new.tickets; news = asked_by old.news }
 
+-- no beats and no look are due, and this is the first request that is to be opened
 pub record AsksOpen (old : Host) (now number request : ℕ) (new : Host) : Type 0 where
+  pub beats : ¬ BeatsAreDue old now
+  pub news : NoLookIsDue old now
   pub place : ℕ
+  pub first : NoneToOpen now place old.requests
   pub before : Request
   pub there : slice_get old.requests place ≡ Some before
   pub named : before.number ≡ request
@@ -197,7 +210,7 @@ pub record AsksOpen (old : Host) (now number request : ℕ) (new : Host) : Type 
 -- the moment up to which it sleeps.
 pub record Sleeps (old : Host) (now until : ℕ) (new : Host) : Type 0 where
   pub beats : ¬ BeatsAreDue old now
-  pub news : (old.news.asked ≢ None) ⊎ (now < old.news.due)
+  pub news : NoLookIsDue old now
   pub opens : NoneToOpen now (length old.requests) old.requests
   pub may_claim : Bool
   pub may : MayClaim old may_claim

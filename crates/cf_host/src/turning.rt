@@ -1,6 +1,6 @@
 //! What a process does next.
-ghost use Rattle.std.specs.Prelude.{◌≡◌, ◌<◌, ◌⊎◌, ◌≢◌, ◌&&◌, IfNone, IfOk, IfSome, None, OnErr, length, nat_lt, not, true};
-ghost use Rattle.cf_host.specs.Hosts.{AllRest, AsksBeats, AsksNews, AsksOpen, BeatsAreDue, FirstTurns, IsToOpen, IsToOpenAt, MayClaim, NoneToOpen, Orders, OrdersTurn, RestsIn, WorksNothing, beats_at_in, until_of};
+ghost use Rattle.std.specs.Prelude.{◌≡◌, ◌<◌, ◌&&◌, IfNone, IfOk, IfSome, OnErr, length, nat_lt, not, true};
+ghost use Rattle.cf_host.specs.Hosts.{AllRest, AsksBeats, AsksNews, AsksOpen, BeatsAreDue, FirstTurns, IsToOpen, IsToOpenAt, MayClaim, NoLookIsDue, NoneToOpen, Orders, OrdersTurn, RestsIn, WorksNothing, beats_at_in, until_of};
 ghost use Rattle.std.specs.Bool.{OnFalse, OnTrue};
 ghost use Rattle.cf_host.specs.Requests.{OnWork};
 ghost use Rattle.cf_turn.specs.Turns.{Turns, moment_of};
@@ -83,9 +83,10 @@ impl Host {
 
     /// Looks what is new, where that is due.
     fn look(&mut self, now: u64) -> Option<Order>
-        requires { self.old.tickets.is_ready ≡ true }
+        requires ready { self.old.tickets.is_ready ≡ true }
+        requires beats { ¬ BeatsAreDue self.old now }
         ensures orders { IfSome result (λ order. Orders self.old now order self.new) }
-        ensures none { IfNone result ((self.old.news.asked ≢ None) ⊎ (now < self.old.news.due)) }
+        ensures none { IfNone result (NoLookIsDue self.old now) }
         ensures unchanged { IfNone result (self.new ≡ self.old) }
     {
         let look = self.news.question(now)?;
@@ -98,7 +99,9 @@ impl Host {
 
     /// Opens the first request that is to be opened.
     fn open(&mut self, now: u64) -> Option<Order>
-        requires { self.old.tickets.is_ready ≡ true }
+        requires ready { self.old.tickets.is_ready ≡ true }
+        requires beats { ¬ BeatsAreDue self.old now }
+        requires news { NoLookIsDue self.old now }
         ensures orders { IfSome result (λ order. Orders self.old now order self.new) }
         ensures none { IfNone result (NoneToOpen now (length self.old.requests) self.old.requests) }
         ensures unchanged { IfNone result (self.new ≡ self.old) }
@@ -115,7 +118,10 @@ impl Host {
 
     /// Does what the first work has to do that has anything to do.
     fn work(&mut self, now: u64) -> Option<Order>
-        requires { self.old.tickets.is_ready ≡ true }
+        requires ready { self.old.tickets.is_ready ≡ true }
+        requires beats { ¬ BeatsAreDue self.old now }
+        requires news { NoLookIsDue self.old now }
+        requires opens { NoneToOpen now (length self.old.requests) self.old.requests }
         ensures orders { IfSome result (λ order. Orders self.old now order self.new) }
         ensures none { IfNone result (WorksNothing self.old now self.new) }
     {
@@ -162,6 +168,7 @@ fn may_claim(is_stopping: bool, free: usize) -> bool
 /// The place of the first request that is to be opened.
 fn next_to_open(requests: &[Request], now: u64) -> Option<usize>
     ensures is { IfSome result (λ place. IsToOpenAt now place requests.now) }
+    ensures first { IfSome result (λ place. NoneToOpen now place requests.now) }
     ensures there { IfSome result (λ place. place < length requests.now) }
     ensures none { IfNone result (NoneToOpen now (length requests.now) requests.now) }
 {
