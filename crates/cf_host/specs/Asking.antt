@@ -1,5 +1,5 @@
 -- What users call.
-use Rattle.std.specs.Prelude.{◌≡◌, ℕ, ◌<◌, Bool, List, [], ◌∷◌, ◌++◌, length, slice_set}
+use Rattle.std.specs.Prelude.{◌≡◌, ℕ, ◌-◌, ◌<◌, Bool, List, [], ◌∷◌, ◌++◌, length, slice_set}
 use Rattle.cf_due.specs.Acts.{IsFitting}
 use Rattle.cf_due.specs.declared.acts.Act.{Act}
 use Rattle.cf_notes.specs.declared.wants.EndsWith.{EndsWith}
@@ -12,11 +12,11 @@ use Rattle.cf_host.specs.declared.request.Request.{Request}
 
 -- a user asks for an act, and waits until a moment
 abbrev pub Asking : ℕ → Act → ℕ → Work → Work → Type 0
-Asking number act until old new = new ≡ record old { wishes = old.wishes ++ wish_of number act until ∷ [] }
+Asking number act until old new = new ≡ record old { wishes = old.wishes ++ wish_of number act until ∷ []; free = old.free - 1 }
 
 -- one ends the request
 abbrev pub Ending : ℕ → ℕ → Work → Work → Type 0
-Ending number until old new = new ≡ record old { ends = old.ends ++ (record { number = number; until = until }) ∷ [] }
+Ending number until old new = new ≡ record old { ends = old.ends ++ (record { number = number; until = until }) ∷ []; free = old.free - 1 }
 
 -- somebody waits for a stage that is there, or nobody does any more
 pub record Wanting (stage : ℕ) (is_wanted : Bool) (old new : Work) : Type 0 where

@@ -317,7 +317,9 @@ fn told_in(call: Move) -> Option<(u64, Option<Turn>)> {
 /// Makes a call that is no turn. It says whether it may be made, and is answered so.
 fn is_made(work: &mut Work, call: Move) -> bool {
     match call {
-        Acts(act) => act.fits() && work.asks(NUMBER, act, UNTIL).is_ok(),
+        Acts(act) => {
+            act.fits() && work.reserve(1).is_ok() && work.asks(NUMBER, act, UNTIL).is_ok()
+        }
         Ends => work.ends(NUMBER, UNTIL).is_ok(),
         Reads => reads(work),
         Stands | Refuses(_) | Meets(..) => is_put_answered(work, call),

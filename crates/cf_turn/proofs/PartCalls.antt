@@ -15,7 +15,7 @@ use Rattle.cf_turn.specs.Works.{Work}
 use Rattle.cf_turn.specs.Turns.{Decides, Goes, IsPutOff, Moment, Puts, Rests, RestsBy, RestsWith, Turns, wants_of}
 use Rattle.cf_turn.specs.Answers.{RefusesPart}
 use Rattle.cf_turn.specs.Rows.{IsCall, WorksArePartsCalls, called_by, stopped_by}
-use Rattle.cf_turn.specs.Rows.IsCall.{turns, rests, asks, ends, wants, hears, finishes, reads, misreads, lands, meets, mismeets, waits, refuses, closes, breaks}
+use Rattle.cf_turn.specs.Rows.IsCall.{turns, rests, finds, asks, ends, wants, hears, finishes, reads, misreads, lands, meets, mismeets, waits, refuses, closes, breaks}
 
 -- ---- rows of the part's calls
 
@@ -115,6 +115,7 @@ refuses_part false old new now h = part_refuses now refl h
 makes : (old new : Work) (out : Option Turn) → IsCall old out new → MakesCalls old.part out new.part
 makes old new out (turns at t is h) = subst (λ (o : Option Turn). MakesCalls old.part o new.part) (sym is) (makes_turn old new at t h)
 makes old new out (rests at is h) = makes_rest old new at out is h
+makes old new out (finds more is h) = makes_none old.part new.part out is (ap (λ (w : Work). w.part) h)
 makes old new out (asks number act until is h) = makes_none old.part new.part out is (ap (λ (w : Work). w.part) h)
 makes old new out (ends end is h) = makes_none old.part new.part out is (ap (λ (w : Work). w.part) h)
 makes old new out (wants i is_wanted is h) = makes_one old.part new.part out is (part_wants i is_wanted refl (ap (λ (w : Work). w.part) h))

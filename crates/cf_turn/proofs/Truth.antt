@@ -1,5 +1,5 @@
 -- Behind any calls, what is told of acts is so.
-use Rattle.std.proofs.Common.{◌≡◌, ℕ, zero, suc, ◌<◌, ◌⊎◌, inl, inr, Bool, true, false, cond, nat_lt, Option, Some, None, List, [], ◌∷◌, ◌++◌, Contains, length, refl, ap, sym, ◌∙◌, subst, append_assoc, arith}
+use Rattle.std.proofs.Common.{◌≡◌, ℕ, zero, suc, ◌-◌, ◌<◌, ◌⊎◌, inl, inr, Bool, true, false, cond, nat_lt, Option, Some, None, List, [], ◌∷◌, ◌++◌, Contains, length, refl, ap, sym, ◌∙◌, subst, append_assoc, arith}
 use Rattle.std.specs.Prelude.{◌&&◌, slice_get}
 use Rattle.std.specs.List.{remove}
 use Rattle.cf_ledger.specs.declared.faults.LedgerFault.{LedgerFault}
@@ -31,7 +31,7 @@ use Rattle.cf_turn.specs.Works.{Work, ended_by, is_closed_in, new_work, told_by,
 use Rattle.cf_turn.specs.Turns.{Decides, DoesAct, Goes, IsPutOff, Moment, Puts, Rests, RestsBy, RestsWith, TakesStep, Turns, is_of_act, putting_for, putting_of}
 use Rattle.cf_turn.specs.Answers.{LandsWork, MeetsWork, RefusesPart, refused, wishes_standing}
 use Rattle.cf_turn.specs.Rows.{AreCalls, IsCall}
-use Rattle.cf_turn.specs.Rows.IsCall.{turns, rests, asks, ends, wants, hears, finishes, reads, misreads, lands, meets, mismeets, waits, refuses, closes, breaks}
+use Rattle.cf_turn.specs.Rows.IsCall.{turns, rests, finds, asks, ends, wants, hears, finishes, reads, misreads, lands, meets, mismeets, waits, refuses, closes, breaks}
 use Rattle.cf_turn.specs.Truth.{ActsAreToldTruly, AreCallsWhile, IsSo, IsSoOfEnd, IsSoOfWish, KeepsPut}
 use Rattle.cf_turn.proofs.PartCalls.{works_are_parts}
 use Rattle.cf_turn.proofs.Standing.{ActsFirst, AreSo, IsSoKept, begins_front, has_put, so_append, so_at, so_refused, so_remove, so_standing, stands_behind, stands_once}
@@ -195,7 +195,7 @@ keeps_rest row old new at k h = by_rests h.rests
 
 -- ---- answers
 
-keeps_asks : (row : List Entry) (old new : Work) (w : Wish) → w.answer ≡ None → new ≡ (record old { wishes = old.wishes ++ w ∷ [] }) → Keeps row old → Keeps row new
+keeps_asks : (row : List Entry) (old new : Work) (w : Wish) → w.answer ≡ None → new ≡ (record old { wishes = old.wishes ++ w ∷ []; free = old.free - 1 }) → Keeps row old → Keeps row new
 keeps_asks row old new w none is k = subst (λ (v : Work). Keeps row v) (sym is) (record {
   so = so_append row old.wishes (w ∷ []) k.so (subst (λ (o : Option Told). IsSoKept row w.act o) (sym none) tt, tt);
   first = λ on. let h = k.first on in record {
@@ -320,6 +320,7 @@ meets_any row old new entries notes landed false is k put begins h =
 keeps : (row : List Entry) (old new : Work) (out : Option Turn) → Keeps row old → (old.is_acting ≡ true → KeepsPut row old) → BeginsWith row new.part.row.replica.seen → IsCall old out new → Keeps row new
 keeps row old new out k put begins (turns at t is h) = keeps_turn row old new at t k h
 keeps row old new out k put begins (rests at is h) = keeps_rest row old new at k h
+keeps row old new out k put begins (finds more is h) = keeps_row row old new (ap (λ (w : Work). w.wishes) h) (ap (λ (w : Work). w.is_acting) h) (ap (λ (w : Work). w.part.row) h) k
 keeps row old new out k put begins (asks number act until is h) = keeps_asks row old new (wish_of number act until) refl h k
 keeps row old new out k put begins (ends end is h) = keeps_row row old new (ap (λ (w : Work). w.wishes) h) (ap (λ (w : Work). w.is_acting) h) (ap (λ (w : Work). w.part.row) h) k
 keeps row old new out k put begins (wants i is_wanted is h) = keeps_row row old new (ap (λ (w : Work). w.wishes) h) (ap (λ (w : Work). w.is_acting) h) (ap (λ (w : Work). w.part.row) h) k

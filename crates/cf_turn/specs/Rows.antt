@@ -1,5 +1,5 @@
 -- Rows of a work's calls, and what may be concluded from any of them.
-use Rattle.std.specs.Prelude.{◌≡◌, ◌≢◌, ℕ, Bool, false, max, Option, Some, None, List, [], ◌∷◌, ◌++◌, All, slice_set}
+use Rattle.std.specs.Prelude.{◌≡◌, ◌≢◌, ℕ, ◌-◌, Bool, false, max, Option, Some, None, List, [], ◌∷◌, ◌++◌, All, slice_set}
 use Rattle.cf_forms.specs.Plans.{Planned}
 use Rattle.cf_ledger.specs.declared.faults.Misfit.{Misfit}
 use Rattle.cf_row.specs.declared.entry.Entry.{Entry}
@@ -26,8 +26,9 @@ IsFreed old new = new ≡ record old { part = new.part; is_acting = false }
 pub data IsCall (old : Work) (out : Option Turn) (new : Work) : Type 0 where
   turns : (at : Moment) (t : Turn) → out ≡ Some t → Turns old at t new → IsCall old out new
   rests : (at : Moment) → out ≡ None → Rests old at new → IsCall old out new
-  asks : (number : ℕ) (act : Act) (until : ℕ) → out ≡ None → new ≡ record old { wishes = old.wishes ++ wish_of number act until ∷ [] } → IsCall old out new
-  ends : (end : End) → out ≡ None → new ≡ record old { ends = old.ends ++ end ∷ [] } → IsCall old out new
+  finds : (more : ℕ) → out ≡ None → new ≡ record old { free = max old.free more } → IsCall old out new
+  asks : (number : ℕ) (act : Act) (until : ℕ) → out ≡ None → new ≡ record old { wishes = old.wishes ++ wish_of number act until ∷ []; free = old.free - 1 } → IsCall old out new
+  ends : (end : End) → out ≡ None → new ≡ record old { ends = old.ends ++ end ∷ []; free = old.free - 1 } → IsCall old out new
   wants : (i : ℕ) (is_wanted : Bool) → out ≡ None → new ≡ record old { part = record old.part { wanted = slice_set old.part.wanted i is_wanted } } → IsCall old out new
   hears : (words : ℕ) → out ≡ None → new ≡ record old { part = record old.part { words = max old.part.words words } } → IsCall old out new
   finishes : (i : ℕ) (answer : EndsWith) → out ≡ None → IsRunning old.part i → Ends old.part i answer new.part → (new ≡ record old { part = new.part }) → IsCall old out new

@@ -11,18 +11,28 @@ use Rattle.cf_turn.specs.declared.wish.Told.{Told}
 use Rattle.cf_turn.specs.declared.wish.Told.TheVariants.{Unknown, Closed, Ended}
 use Rattle.cf_turn.specs.declared.wish.Wish.{Wish}
 
--- What a contract sees: the part; the acts that users wait for, and those who end the request, in their order; whether the put that is
--- under way is that of the first act, and whether an answer to it is missing; and with how many entries the request was closed last.
+-- The users: the acts that they wait for, and those who end the request, in their order; and for how many users more places were found.
+pub record Users : Type 0 where
+  pub wishes : List Wish
+  pub ends : List End
+  pub free : ℕ
+
+abbrev pub no_users : Users
+no_users = record { wishes = []; ends = []; free = 0 }
+
+-- What a contract sees: the part; the users; whether the put that is under way is that of the first act, and whether an answer to it is
+-- missing; and with how many entries the request was closed last.
 pub record Work : Type 0 where
   pub part : Part
   pub wishes : List Wish
   pub ends : List End
+  pub free : ℕ
   pub is_acting : Bool
   pub is_doubtful : Bool
   pub closed_at : Option ℕ
 
 abbrev pub new_work : Part → Work
-new_work part = record { part = part; wishes = []; ends = []; is_acting = false; is_doubtful = false; closed_at = None }
+new_work part = record { part = part; wishes = []; ends = []; free = 0; is_acting = false; is_doubtful = false; closed_at = None }
 
 -- an act that nobody has answered
 abbrev pub wish_of : ℕ → Act → ℕ → Wish

@@ -1,8 +1,10 @@
 //! Whether nothing is left to do in a request.
+ghost use Rattle.std.specs.Prelude.{◌≡◌};
 ghost use Rattle.std.specs.Bool.{OnFalse, OnTrue};
 ghost use Rattle.cf_row.specs.Rows.{stages_of};
 ghost use Rattle.cf_due.specs.Abandoning.{IsOtherGone};
 ghost use Rattle.cf_turn.specs.Closing.{AllSettled, IsDone, NobodyAtWork};
+ghost use Rattle.cf_turn.specs.Works.{is_at};
 
 use cf_part::Part;
 use cf_row::laws::claims_are_one_sessions;
@@ -58,4 +60,14 @@ fn is_left(view: &Replica, watch: &Watch, claim: Claim) -> bool
     ensures stays { OnFalse result (¬ IsOtherGone view.now watch.now claim.session) }
 {
     claim.session != view.session() && watch.is_gone(claim.session)
+}
+
+/// Whether a request was closed with just so many entries.
+pub(crate) fn is_at(closed_at: Option<usize>, seen: usize) -> bool
+    ensures { result ≡ is_at closed_at seen }
+{
+    match closed_at {
+        Some(at) => at == seen,
+        None => false,
+    }
 }

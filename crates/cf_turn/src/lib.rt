@@ -9,12 +9,11 @@
 #![tactic(auto)]
 
 mod acting;
-mod acts;
 mod closing;
-mod ends;
 pub mod laws;
 mod planning;
 mod turn;
+mod users;
 mod wish;
 mod work;
 

@@ -1,5 +1,5 @@
 //! What a process has to do in one request.
-ghost use Rattle.std.specs.Prelude.{◌≡◌, ◌<◌, ◌≤◌, ◌&&◌, [], ◌∷◌, ◌++◌, IfErr, IfNone, IfOk, IfSome, None, OnErr, OnOk, Some, false, length, max, nat_lt, slice_get, slice_set, true};
+ghost use Rattle.std.specs.Prelude.{◌≡◌, ◌-◌, ◌<◌, ◌≤◌, ◌&&◌, [], ◌∷◌, ◌++◌, IfErr, IfNone, IfOk, IfSome, None, OnErr, OnOk, Some, false, length, max, nat_lt, slice_get, slice_set, true};
 ghost use Rattle.std.specs.Bool.{OnFalse, OnTrue};
 ghost use Rattle.cf_due.specs.Acts.{IsFitting};
 ghost use Rattle.cf_part.specs.Answers.{Breaks, Ends, IsRunning, Misreads, PlansWords, Reads};
@@ -12,11 +12,10 @@ ghost use Rattle.cf_turn.specs.Turns.{ActIsPutOff, ActsOn, DoesDue, IsPutOff, Pu
 ghost use Rattle.cf_turn.specs.Works.{NoEndTold, NobodyIsTold, NoneTold, is_closed_in, new_work, wish_of};
 
 use crate::acting::stage_of;
-use crate::acts::{Acts, Place};
-use crate::closing::is_done;
-use crate::ends::{end_to_tell, is_at};
+use crate::closing::{is_at, is_done};
 use crate::planning::{Putting, putting_for, putting_of};
 use crate::turn::Turn;
+use crate::users::{Place, Users};
 use crate::wish::{End, Told, Wish};
 use cf_due::{Act, act_on, next_due};
 use cf_notes::{Note, function_of};
@@ -29,8 +28,7 @@ use std::marker::Model;
 #[derive(Drop)]
 pub struct Work {
     part: Part,
-    acts: Acts,
-    ends: Vec<End>,
+    users: Users,
     is_acting: bool,
     is_doubtful: bool,
     closed_at: Option<usize>,
@@ -43,8 +41,9 @@ impl Model for Work {
 
     ghost view = { λ w. record {
       part = w.part;
-      wishes = w.acts;
-      ends = w.ends.items;
+      wishes = w.users.wishes;
+      ends = w.users.ends;
+      free = w.users.free;
       is_acting = w.is_acting;
       is_doubtful = w.is_doubtful;
       closed_at = w.closed_at;
@@ -58,8 +57,7 @@ impl Work {
     {
         Work {
             part,
-            acts: Acts::new(alloc),
-            ends: Vec::new(alloc),
+            users: Users::new(alloc),
             is_acting: false,
             is_doubtful: false,
             closed_at: None,
@@ -73,15 +71,28 @@ impl Work {
         &self.part
     }
 
-    /// A user asks for an act, and waits for it until a moment. It fails only where there is no memory, and then changes
-    /// nothing.
+    /// Finds places for so many users more who ask for an act or end the request. It fails only where there is no memory,
+    /// and then changes nothing. While some are left, none is refused for want of memory.
+    pub fn reserve(&mut self, more: usize) -> Result<(), AllocError>
+        ensures found { OnOk result (self.new ≡ record self.old { free = max self.old.free more }) }
+        ensures refused { OnErr result (self.new ≡ self.old) }
+        ensures short { OnErr result (self.old.free < more) }
+    {
+        self.users.reserve(more)
+    }
+
+    /// A user asks for an act, and waits for it until a moment. It fails only where there is no memory and no place was
+    /// found before, and then changes nothing.
     pub fn asks(&mut self, number: u64, act: Act, until: u64) -> Result<(), AllocError>
         requires { IsFitting act }
-        ensures ok { OnOk result
-            (self.new ≡ record self.old { wishes = self.old.wishes ++ wish_of number act until ∷ [] }) }
-        ensures err { OnErr result (self.new ≡ self.old) }
+        ensures ok { OnOk result (self.new ≡ record self.old {
+          wishes = self.old.wishes ++ wish_of number act until ∷ [];
+          free = self.old.free - 1;
+        }) }
+        ensures refused { OnErr result (self.new ≡ self.old) }
+        ensures short { OnErr result (self.old.free ≡ 0) }
     {
-        self.acts.add(Wish {
+        self.users.add_act(Wish {
             number,
             act,
             until,
@@ -90,16 +101,16 @@ impl Work {
     }
 
     /// A user ends the request, and waits for that until a moment. It is closed once nothing is due in it. It fails only
-    /// where there is no memory, and then changes nothing.
+    /// where there is no memory and no place was found before, and then changes nothing.
     pub fn ends(&mut self, number: u64, until: u64) -> Result<(), AllocError>
         ensures ok { OnOk result (self.new ≡ record self.old {
           ends = self.old.ends ++ (record { number = number; until = until }) ∷ [];
+          free = self.old.free - 1;
         }) }
-        ensures err { OnErr result (self.new ≡ self.old) }
+        ensures refused { OnErr result (self.new ≡ self.old) }
+        ensures short { OnErr result (self.old.free ≡ 0) }
     {
-        self.ends.reserve(1)?;
-        self.ends.push_reserved(End { number, until });
-        Ok(())
+        self.users.add_end(End { number, until })
     }
 
     /// Somebody waits for a stage.
@@ -161,7 +172,7 @@ impl Work {
             let question = self.part.question(now)?;
             return Some(Turn::Ask(question));
         }
-        match self.acts.first() {
+        match self.users.first_act() {
             Some(wish) => self.act(now, wish),
             None => self.due(now, watch, clock, may_claim),
         }
@@ -185,8 +196,8 @@ impl Work {
         ensures unchanged { IfNone result (self.new ≡ self.old) }
         ensures none { IfNone result (NoneTold self.old.part.fault now (length self.old.wishes) self.old.wishes) }
     {
-        let place = self.acts.to_tell(self.part.fault(), now)?;
-        self.acts.remove(place.at);
+        let place = self.users.act_to_tell(self.part.fault(), now)?;
+        self.users.remove_act(place.at);
         self.is_acting = stays_first(self.is_acting, place.at);
         Some(place)
     }
@@ -199,8 +210,10 @@ impl Work {
             (length self.old.ends) self.old.ends) }
     {
         let is_closed = is_at(self.closed_at, self.part.view().seen().len());
-        let place = end_to_tell(&self.ends, self.part.fault(), is_closed, now)?;
-        self.ends.remove(place.at);
+        let place = self
+            .users
+            .end_to_tell(self.part.fault(), is_closed, now)?;
+        self.users.remove_end(place.at);
         Some(place)
     }
 
@@ -235,7 +248,7 @@ impl Work {
                 Some(Turn::Ask(question))
             }
             Err(why) => {
-                self.acts.remove(0);
+                self.users.remove_act(0);
                 Some(Turn::Tell {
                     number: wish.number,
                     told: Told::Not(why),
@@ -308,7 +321,7 @@ impl Work {
         if is_at(self.closed_at, self.part.view().seen().len()) {
             return false;
         }
-        !self.ends.is_empty() || is_done(&self.part, watch)
+        self.users.has_ends() || is_done(&self.part, watch)
     }
 
     /// A read was answered, as `Part::read` has it.
@@ -361,8 +374,8 @@ impl Work {
         ensures { Settles self.old landed stages self.new }
     {
         if landed && self.is_acting {
-            if let Some(wish) = self.acts.first() {
-                self.acts.answer(Told::Stands {
+            if let Some(wish) = self.users.first_act() {
+                self.users.answer_first(Told::Stands {
                     stage: stage_of(wish.act, stages),
                 });
             }
@@ -382,7 +395,7 @@ impl Work {
         }
         self.part.refused(now);
         if self.is_acting {
-            self.acts.answer(Told::Refused);
+            self.users.answer_first(Told::Refused);
         }
         self.is_acting = false;
     }
