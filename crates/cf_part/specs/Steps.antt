@@ -79,6 +79,15 @@ Tells old (Show i shown) new =
 Tells old (Stop i) new = (old.fault ≡ None) × IsToStop old.calls (state_in old) i × (new ≡ record old { calls = slice_set old.calls i Stopped })
 Tells old (Call i args) new = Calls old i args × (new ≡ record old { calls = slice_set old.calls i Runs })
 
+-- none goes before it: stages are shown first, then stopped, then called, and of each the lowest comes first
+abbrev pub ComesFirst : Part → Step → Type 0
+ComesFirst p (Show i shown) = NoneToShow p.wanted (is_some p.fault) (state_in p) i
+ComesFirst p (Stop i) = NoneToShow p.wanted (is_some p.fault) (state_in p) (length p.wanted) × NoneToStop p.calls (state_in p) i
+ComesFirst p (Call i args) =
+    NoneToShow p.wanted (is_some p.fault) (state_in p) (length p.wanted)
+    × NoneToStop p.calls (state_in p) (length p.calls)
+    × NoneToCall p.calls p.row.replica i
+
 -- nothing is to be told
 pub record NothingToTell (p : Part) : Type 0 where
   pub shown : NoneToShow p.wanted (is_some p.fault) (state_in p) (length p.wanted)

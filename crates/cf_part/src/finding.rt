@@ -17,12 +17,14 @@ use cf_ledger::Ledger;
 use cf_model::{Claimed, Event, Reply};
 use cf_row::Replica;
 
-/// The lowest stage that somebody waits for and that is settled; behind a fault, any that somebody waits for.
+/// The lowest stage that somebody waits for and that is settled; behind a fault, the lowest that somebody waits
+/// for.
 pub(crate) fn to_show(wanted: &[bool], is_broken: bool, ledger: &Ledger) -> Option<u16>
     requires few { length wanted.now ≤ 4096 }
     ensures is { IfSome result (λ i. IsToShow wanted.now is_broken (ledger_state ledger.now) i) }
     ensures there { IfSome result (λ i. i < length wanted.now) }
     ensures stage { IfSome result (λ i. (is_broken ≡ true) ⊎ (i < ledger_stages ledger.now)) }
+    ensures lowest { IfSome result (λ i. NoneToShow wanted.now is_broken (ledger_state ledger.now) i) }
     ensures none { IfNone result (NoneToShow wanted.now is_broken (ledger_state ledger.now) (length wanted.now)) }
 {
     for stage in 0..wanted.len() as u16 {
@@ -57,6 +59,7 @@ pub(crate) fn to_stop(calls: &[Progress], ledger: &Ledger) -> Option<u16>
     requires few { length calls.now ≤ 4096 }
     ensures is { IfSome result (λ i. IsToStop calls.now (ledger_state ledger.now) i) }
     ensures there { IfSome result (λ i. i < length calls.now) }
+    ensures lowest { IfSome result (λ i. NoneToStop calls.now (ledger_state ledger.now) i) }
     ensures none { IfNone result (NoneToStop calls.now (ledger_state ledger.now) (length calls.now)) }
 {
     for stage in 0..calls.len() as u16 {
@@ -84,6 +87,7 @@ pub(crate) fn to_call(calls: &[Progress], replica: &Replica) -> Option<u16>
     requires places { stages_of replica.now ≤ length calls.now }
     ensures is { IfSome result (λ i. IsToCall calls.now replica.now i) }
     ensures there { IfSome result (λ i. i < stages_of replica.now) }
+    ensures lowest { IfSome result (λ i. NoneToCall calls.now replica.now i) }
     ensures none { IfNone result (NoneToCall calls.now replica.now (stages_of replica.now)) }
 {
     let session = replica.session();

@@ -29,6 +29,7 @@ pub(crate) fn first_owed(
     requires few { length calls.now ≤ 4096 }
     ensures is { IfSome result (λ debt. OwesIn replica.now calls.now owed.now debt.stage debt.owed) }
     ensures above { IfSome result (λ debt. from ≤ debt.stage) }
+    ensures lowest { IfSome result (λ debt. OwesNone replica.now calls.now owed.now from debt.stage) }
     ensures none { IfNone result (OwesNone replica.now calls.now owed.now from (stages_of replica.now)) }
 {
     let mut next = from;

@@ -6,7 +6,7 @@ ghost use Rattle.cf_row.specs.Puts.{IsNoPut};
 ghost use Rattle.cf_row.specs.Rows.{stages_of};
 ghost use Rattle.cf_notes.specs.Noting.{AreNotes};
 ghost use Rattle.cf_part.specs.Parts.{IsClose, IsPut, IsRead, MayPlan, Owes, OwesNone, most_wants, opened, question_of, seen_by, words_wanted};
-ghost use Rattle.cf_part.specs.Steps.{NothingToTell, Tells};
+ghost use Rattle.cf_part.specs.Steps.{ComesFirst, NothingToTell, Tells};
 ghost use Rattle.cf_part.specs.Answers.{Breaks, Closes, Ends, IsRunning, Lands, Meets, Mismeets, Misreads, PlansWords, Reads, Refuses, Waits};
 
 use crate::finding::{args_for, is_running, shown, to_call, to_show, to_stop};
@@ -449,9 +449,11 @@ impl Part {
         });
     }
 
-    /// What the process has to do next, besides questions, if anything.
+    /// What the process has to do next, besides questions, if anything: the lowest stage is shown; or else the lowest is
+    /// stopped; or else the lowest is called.
     pub fn next(&mut self) -> Option<Step>
         ensures step { IfSome result (λ step. Tells self.old step self.new) }
+        ensures first { IfSome result (λ step. ComesFirst self.old step) }
         ensures unchanged { IfNone result (self.new ≡ self.old) }
         ensures none { IfNone result (NothingToTell self.old) }
     {
@@ -485,6 +487,8 @@ impl Part {
     pub fn owes(&self, from: u16) -> Option<Debt>
         ensures is { IfSome result (λ debt. Owes self.now debt.stage debt.owed) }
         ensures above { IfSome result (λ debt. from ≤ debt.stage) }
+        ensures lowest { IfSome result (λ debt. OwesNone self.now.row.replica self.now.calls self.now.owed
+            from debt.stage) }
         ensures none { IfNone result (OwesNone self.now.row.replica self.now.calls self.now.owed
             from (stages_of self.now.row.replica)) }
     {
