@@ -177,8 +177,8 @@ call_kept calls old out new k (acts now request number until act is a) =
     told_nothing calls out new.requests is (act_kept calls (λ n. Asking n act until) (λ n w v c. AsksOf n act until refl c) request now number old new k a)
 call_kept calls old out new k (ends now request number until is a) =
     told_nothing calls out new.requests is (act_kept calls (λ n. Ending n until) (λ n w v c. EndsOf (record { number = n; until = until }) refl c) request now number old new k a)
-call_kept calls old out new k (wants request stage is_wanted is a) =
-    told_nothing calls out new.requests is (user_kept calls (Wanting stage is_wanted) (λ w v c. WantsOf stage is_wanted refl c.rest) request old new k a)
+call_kept calls old out new k (wants request stage from is a) =
+    told_nothing calls out new.requests is (user_kept calls (Wanting stage from) (λ w v c. WantsOf stage from refl c.rest) request old new k a)
 call_kept calls old out new k (stirs due is e) = told_nothing calls out new.requests is (same_kept calls old new (ap (λ (h : Host). h.requests) e) k)
 call_kept calls old out new k (stops is e) = told_nothing calls out new.requests is (same_kept calls old new (ap (λ (h : Host). h.requests) e) k)
 call_kept calls old out new k (opens plan notes room number is_flow is a) =

@@ -1,5 +1,5 @@
 -- What users call.
-use Rattle.std.specs.Prelude.{◌≡◌, ℕ, ◌-◌, ◌<◌, Bool, List, [], ◌∷◌, ◌++◌, length, slice_set}
+use Rattle.std.specs.Prelude.{◌≡◌, ℕ, ◌-◌, ◌<◌, Option, List, [], ◌∷◌, ◌++◌, length, slice_set}
 use Rattle.cf_due.specs.Acts.{IsFitting}
 use Rattle.cf_due.specs.declared.acts.Act.{Act}
 use Rattle.cf_notes.specs.declared.wants.EndsWith.{EndsWith}
@@ -18,10 +18,10 @@ Asking number act until old new = new ≡ record old { wishes = old.wishes ++ wi
 abbrev pub Ending : ℕ → ℕ → Work → Work → Type 0
 Ending number until old new = new ≡ record old { ends = old.ends ++ (record { number = number; until = until }) ∷ []; free = old.free - 1 }
 
--- somebody waits for a stage that is there, or nobody does any more
-pub record Wanting (stage : ℕ) (is_wanted : Bool) (old new : Work) : Type 0 where
+-- somebody waits for a stage that is there, which is shown from a moment on; or nobody does any more
+pub record Wanting (stage : ℕ) (from : Option ℕ) (old new : Work) : Type 0 where
   pub there : stage < length old.part.wanted
-  pub rest : new ≡ record old { part = record old.part { wanted = slice_set old.part.wanted stage is_wanted } }
+  pub rest : new ≡ record old { part = record old.part { wanted = slice_set old.part.wanted stage from } }
 
 -- the function of a stage, which runs, has ended
 pub record CallEnding (stage : ℕ) (answer : EndsWith) (old new : Work) : Type 0 where

@@ -26,7 +26,7 @@ pub data IsCall (old : Host) (out : Option Order) (new : Host) : Type 0 where
   follows : (request : ℕ) → out ≡ None → FollowsIn request old new → IsCall old out new
   acts : (now request number until : ℕ) (act : Act) → out ≡ None → OnRequestFor (λ n. Asking n act until) request now number old new → IsCall old out new
   ends : (now request number until : ℕ) → out ≡ None → OnRequestFor (λ n. Ending n until) request now number old new → IsCall old out new
-  wants : (request stage : ℕ) (is_wanted : Bool) → out ≡ None → OnRequest (Wanting stage is_wanted) request old new → IsCall old out new
+  wants : (request stage : ℕ) (from : Option ℕ) → out ≡ None → OnRequest (Wanting stage from) request old new → IsCall old out new
   stirs : (due : ℕ) → out ≡ None → new ≡ record old { news = record old.news { due = due } } → IsCall old out new
   stops : out ≡ None → new ≡ record old { is_stopping = true } → IsCall old out new
   opens : (plan : Planned) (notes : List Note) (room number : ℕ) (is_flow : Bool) → out ≡ None →

@@ -1,5 +1,5 @@
 //! What users call of a request that is opened, and what functions come to.
-ghost use Rattle.std.specs.Prelude.{◌≡◌, ◌≢◌, ◌<◌, None, OnErr, OnOk, false, true};
+ghost use Rattle.std.specs.Prelude.{◌≡◌, ◌≢◌, ◌<◌, None, OnErr, OnOk, Some};
 ghost use Rattle.std.specs.Bool.{OnFalse, OnTrue};
 ghost use Rattle.cf_due.specs.Acts.{IsFitting};
 ghost use Rattle.cf_host.specs.Requests.{HasPlace, IsCalledIn, OnWork};
@@ -40,7 +40,7 @@ impl Request {
     /// Somebody waits for a stage.
     pub(crate) fn wants(&mut self, stage: u16)
         requires { HasPlace self.old.work stage }
-        ensures { OnWork (Wanting stage true) self.old self.new }
+        ensures { OnWork (Wanting stage (Some 0)) self.old self.new }
     {
         if let Some(work) = &mut self.work {
             work.wants(stage);
@@ -50,7 +50,7 @@ impl Request {
     /// Nobody waits for a stage any more.
     pub(crate) fn lets_go(&mut self, stage: u16)
         requires { HasPlace self.old.work stage }
-        ensures { OnWork (Wanting stage false) self.old self.new }
+        ensures { OnWork (Wanting stage None) self.old self.new }
     {
         if let Some(work) = &mut self.work {
             work.lets_go(stage);

@@ -1,5 +1,5 @@
 //! A process at work on the requests of a store.
-ghost use Rattle.std.specs.Prelude.{◌≡◌, ◌<◌, IfErr, IfNone, IfOk, IfSome, None, OnErr, OnOk, false, length, min, true};
+ghost use Rattle.std.specs.Prelude.{◌≡◌, ◌<◌, IfErr, IfNone, IfOk, IfSome, None, OnErr, OnOk, Some, length, min, true};
 ghost use Rattle.cf_due.specs.Acts.{IsFitting};
 ghost use Rattle.cf_host.specs.Asking.{Asking, Ending, IsNoAsking, IsNoEnding, IsNoWanting, Wanting};
 ghost use Rattle.cf_host.specs.Hosts.{FollowsIn, IsShownPart, Keeps, OnRequest, OnRequestFor, new_host};
@@ -144,7 +144,7 @@ impl Host {
 
     /// Somebody waits for a stage.
     pub fn wants(&mut self, request: u64, stage: u16) -> Result<(), NoCall>
-        ensures ok { OnOk result (OnRequest (Wanting stage true) request self.old self.new) }
+        ensures ok { OnOk result (OnRequest (Wanting stage (Some 0)) request self.old self.new) }
         ensures err { OnErr result (self.new ≡ self.old) }
         ensures why { IfErr result (λ why. IsNoWanting stage request self.old.requests why) }
     {
@@ -158,7 +158,7 @@ impl Host {
 
     /// Nobody waits for a stage any more.
     pub fn lets_go(&mut self, request: u64, stage: u16) -> Result<(), NoCall>
-        ensures ok { OnOk result (OnRequest (Wanting stage false) request self.old self.new) }
+        ensures ok { OnOk result (OnRequest (Wanting stage None) request self.old self.new) }
         ensures err { OnErr result (self.new ≡ self.old) }
         ensures why { IfErr result (λ why. IsNoWanting stage request self.old.requests why) }
     {

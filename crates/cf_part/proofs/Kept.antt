@@ -37,7 +37,7 @@ put_planned old new wants h few =
       memory = omega (arith, count, found);
     }
 
-pub planned_sound : (old new : Row) (calls : List Progress) (owed : List (Option Owed)) (wanted : List Bool) (before wants : List Want) (asked : Option Question) → asked ≡ None → IsSound old calls owed wanted before asked →
+pub planned_sound : (old new : Row) (calls : List Progress) (owed : List (Option Owed)) (wanted : List (Option ℕ)) (before wants : List Want) (asked : Option Question) → asked ≡ None → IsSound old calls owed wanted before asked →
     Plans old (words_wanted wants) new → length wants ≤ most_wants → IsSound new calls owed wanted wants asked
 planned_sound old new calls owed wanted before wants asked none h p few =
     let places = ap (λ (r : Replica). places_of r.plan) p.replica in

@@ -176,9 +176,9 @@ effect_quiet old out new none grows same = subst (λ (o : Out). Effect old o new
   stopped = All-nil (λ i. 1 ≤ rank (call_in old.calls i));
 })
 
-effect_step : (old : Part) (step : Step) (new : Part) → Tells old step new → Effect old (out_of step) new
-effect_step old (Show i shown) new h = effect_quiet old nothing new refl (grows_is old.row.replica new.row.replica (ap (λ (p : Part). p.row.replica) h.2)) (ap (λ (p : Part). p.calls) h.2)
-effect_step old (Stop i) new h =
+effect_step : (old : Part) (now : ℕ) (step : Step) (new : Part) → Tells old now step new → Effect old (out_of step) new
+effect_step old now (Show i shown) new h = effect_quiet old nothing new refl (grows_is old.row.replica new.row.replica (ap (λ (p : Part). p.row.replica) h.2)) (ap (λ (p : Part). p.calls) h.2)
+effect_step old now (Stop i) new h =
     let calls : new.calls ≡ set old.calls i Stopped = ap (λ (p : Part). p.calls) h.2 in
     let there = called_there old.calls i Runs h.1.runs (omega arith) in
     record {
@@ -189,7 +189,7 @@ effect_step old (Stop i) new h =
       begun = subst (λ (l : List Progress). Begun old.calls l []) (sym calls) (begun_quiet old.calls i Runs Stopped there h.1.runs (omega arith));
       stopped = All-cons (λ i. 1 ≤ rank (call_in old.calls i)) i [] (let was = ap rank h.1.runs in omega (arith, was)) (All-nil (λ i. 1 ≤ rank (call_in old.calls i)));
     }
-effect_step old (Call i args) new h =
+effect_step old now (Call i args) new h =
     let calls : new.calls ≡ set old.calls i Runs = ap (λ (p : Part). p.calls) h.1 in
     let granted : IsGrantedTo old.row.replica (session_of old) i = h.0.is.held.granted in
     record {
@@ -232,7 +232,7 @@ effect_still : (old : Part) (out : Out) (new : Part) → out ≡ nothing → new
 effect_still old out new none row calls = effect_quiet old out new none (grows_is old.row.replica new.row.replica row) calls
 
 pub effect : (old : Part) (out : Out) (new : Part) → IsCall old out new → Effect old out new
-effect old out new (tells step is h) = subst (λ (o : Out). Effect old o new) (sym is) (effect_step old step new h)
+effect old out new (tells now step is h) = subst (λ (o : Out). Effect old o new) (sym is) (effect_step old now step new h)
 effect old out new (plans ws of is h) = effect_quiet old out new is (grows_planned old.row new.row _ h.row) (ap (λ (p : Part). p.calls) h.rest)
 effect old out new (asks q is h) = effect_still old out new is (ap (λ (p : Part). p.row.replica) h) (ap (λ (p : Part). p.calls) h)
 effect old out new (reads entries said is h) = effect_quiet old out new is (grows_by old.row.replica new.row.replica entries h.sees.replays) (ap (λ (p : Part). p.calls) h.rest)
@@ -245,7 +245,7 @@ effect old out new (refuses now is h) = effect_still old out new is (ap (λ (p :
 effect old out new (closes is_closed is h) = effect_still old out new is (ap (λ (p : Part). p.row.replica) h) (ap (λ (p : Part). p.calls) h)
 effect old out new (breaks fault is h) = effect_still old out new is (ap (λ (p : Part). p.row.replica) h) (ap (λ (p : Part). p.calls) h)
 effect old out new (ends i answer is running h) = subst (λ (o : Out). Effect old o new) (sym is) (effect_ends old new i answer running h)
-effect old out new (wants i is_wanted is h) = effect_still old out new is (ap (λ (p : Part). p.row.replica) h) (ap (λ (p : Part). p.calls) h)
+effect old out new (wants i from is h) = effect_still old out new is (ap (λ (p : Part). p.row.replica) h) (ap (λ (p : Part). p.calls) h)
 effect old out new (hears words is h) = effect_still old out new is (ap (λ (p : Part). p.row.replica) h) (ap (λ (p : Part). p.calls) h)
 
 -- ---- rows of calls
@@ -356,15 +356,15 @@ ended_other calls i j u v ended is low = get_or-set_other calls j i v NotCalled 
 other_stage : (calls : List Progress) (i j : ℕ) (u : Progress) → call_in calls i ≡ Ended → call_in calls j ≡ u → rank u < 3 → i ≢ j
 other_stage calls i j u ended is low same = (let high = ap rank (sym ended ∙ ap (call_in calls) same ∙ is) in omega (arith, high, low))
 
-owed_step : (old : Part) (step : Step) (new : Part) (i : ℕ) (answer : EndsWith) → Tells old step new → IsOwed old i answer → IsOwed new i answer
-owed_step old (Show j shown) new i answer h o = owed_same old new i answer (ap (λ (p : Part). p.calls) h.2) (ap (λ (p : Part). p.owed) h.2) o
-owed_step old (Stop j) new i answer h o = record {
+owed_step : (old : Part) (now : ℕ) (step : Step) (new : Part) (i : ℕ) (answer : EndsWith) → Tells old now step new → IsOwed old i answer → IsOwed new i answer
+owed_step old now (Show j shown) new i answer h o = owed_same old new i answer (ap (λ (p : Part). p.calls) h.2) (ap (λ (p : Part). p.owed) h.2) o
+owed_step old now (Stop j) new i answer h o = record {
   ended = ap (λ (p : Part). call_in p.calls i) h.2 ∙ ended_other old.calls i j Runs Stopped o.ended h.1.runs (omega arith);
   owed = o.owed;
   is = ap (λ (p : Part). owed_in p.owed i) h.2 ∙ o.is;
   answers = o.answers;
 }
-owed_step old (Call j args) new i answer h o = record {
+owed_step old now (Call j args) new i answer h o = record {
   ended = ap (λ (p : Part). call_in p.calls i) h.1 ∙ ended_other old.calls i j NotCalled Runs o.ended h.0.is.new (omega arith);
   owed = o.owed;
   is = ap (λ (p : Part). owed_in p.owed i) h.1 ∙ o.is;
@@ -437,7 +437,7 @@ owed_mismeets NoStage old now entries said place new i answer h o = owed_same ol
 owed_mismeets NoRoom old now entries said place new i answer h o = owed_same old new i answer (ap (λ (p : Part). p.calls) h.rest) (ap (λ (p : Part). p.owed) h.rest) o
 
 owed_call : (old : Part) (out : Out) (new : Part) (i : ℕ) (answer : EndsWith) → IsCall old out new → IsOwed old i answer → IsOwed new i answer
-owed_call old out new i answer (tells step is h) o = owed_step old step new i answer h o
+owed_call old out new i answer (tells now step is h) o = owed_step old now step new i answer h o
 owed_call old out new i answer (plans ws of is h) o = owed_same old new i answer (ap (λ (p : Part). p.calls) h.rest) (ap (λ (p : Part). p.owed) h.rest) o
 owed_call old out new i answer (asks q is h) o = owed_same old new i answer (ap (λ (p : Part). p.calls) h) (ap (λ (p : Part). p.owed) h) o
 owed_call old out new i answer (reads entries said is h) o = owed_same old new i answer (ap (λ (p : Part). p.calls) h.rest) (ap (λ (p : Part). p.owed) h.rest) o
@@ -450,7 +450,7 @@ owed_call old out new i answer (refuses now is h) o = owed_refuses old new i ans
 owed_call old out new i answer (closes is_closed is h) o = owed_same old new i answer (ap (λ (p : Part). p.calls) h) (ap (λ (p : Part). p.owed) h) o
 owed_call old out new i answer (breaks fault is h) o = owed_same old new i answer (ap (λ (p : Part). p.calls) h) (ap (λ (p : Part). p.owed) h) o
 owed_call old out new i answer (ends j other is running h) o = owed_ends old new i j answer other running h o
-owed_call old out new i answer (wants j is_wanted is h) o = owed_same old new i answer (ap (λ (p : Part). p.calls) h) (ap (λ (p : Part). p.owed) h) o
+owed_call old out new i answer (wants j from is h) o = owed_same old new i answer (ap (λ (p : Part). p.calls) h) (ap (λ (p : Part). p.owed) h) o
 owed_call old out new i answer (hears words is h) o = owed_same old new i answer (ap (λ (p : Part). p.calls) h) (ap (λ (p : Part). p.owed) h) o
 
 pub keeps_owed : KeepsOwed

@@ -23,14 +23,14 @@ use Rattle.cf_notes.specs.declared.wants.Owed.{Owed}
 use Rattle.cf_notes.specs.declared.wants.Want.{Want}
 
 -- What a contract sees: the session's view of the row with the put that is under way; of each stage what the notes say, how far its call has
--- come, what is owed, and whether somebody waits; the notes and payloads of the put, and what it is of; the question that is open; how many words the store has
+-- come, what is owed, and from which moment on it is shown, if somebody waits; the notes and payloads of the put, and what it is of; the question that is open; how many words the store has
 -- told of, and whether it has to be read besides; before which moment nothing is asked; and why nothing goes on any more.
 pub record Part : Type 0 where
   pub row : Row
   pub notes : Table
   pub calls : List Progress
   pub owed : List (Option Owed)
-  pub wanted : List Bool
+  pub wanted : List (Option ℕ)
   pub wants : List Want
   pub of : PutOf
   pub asked : Option Question
@@ -57,8 +57,8 @@ call_in calls i = slice_index_or calls i NotCalled
 abbrev pub owed_in : List (Option Owed) → ℕ → Option Owed
 owed_in owed i = slice_index_or owed i None
 
-abbrev pub is_wanted_in : List Bool → ℕ → Bool
-is_wanted_in wanted i = slice_index_or wanted i false
+abbrev pub wanted_in : List (Option ℕ) → ℕ → Option ℕ
+wanted_in wanted i = slice_index_or wanted i None
 
 -- ---- what is kept
 
@@ -96,7 +96,7 @@ pub record AreOfStages (r : Replica) (notes : Table) : Type 0 where
   pub places : length notes.stages + notes.room ≡ places_of r.plan
 
 -- there is a place for each stage that there may ever be; what is known of the put is of its words; and the question fits
-pub record IsSound (row : Row) (calls : List Progress) (owed : List (Option Owed)) (wanted : List Bool) (wants : List Want) (asked : Option Question) : Type 0 where
+pub record IsSound (row : Row) (calls : List Progress) (owed : List (Option Owed)) (wanted : List (Option ℕ)) (wants : List Want) (asked : Option Question) : Type 0 where
   pub of_calls : length calls ≡ places_of row.replica.plan
   pub of_owed : length owed ≡ places_of row.replica.plan
   pub of_wanted : length wanted ≡ places_of row.replica.plan
@@ -124,7 +124,7 @@ opened plan notes room session first is_flow =
       notes = record { stages = noted_plan [] plan.stages notes; room = room };
       calls = replicate places NotCalled;
       owed = replicate places None;
-      wanted = replicate places false;
+      wanted = replicate places None;
       wants = [];
       of = Rest;
       asked = None;

@@ -1,5 +1,5 @@
 -- Rows of a part's calls, and what may be concluded from any of them.
-use Rattle.std.specs.Prelude.{◌≡◌, ◌≢◌, ℕ, Bool, max, Some, List, [], ◌∷◌, ◌++◌, All, Contains, slice_set}
+use Rattle.std.specs.Prelude.{◌≡◌, ◌≢◌, ℕ, Bool, max, Option, Some, List, [], ◌∷◌, ◌++◌, All, Contains, slice_set}
 use Rattle.cf_forms.specs.Plans.{Planned}
 use Rattle.cf_ledger.specs.declared.faults.Misfit.{Misfit}
 use Rattle.cf_row.specs.declared.entry.Entry.{Entry}
@@ -34,7 +34,7 @@ out_of (Call i args) = record { calls = i ∷ []; stops = [] }
 
 -- one call, and what it hands out
 pub data IsCall (old : Part) (out : Out) (new : Part) : Type 0 where
-  tells : (step : Step) → out ≡ out_of step → Tells old step new → IsCall old out new
+  tells : (now : ℕ) (step : Step) → out ≡ out_of step → Tells old now step new → IsCall old out new
   plans : (wants : List Want) (of : PutOf) → out ≡ nothing → PlansWords old wants of new → IsCall old out new
   asks : (q : Question) → out ≡ nothing → new ≡ record old { asked = Some q } → IsCall old out new
   reads : (entries : List Entry) (said : List Note) → out ≡ nothing → Reads old entries said new → IsCall old out new
@@ -47,7 +47,7 @@ pub data IsCall (old : Part) (out : Out) (new : Part) : Type 0 where
   closes : (is_closed : Bool) → out ≡ nothing → Closes old is_closed new → IsCall old out new
   breaks : (fault : Fault) → out ≡ nothing → Breaks old fault new → IsCall old out new
   ends : (i : ℕ) (answer : EndsWith) → out ≡ nothing → IsRunning old i → Ends old i answer new → IsCall old out new
-  wants : (i : ℕ) (is_wanted : Bool) → out ≡ nothing → new ≡ record old { wanted = slice_set old.wanted i is_wanted } → IsCall old out new
+  wants : (i : ℕ) (from : Option ℕ) → out ≡ nothing → new ≡ record old { wanted = slice_set old.wanted i from } → IsCall old out new
   hears : (words : ℕ) → out ≡ nothing → new ≡ record old { words = max old.words words } → IsCall old out new
 
 -- a row of them

@@ -1,5 +1,5 @@
 -- What a process is told to do.
-use Rattle.std.specs.Prelude.{◌≡◌, ◌≢◌, ◌⊎◌, ℕ, ◌<◌, ◌≤◌, Bool, true, false, cond, eqb, Option, Some, None, List, Contains, is_some, length, slice_set}
+use Rattle.std.specs.Prelude.{◌≡◌, ◌≢◌, ◌⊎◌, ℕ, ◌<◌, ◌≤◌, ◌||◌, Bool, true, false, cond, eqb, Option, Some, None, List, Contains, is_some, leb, length, slice_set}
 use Rattle.cf_forms.specs.declared.forms.Args.{Args}
 use Rattle.cf_model.specs.declared.events.Event.TheVariants.{Claim as Claims}
 use Rattle.cf_model.specs.declared.events.Reply.TheVariants.{Claim as ToldClaim}
@@ -16,13 +16,18 @@ use Rattle.cf_part.specs.declared.step.Shown.{Shown}
 use Rattle.cf_part.specs.declared.step.Shown.TheVariants.{Outcome as ShowsOutcome, Fault as ShowsFault}
 use Rattle.cf_part.specs.declared.step.Step.{Step}
 use Rattle.cf_part.specs.declared.step.Step.TheVariants.{Show, Stop, Call}
-use Rattle.cf_part.specs.Parts.{Part, call_in, is_wanted_in, seen_by, state_in}
+use Rattle.cf_part.specs.Parts.{Part, call_in, seen_by, state_in, wanted_in}
 
 -- ---- which stages
 
--- somebody waits for the stage, and it is settled; or behind a fault, which all are told
-pub record IsToShow (wanted : List Bool) (is_broken : Bool) (s : State) (i : ℕ) : Type 0 where
-  pub waits : is_wanted_in wanted i ≡ true
+-- who waits is told from a moment on, and at once behind a fault
+abbrev pub is_time : Bool → ℕ → Option ℕ → Bool
+is_time is_broken now None = false
+is_time is_broken now (Some from) = is_broken || leb from now
+
+-- somebody waits for the stage, it is time, and the stage is settled; or behind a fault, which all are told
+pub record IsToShow (wanted : List (Option ℕ)) (is_broken : Bool) (now : ℕ) (s : State) (i : ℕ) : Type 0 where
+  pub time : is_time is_broken now (wanted_in wanted i) ≡ true
   pub settled : (is_broken ≡ true) ⊎ (outcome_at s i ≢ None)
 
 -- its function runs, and the stage is settled
@@ -37,8 +42,8 @@ pub record IsToCall (calls : List Progress) (r : Replica) (i : ℕ) : Type 0 whe
   pub new : call_in calls i ≡ NotCalled
 
 -- no stage below a number is such a one
-abbrev pub NoneToShow : List Bool → Bool → State → ℕ → Type 0
-NoneToShow wanted is_broken s n = (i : ℕ) → i < n → ¬ IsToShow wanted is_broken s i
+abbrev pub NoneToShow : List (Option ℕ) → Bool → ℕ → State → ℕ → Type 0
+NoneToShow wanted is_broken now s n = (i : ℕ) → i < n → ¬ IsToShow wanted is_broken now s i
 
 abbrev pub NoneToStop : List Progress → State → ℕ → Type 0
 NoneToStop calls s n = (i : ℕ) → i < n → ¬ IsToStop calls s i
@@ -73,23 +78,23 @@ pub record Calls (p : Part) (i : ℕ) (args : Args) : Type 0 where
   pub granted : IsGrantedWith p.row.replica.records i args
 
 -- what a step says is so, and is told for once
-abbrev pub Tells : Part → Step → Part → Type 0
-Tells old (Show i shown) new =
-    (is_wanted_in old.wanted i ≡ true) × Shows old i shown × (new ≡ record old { wanted = slice_set old.wanted i false })
-Tells old (Stop i) new = (old.fault ≡ None) × IsToStop old.calls (state_in old) i × (new ≡ record old { calls = slice_set old.calls i Stopped })
-Tells old (Call i args) new = Calls old i args × (new ≡ record old { calls = slice_set old.calls i Runs })
+abbrev pub Tells : Part → ℕ → Step → Part → Type 0
+Tells old now (Show i shown) new =
+    (is_time (is_some old.fault) now (wanted_in old.wanted i) ≡ true) × Shows old i shown × (new ≡ record old { wanted = slice_set old.wanted i None })
+Tells old now (Stop i) new = (old.fault ≡ None) × IsToStop old.calls (state_in old) i × (new ≡ record old { calls = slice_set old.calls i Stopped })
+Tells old now (Call i args) new = Calls old i args × (new ≡ record old { calls = slice_set old.calls i Runs })
 
 -- none goes before it: stages are shown first, then stopped, then called, and of each the lowest comes first
-abbrev pub ComesFirst : Part → Step → Type 0
-ComesFirst p (Show i shown) = NoneToShow p.wanted (is_some p.fault) (state_in p) i
-ComesFirst p (Stop i) = NoneToShow p.wanted (is_some p.fault) (state_in p) (length p.wanted) × NoneToStop p.calls (state_in p) i
-ComesFirst p (Call i args) =
-    NoneToShow p.wanted (is_some p.fault) (state_in p) (length p.wanted)
+abbrev pub ComesFirst : Part → ℕ → Step → Type 0
+ComesFirst p now (Show i shown) = NoneToShow p.wanted (is_some p.fault) now (state_in p) i
+ComesFirst p now (Stop i) = NoneToShow p.wanted (is_some p.fault) now (state_in p) (length p.wanted) × NoneToStop p.calls (state_in p) i
+ComesFirst p now (Call i args) =
+    NoneToShow p.wanted (is_some p.fault) now (state_in p) (length p.wanted)
     × NoneToStop p.calls (state_in p) (length p.calls)
     × NoneToCall p.calls p.row.replica i
 
--- nothing is to be told
-pub record NothingToTell (p : Part) : Type 0 where
-  pub shown : NoneToShow p.wanted (is_some p.fault) (state_in p) (length p.wanted)
+-- nothing is to be told by now
+pub record NothingToTell (p : Part) (now : ℕ) : Type 0 where
+  pub shown : NoneToShow p.wanted (is_some p.fault) now (state_in p) (length p.wanted)
   pub stopped : p.fault ≡ None → NoneToStop p.calls (state_in p) (length p.calls)
   pub called : p.fault ≡ None → p.words ≤ seen_by p → NoneToCall p.calls p.row.replica (stages_of p.row.replica)

@@ -6,7 +6,7 @@ ghost use Rattle.cf_ledger.specs.Ledgers.{stages_of as ledger_stages, state_of a
 ghost use Rattle.cf_row.specs.Grants.{IsGrantedTo};
 ghost use Rattle.cf_row.specs.Rows.{stages_of};
 ghost use Rattle.cf_part.specs.Answers.{IsRunningIn};
-ghost use Rattle.cf_part.specs.Steps.{IsGrantedWith, IsToCall, IsToShow, IsToStop, NoneToCall, NoneToShow, NoneToStop, ShowsIn, grant_of};
+ghost use Rattle.cf_part.specs.Steps.{IsGrantedWith, IsToCall, IsToShow, IsToStop, NoneToCall, NoneToShow, NoneToStop, ShowsIn, grant_of, is_time};
 
 use crate::progress::Progress;
 use crate::question::Fault;
@@ -17,32 +17,53 @@ use cf_ledger::Ledger;
 use cf_model::{Claimed, Event, Reply};
 use cf_row::Replica;
 
-/// The lowest stage that somebody waits for and that is settled; behind a fault, the lowest that somebody waits
+/// The lowest stage that somebody waits for, for which it is time, and that is settled; behind a fault, the lowest that somebody waits
 /// for.
-pub(crate) fn to_show(wanted: &[bool], is_broken: bool, ledger: &Ledger) -> Option<u16>
+pub(crate) fn to_show(
+    wanted: &[Option<u64>],
+    is_broken: bool,
+    now: u64,
+    ledger: &Ledger,
+) -> Option<u16>
     requires few { length wanted.now ≤ 4096 }
-    ensures is { IfSome result (λ i. IsToShow wanted.now is_broken (ledger_state ledger.now) i) }
+    ensures is { IfSome result (λ i. IsToShow wanted.now is_broken now (ledger_state ledger.now) i) }
     ensures there { IfSome result (λ i. i < length wanted.now) }
     ensures stage { IfSome result (λ i. (is_broken ≡ true) ⊎ (i < ledger_stages ledger.now)) }
-    ensures lowest { IfSome result (λ i. NoneToShow wanted.now is_broken (ledger_state ledger.now) i) }
-    ensures none { IfNone result (NoneToShow wanted.now is_broken (ledger_state ledger.now) (length wanted.now)) }
+    ensures lowest { IfSome result (λ i. NoneToShow wanted.now is_broken now (ledger_state ledger.now) i) }
+    ensures none { IfNone result (NoneToShow wanted.now is_broken now (ledger_state ledger.now) (length wanted.now)) }
 {
     for stage in 0..wanted.len() as u16 {
-        if is_to_show(wanted, is_broken, ledger, stage) {
+        if is_to_show(wanted, is_broken, now, ledger, stage) {
             return Some(stage);
         }
     }
     None
 }
 
-/// Whether somebody waits for a stage, and it is settled, or there is a fault.
-fn is_to_show(wanted: &[bool], is_broken: bool, ledger: &Ledger, stage: u16) -> bool
+/// Whether somebody waits for a stage, it is time, and the stage is settled; or there is a fault.
+fn is_to_show(
+    wanted: &[Option<u64>],
+    is_broken: bool,
+    now: u64,
+    ledger: &Ledger,
+    stage: u16,
+) -> bool
     requires { stage < length wanted.now }
-    ensures is { OnTrue result (IsToShow wanted.now is_broken (ledger_state ledger.now) stage) }
+    ensures is { OnTrue result (IsToShow wanted.now is_broken now (ledger_state ledger.now) stage) }
     ensures there { OnTrue result ((is_broken ≡ true) ⊎ (stage < ledger_stages ledger.now)) }
-    ensures none { OnFalse result (¬ IsToShow wanted.now is_broken (ledger_state ledger.now) stage) }
+    ensures none { OnFalse result (¬ IsToShow wanted.now is_broken now (ledger_state ledger.now) stage) }
 {
-    wanted[stage as usize] && (is_broken || is_settled(ledger, stage))
+    is_time(is_broken, now, wanted[stage as usize]) && (is_broken || is_settled(ledger, stage))
+}
+
+/// Whether somebody who waits is told by now.
+fn is_time(is_broken: bool, now: u64, wanted: Option<u64>) -> bool
+    ensures { result ≡ is_time is_broken now wanted }
+{
+    match wanted {
+        Some(from) => is_broken || from <= now,
+        None => false,
+    }
 }
 
 /// Whether a stage is there and settled.

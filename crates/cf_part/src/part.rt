@@ -5,7 +5,7 @@ ghost use Rattle.cf_forms.specs.Plans.{has_place};
 ghost use Rattle.cf_row.specs.Puts.{IsNoPut};
 ghost use Rattle.cf_row.specs.Rows.{stages_of};
 ghost use Rattle.cf_notes.specs.Noting.{AreNotes};
-ghost use Rattle.cf_part.specs.Parts.{IsClose, IsPut, IsRead, MayPlan, Owes, OwesNone, most_wants, opened, question_of, seen_by, words_wanted};
+ghost use Rattle.cf_part.specs.Parts.{IsClose, IsPut, IsRead, MayPlan, Owes, OwesNone, later, most_wants, opened, question_of, seen_by, words_wanted};
 ghost use Rattle.cf_part.specs.Steps.{ComesFirst, NothingToTell, Tells};
 ghost use Rattle.cf_part.specs.Answers.{Breaks, Closes, Ends, IsRunning, Lands, Meets, Mismeets, Misreads, PlansWords, Reads, Refuses, Waits};
 
@@ -33,7 +33,7 @@ pub struct Part {
     notes: Notes,
     calls: Vec<Progress>,
     owed: Vec<Option<Owed>>,
-    wanted: Vec<bool>,
+    wanted: Vec<Option<u64>>,
     numbers: Vec<u64>,
     wants: Vec<Want>,
     landing: Vec<Entry>,
@@ -100,7 +100,7 @@ impl Part {
         let places = plan.stages() as usize + room as usize;
         let calls = vec![in alloc; Progress::NotCalled; places]?;
         let owed = vec![in alloc; None; places]?;
-        let wanted = vec![in alloc; false; places]?;
+        let wanted = vec![in alloc; None; places]?;
         let numbers: Vec<u64> = Vec::with_capacity(alloc, MOST_WANTS)?;
         let wants: Vec<Want> = Vec::with_capacity(alloc, MOST_WANTS)?;
         let landing: Vec<Entry> = Vec::with_capacity(alloc, MOST_WANTS)?;
@@ -239,18 +239,26 @@ impl Part {
     /// Somebody waits for a stage.
     pub fn wants(&mut self, stage: u16)
         requires { stage < length self.old.wanted }
-        ensures { self.new ≡ record self.old { wanted = slice_set self.old.wanted stage true } }
+        ensures { self.new ≡ record self.old { wanted = slice_set self.old.wanted stage (Some 0) } }
     {
-        self.wanted[stage as usize] = true;
+        self.wanted[stage as usize] = Some(0);
     }
 
     /// Nobody waits for a stage any more.
     pub fn lets_go(&mut self, stage: u16)
         requires { stage < length self.old.wanted }
-        ensures { self.new ≡ record self.old { wanted = slice_set self.old.wanted stage false } }
+        ensures { self.new ≡ record self.old { wanted = slice_set self.old.wanted stage None } }
     {
         let place = stage as usize;
-        self.wanted[place] = false;
+        self.wanted[place] = None;
+    }
+
+    /// The payload of a stage that was told to be shown couldn't be read: it is shown again, but not at once.
+    pub fn unread(&mut self, now: u64, stage: u16)
+        requires { stage < length self.old.wanted }
+        ensures { self.new ≡ record self.old { wanted = slice_set self.old.wanted stage (Some (later now)) } }
+    {
+        self.wanted[stage as usize] = Some(later(now));
     }
 
     /// Whether a put may be planned by now, or the close be asked for.
@@ -449,19 +457,19 @@ impl Part {
         });
     }
 
-    /// What the process has to do next, besides questions, if anything: the lowest stage is shown; or else the lowest is
+    /// What the process has to do next by now, besides questions, if anything: the lowest stage is shown; or else the lowest is
     /// stopped; or else the lowest is called.
-    pub fn next(&mut self) -> Option<Step>
-        ensures step { IfSome result (λ step. Tells self.old step self.new) }
-        ensures first { IfSome result (λ step. ComesFirst self.old step) }
+    pub fn next(&mut self, now: u64) -> Option<Step>
+        ensures step { IfSome result (λ step. Tells self.old now step self.new) }
+        ensures first { IfSome result (λ step. ComesFirst self.old now step) }
         ensures unchanged { IfNone result (self.new ≡ self.old) }
-        ensures none { IfNone result (NothingToTell self.old) }
+        ensures none { IfNone result (NothingToTell self.old now) }
     {
         let fault = self.fault;
         let ledger = self.row.replica().ledger();
-        if let Some(stage) = to_show(&self.wanted, fault.is_some(), ledger) {
+        if let Some(stage) = to_show(&self.wanted, fault.is_some(), now, ledger) {
             let shown = shown(ledger, fault, stage);
-            self.wanted[stage as usize] = false;
+            self.wanted[stage as usize] = None;
             return Some(Step::Show { stage, shown });
         }
         if fault.is_some() {

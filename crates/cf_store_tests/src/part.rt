@@ -26,6 +26,8 @@ enum Move {
     Breaks,
     Ends,
     Tells(Option<Step>),
+    TellsAt(u64, Option<Step>),
+    Unreads(u64),
     Owes(Option<Debt>),
     Faults(Option<Fault>),
     Calls(u16, Option<u32>),
@@ -100,8 +102,9 @@ const ERROR: Option<Debt> = Some(Debt {
     },
 });
 
-/// The value is put until it stands: as it is where no answer came, and behind a refusal of it and of the error.
-const KEEPS: [Move; 31] = [
+/// The value is put until it stands: as it is where no answer came, and behind a refusal of it and of the error. Where its
+/// payload can't be read it is shown again, a pause later.
+const KEEPS: [Move; 34] = [
     Asks(0, READ),
     Asks(0, None),
     Reads(0, None),
@@ -132,6 +135,9 @@ const KEEPS: [Move; 31] = [
     Owes(None),
     Tells(SHOW),
     Tells(None),
+    Unreads(40),
+    TellsAt(59, None),
+    TellsAt(60, SHOW),
     Closes,
 ];
 
@@ -319,6 +325,7 @@ fn tell(part: &mut Part, call: Move) -> bool {
         Hears(words) => part.told_length(words),
         Waits(now) => part.unknown(now),
         Breaks => part.breaks(Fault::Dropped),
+        Unreads(now) => part.unread(now, 0),
         _ => return false,
     }
     true
@@ -333,12 +340,13 @@ fn is_answered(part: &mut Part, call: Move) -> bool {
         Stands | Refuses(_) | Meets(..) | Misses(..) => is_put_answered(part, call),
         Closes => closes(part),
         Ends => ends(part),
-        Tells(wanted) => part.next() == wanted,
+        Tells(wanted) => part.next(0) == wanted,
+        TellsAt(now, wanted) => part.next(now) == wanted,
         Owes(wanted) => part.owes(0) == wanted,
         Faults(wanted) => part.fault() == wanted,
         Calls(stage, wanted) => function_of(part.notes(), stage) == wanted,
         Times(stage, moment, place) => is_timed(part, stage, moment, place),
-        Hears(_) | Waits(_) | Breaks => tell(part, call),
+        Hears(_) | Waits(_) | Breaks | Unreads(_) => tell(part, call),
     }
 }
 

@@ -88,9 +88,9 @@ makes_asked old new at q h = by_goes h.goes
 
 makes_turn : (old new : Work) (at : Moment) (t : Turn) → Turns old at t new → MakesCalls old.part (Some t) new.part
 makes_turn old new at (Tell n told) h = record { parts = []; are = makes_told old new at n told h; calls = refl; stops = refl }
-makes_turn old new at (Show i shown) h = record { parts = nothing ∷ []; are = (new.part, tells (StepShow i shown) refl h.1.part, refl); calls = refl; stops = refl }
-makes_turn old new at (Stop i) h = record { parts = out_of (StepStop i) ∷ []; are = (new.part, tells (StepStop i) refl h.1.part, refl); calls = refl; stops = refl }
-makes_turn old new at (Call i function args) h = record { parts = out_of (StepCall i args) ∷ []; are = (new.part, tells (StepCall i args) refl h.1.0.part, refl); calls = refl; stops = refl }
+makes_turn old new at (Show i shown) h = record { parts = nothing ∷ []; are = (new.part, tells at.now (StepShow i shown) refl h.1.part, refl); calls = refl; stops = refl }
+makes_turn old new at (Stop i) h = record { parts = out_of (StepStop i) ∷ []; are = (new.part, tells at.now (StepStop i) refl h.1.part, refl); calls = refl; stops = refl }
+makes_turn old new at (Call i function args) h = record { parts = out_of (StepCall i args) ∷ []; are = (new.part, tells at.now (StepCall i args) refl h.1.0.part, refl); calls = refl; stops = refl }
 makes_turn old new at (Ask q) h = makes_asked old new at q h
 
 makes_off : (old new : Work) (now : ℕ) (p : Putting) (out : Option Turn) → out ≡ None → IsPutOff old now p new → MakesCalls old.part out new.part
@@ -118,7 +118,7 @@ makes old new out (rests at is h) = makes_rest old new at out is h
 makes old new out (finds more is h) = makes_none old.part new.part out is (ap (λ (w : Work). w.part) h)
 makes old new out (asks number act until is h) = makes_none old.part new.part out is (ap (λ (w : Work). w.part) h)
 makes old new out (ends end is h) = makes_none old.part new.part out is (ap (λ (w : Work). w.part) h)
-makes old new out (wants i is_wanted is h) = makes_one old.part new.part out is (part_wants i is_wanted refl (ap (λ (w : Work). w.part) h))
+makes old new out (wants i from is h) = makes_one old.part new.part out is (part_wants i from refl (ap (λ (w : Work). w.part) h))
 makes old new out (hears words is h) = makes_one old.part new.part out is (part_hears words refl (ap (λ (w : Work). w.part) h))
 makes old new out (finishes i answer is running h rest) = makes_one old.part new.part out is (part_ends i answer refl running h)
 makes old new out (reads entries notes is h rest) = makes_one old.part new.part out is (part_reads entries notes refl h)

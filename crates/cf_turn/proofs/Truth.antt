@@ -109,14 +109,14 @@ keeps_told row old new at n told k (inr h) = by_goes h.goes
     by_goes (inl (may, h)) = by_first (slice_get old.wishes 0) may.none h
     by_goes (inr (may, h)) = absurd h
 
-row_shown : (old : Part) (step : Step) (new : Part) → Tells old step new → new.row ≡ old.row
-row_shown old (StepShow i shown) new (wanted, shows, rest) = ap (λ (p : Part). p.row) rest
-row_shown old (StepStop i) new (sound, is, rest) = ap (λ (p : Part). p.row) rest
-row_shown old (StepCall i args) new (is, rest) = ap (λ (p : Part). p.row) rest
+row_shown : (old : Part) (now : ℕ) (step : Step) (new : Part) → Tells old now step new → new.row ≡ old.row
+row_shown old now (StepShow i shown) new (wanted, shows, rest) = ap (λ (p : Part). p.row) rest
+row_shown old now (StepStop i) new (sound, is, rest) = ap (λ (p : Part). p.row) rest
+row_shown old now (StepCall i args) new (is, rest) = ap (λ (p : Part). p.row) rest
 
-keeps_step : (row : List Entry) (old new : Work) (step : Step) → Keeps row old → TakesStep old step new → Keeps row new
-keeps_step row old new step k h =
-    keeps_row row old new (ap (λ (w : Work). w.wishes) h.rest) (ap (λ (w : Work). w.is_acting) h.rest) (row_shown old.part step new.part h.part) k
+keeps_step : (row : List Entry) (old new : Work) (now : ℕ) (step : Step) → Keeps row old → TakesStep old now step new → Keeps row new
+keeps_step row old new now step k h =
+    keeps_row row old new (ap (λ (w : Work). w.wishes) h.rest) (ap (λ (w : Work). w.is_acting) h.rest) (row_shown old.part now step new.part h.part) k
 
 first_of : (wishes : List Wish) (wish : Wish) → slice_get wishes 0 ≡ Some wish → (rest : List Wish) × (wishes ≡ wish ∷ rest)
 first_of [] wish is = (let no : ⊥ = cc in absurd no)
@@ -172,9 +172,9 @@ keeps_asked row old new at q k h = by_goes h.goes
 
 keeps_turn : (row : List Entry) (old new : Work) (at : Moment) (t : Turn) → Keeps row old → Turns old at t new → Keeps row new
 keeps_turn row old new at (Tell n told) k h = keeps_told row old new at n told k h
-keeps_turn row old new at (Show i shown) k h = keeps_step row old new (StepShow i shown) k h.1
-keeps_turn row old new at (Stop i) k h = keeps_step row old new (StepStop i) k h.1
-keeps_turn row old new at (Call i function args) k h = keeps_step row old new (StepCall i args) k h.1.0
+keeps_turn row old new at (Show i shown) k h = keeps_step row old new at.now (StepShow i shown) k h.1
+keeps_turn row old new at (Stop i) k h = keeps_step row old new at.now (StepStop i) k h.1
+keeps_turn row old new at (Call i function args) k h = keeps_step row old new at.now (StepCall i args) k h.1.0
 keeps_turn row old new at (Ask q) k h = keeps_asked row old new at q k h
 
 keeps_off : (row : List Entry) (old new : Work) (now : ℕ) (p : Putting) → Keeps row old → IsPutOff old now p new → Keeps row new
@@ -323,7 +323,7 @@ keeps row old new out k put begins (rests at is h) = keeps_rest row old new at k
 keeps row old new out k put begins (finds more is h) = keeps_row row old new (ap (λ (w : Work). w.wishes) h) (ap (λ (w : Work). w.is_acting) h) (ap (λ (w : Work). w.part.row) h) k
 keeps row old new out k put begins (asks number act until is h) = keeps_asks row old new (wish_of number act until) refl h k
 keeps row old new out k put begins (ends end is h) = keeps_row row old new (ap (λ (w : Work). w.wishes) h) (ap (λ (w : Work). w.is_acting) h) (ap (λ (w : Work). w.part.row) h) k
-keeps row old new out k put begins (wants i is_wanted is h) = keeps_row row old new (ap (λ (w : Work). w.wishes) h) (ap (λ (w : Work). w.is_acting) h) (ap (λ (w : Work). w.part.row) h) k
+keeps row old new out k put begins (wants i from is h) = keeps_row row old new (ap (λ (w : Work). w.wishes) h) (ap (λ (w : Work). w.is_acting) h) (ap (λ (w : Work). w.part.row) h) k
 keeps row old new out k put begins (hears words is h) = keeps_row row old new (ap (λ (w : Work). w.wishes) h) (ap (λ (w : Work). w.is_acting) h) (ap (λ (w : Work). w.part.row) h) k
 keeps row old new out k put begins (finishes i answer is running h rest) = keeps_row row old new (ap (λ (w : Work). w.wishes) rest) (ap (λ (w : Work). w.is_acting) rest) (ap (λ (p : Part). p.row) h) k
 keeps row old new out k put begins (reads entries notes is h rest) = keeps_free row old new rest k

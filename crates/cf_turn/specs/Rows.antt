@@ -29,7 +29,7 @@ pub data IsCall (old : Work) (out : Option Turn) (new : Work) : Type 0 where
   finds : (more : ℕ) → out ≡ None → new ≡ record old { free = max old.free more } → IsCall old out new
   asks : (number : ℕ) (act : Act) (until : ℕ) → out ≡ None → new ≡ record old { wishes = old.wishes ++ wish_of number act until ∷ []; free = old.free - 1 } → IsCall old out new
   ends : (end : End) → out ≡ None → new ≡ record old { ends = old.ends ++ end ∷ []; free = old.free - 1 } → IsCall old out new
-  wants : (i : ℕ) (is_wanted : Bool) → out ≡ None → new ≡ record old { part = record old.part { wanted = slice_set old.part.wanted i is_wanted } } → IsCall old out new
+  wants : (i : ℕ) (from : Option ℕ) → out ≡ None → new ≡ record old { part = record old.part { wanted = slice_set old.part.wanted i from } } → IsCall old out new
   hears : (words : ℕ) → out ≡ None → new ≡ record old { part = record old.part { words = max old.part.words words } } → IsCall old out new
   finishes : (i : ℕ) (answer : EndsWith) → out ≡ None → IsRunning old.part i → Ends old.part i answer new.part → (new ≡ record old { part = new.part }) → IsCall old out new
   reads : (entries : List Entry) (notes : List Note) → out ≡ None → Reads old.part entries notes new.part → IsFreed old new → IsCall old out new

@@ -20,7 +20,7 @@ use Rattle.cf_part.specs.declared.question.Question.TheVariants.{Close, Put}
 use Rattle.cf_part.specs.declared.step.Step.{Step}
 use Rattle.cf_part.specs.declared.step.Step.TheVariants.{Show as StepShow, Stop as StepStop, Call as StepCall}
 use Rattle.cf_part.specs.Parts.{MayPlan, Part, question_of, seen_by, words_wanted}
-use Rattle.cf_part.specs.Steps.{NothingToTell, Tells}
+use Rattle.cf_part.specs.Steps.{ComesFirst, NothingToTell, Tells}
 use Rattle.cf_part.specs.Answers.{PlansWords, Waits}
 use Rattle.cf_turn.specs.declared.planning.Putting.{Putting}
 use Rattle.cf_turn.specs.declared.turn.Turn.{Turn}
@@ -67,16 +67,17 @@ abbrev pub function_in : List Noted → ℕ → ℕ
 function_in notes i = unwrap_or (function_of notes i) 0
 
 -- what the part tells is done
-pub record TakesStep (old : Work) (step : Step) (new : Work) : Type 0 where
-  pub part : Tells old.part step new.part
+pub record TakesStep (old : Work) (now : ℕ) (step : Step) (new : Work) : Type 0 where
+  pub part : Tells old.part now step new.part
+  pub first : ComesFirst old.part now step
   pub rest : new ≡ record old { part = new.part }
 
-abbrev pub Steps : Work → Turn → Work → Type 0
-Steps old (Show i shown) new = TakesStep old (StepShow i shown) new
-Steps old (Stop i) new = TakesStep old (StepStop i) new
-Steps old (Call i function args) new = TakesStep old (StepCall i args) new × (function ≡ function_in new.part.notes.stages i)
-Steps old (Tell number told) new = ⊥
-Steps old (Ask q) new = ⊥
+abbrev pub Steps : Work → ℕ → Turn → Work → Type 0
+Steps old now (Show i shown) new = TakesStep old now (StepShow i shown) new
+Steps old now (Stop i) new = TakesStep old now (StepStop i) new
+Steps old now (Call i function args) new = TakesStep old now (StepCall i args) new × (function ≡ function_in new.part.notes.stages i)
+Steps old now (Tell number told) new = ⊥
+Steps old now (Ask q) new = ⊥
 
 -- ---- what is put
 
@@ -197,14 +198,14 @@ Goes old at t new =
 -- WHAT A PROCESS DOES NEXT. A user is told; or else the part's step is done; or else it goes on.
 pub record GoesOn (old : Work) (at : Moment) (t : Turn) (new : Work) : Type 0 where
   pub told : NobodyIsTold old at.now
-  pub steps : NothingToTell old.part
+  pub steps : NothingToTell old.part at.now
   pub goes : Goes old at t new
 
 abbrev pub Turns : Work → Moment → Turn → Work → Type 0
 Turns old at (Tell number told) new = TellsTo old at.now number told new ⊎ GoesOn old at (Tell number told) new
-Turns old at (Show i shown) new = NobodyIsTold old at.now × Steps old (Show i shown) new
-Turns old at (Stop i) new = NobodyIsTold old at.now × Steps old (Stop i) new
-Turns old at (Call i function args) new = NobodyIsTold old at.now × Steps old (Call i function args) new
+Turns old at (Show i shown) new = NobodyIsTold old at.now × Steps old at.now (Show i shown) new
+Turns old at (Stop i) new = NobodyIsTold old at.now × Steps old at.now (Stop i) new
+Turns old at (Call i function args) new = NobodyIsTold old at.now × Steps old at.now (Call i function args) new
 Turns old at (Ask q) new = GoesOn old at (Ask q) new
 
 -- NOTHING IS TO BE DONE BY NOW: nobody is to be told anything, the part has no step, and no question is due; where the part may plan, no act
@@ -220,5 +221,5 @@ RestsBy old at new =
 
 pub record Rests (old : Work) (at : Moment) (new : Work) : Type 0 where
   pub told : NobodyIsTold old at.now
-  pub steps : NothingToTell old.part
+  pub steps : NothingToTell old.part at.now
   pub rests : RestsBy old at new

@@ -3,7 +3,7 @@ ghost use Rattle.std.specs.Prelude.{◌≡◌, ◌-◌, ◌<◌, ◌≤◌, ◌&
 ghost use Rattle.std.specs.Bool.{OnFalse, OnTrue};
 ghost use Rattle.cf_due.specs.Acts.{IsFitting};
 ghost use Rattle.cf_part.specs.Answers.{Breaks, Ends, IsRunning, Misreads, PlansWords, Reads};
-ghost use Rattle.cf_part.specs.Parts.{IsClose, IsPut, IsRead, MayPlan, words_wanted};
+ghost use Rattle.cf_part.specs.Parts.{IsClose, IsPut, IsRead, MayPlan, later, words_wanted};
 ghost use Rattle.cf_part.specs.Steps.{NothingToTell};
 ghost use Rattle.cf_row.specs.Puts.{IsNoPut};
 ghost use Rattle.cf_turn.specs.Answers.{ClosesWork, LandsWork, MeetsWork, MismeetsWork, RefusesWork, Settles, WaitsWork, is_put};
@@ -117,7 +117,7 @@ impl Work {
     pub fn wants(&mut self, stage: u16)
         requires { stage < length self.old.part.wanted }
         ensures { self.new ≡ record self.old {
-          part = record self.old.part { wanted = slice_set self.old.part.wanted stage true };
+          part = record self.old.part { wanted = slice_set self.old.part.wanted stage (Some 0) };
         } }
     {
         self.part.wants(stage);
@@ -127,10 +127,20 @@ impl Work {
     pub fn lets_go(&mut self, stage: u16)
         requires { stage < length self.old.part.wanted }
         ensures { self.new ≡ record self.old {
-          part = record self.old.part { wanted = slice_set self.old.part.wanted stage false };
+          part = record self.old.part { wanted = slice_set self.old.part.wanted stage None };
         } }
     {
         self.part.lets_go(stage);
+    }
+
+    /// The payload of a stage that was told to be shown couldn't be read: it is shown again, but not at once.
+    pub fn unread(&mut self, now: u64, stage: u16)
+        requires { stage < length self.old.part.wanted }
+        ensures { self.new ≡ record self.old {
+          part = record self.old.part { wanted = slice_set self.old.part.wanted stage (Some (later now)) };
+        } }
+    {
+        self.part.unread(now, stage);
     }
 
     /// The store tells that so many words stand in the row.
@@ -165,7 +175,7 @@ impl Work {
                 told: place.told,
             });
         }
-        if let Some(turn) = self.step() {
+        if let Some(turn) = self.step(now) {
             return Some(turn);
         }
         if !self.part.may_plan(now) {
@@ -218,12 +228,12 @@ impl Work {
     }
 
     /// What the part tells.
-    fn step(&mut self) -> Option<Turn>
-        ensures steps { IfSome result (λ t. Steps self.old t self.new) }
+    fn step(&mut self, now: u64) -> Option<Turn>
+        ensures steps { IfSome result (λ t. Steps self.old now t self.new) }
         ensures unchanged { IfNone result (self.new ≡ self.old) }
-        ensures none { IfNone result (NothingToTell self.old.part) }
+        ensures none { IfNone result (NothingToTell self.old.part now) }
     {
-        match self.part.next()? {
+        match self.part.next(now)? {
             Step::Show { stage, shown } => Some(Turn::Show { stage, shown }),
             Step::Stop { stage } => Some(Turn::Stop { stage }),
             Step::Call { stage, args } => Some(Turn::Call {

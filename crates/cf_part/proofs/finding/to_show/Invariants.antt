@@ -4,4 +4,4 @@ use Rattle.cf_part.proofs.finding.to_show.Given as goal
 
 -- none so far is to be shown
 abbrev pub invariant-loop-stage : goal.invariant-loop-stage
-invariant-loop-stage l = NoneToShow l.wanted l.is_broken (state_of l.ledger) l.stage
+invariant-loop-stage l = NoneToShow l.wanted l.is_broken l.now (state_of l.ledger) l.stage

@@ -1,4 +1,4 @@
-use Rattle.std.proofs.Common.{refl, false}
+use Rattle.std.proofs.Common.{None, refl}
 use Rattle.cf_host.specs.Asking.{Wanting}
 use Rattle.cf_host.proofs.Placed.{on_request}
 use Rattle.cf_host.proofs.Refused.{lacks_stage}
@@ -6,7 +6,7 @@ use Rattle.cf_host.proofs.host.Host.lets_go.Goals as goal
 
 pub returns-clause-ok : goal.returns-clause-ok
 returns-clause-ok c =
-    on_request (Wanting c.args.stage false) c.args.request c.in_ok-place.place c.args.self.now _ _ c.index_mut.result.now c.lets_go.new.self c.self.view_is
+    on_request (Wanting c.args.stage None) c.args.request c.in_ok-place.place c.args.self.now _ _ c.index_mut.result.now c.lets_go.new.self c.self.view_is
     c.in_ok-place.ensures.at c.index_mut.ensures.value c.lets_go.ensures refl
 
 pub returns-then-not-has_place-clause-why : goal.returns-then-not-has_place-clause-why

@@ -1,4 +1,4 @@
-use Rattle.std.proofs.Common.{refl, true}
+use Rattle.std.proofs.Common.{Some, refl}
 use Rattle.cf_host.specs.Asking.{Wanting}
 use Rattle.cf_host.proofs.Placed.{on_request}
 use Rattle.cf_host.proofs.Refused.{lacks_stage}
@@ -6,7 +6,7 @@ use Rattle.cf_host.proofs.host.Host.wants.Goals as goal
 
 pub returns-clause-ok : goal.returns-clause-ok
 returns-clause-ok c =
-    on_request (Wanting c.args.stage true) c.args.request c.in_ok-place.place c.args.self.now _ _ c.index_mut.result.now c.wants.new.self c.self.view_is
+    on_request (Wanting c.args.stage (Some 0)) c.args.request c.in_ok-place.place c.args.self.now _ _ c.index_mut.result.now c.wants.new.self c.self.view_is
     c.in_ok-place.ensures.at c.index_mut.ensures.value c.wants.ensures refl
 
 pub returns-then-not-has_place-clause-why : goal.returns-then-not-has_place-clause-why
