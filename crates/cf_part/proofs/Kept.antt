@@ -1,5 +1,5 @@
 -- What is kept of a part as it is opened, and as a put is planned.
-use Rattle.std.proofs.Common.{◌≡◌, ℕ, ◌≤◌, Bool, Option, None, List, [], length, refl, ap, sym, ◌∙◌, subst, arith}
+use Rattle.std.proofs.Common.{◌≡◌, ℕ, ◌≤◌, Option, None, List, [], length, refl, ap, sym, ◌∙◌, subst, arith}
 use Rattle.cf_forms.specs.Plans.{Planned, with_room}
 use Rattle.cf_notes.specs.declared.note.Note.{Note}
 use Rattle.cf_notes.specs.declared.wants.Owed.{Owed}

@@ -1,6 +1,5 @@
 pub mod Lists
 pub mod Granted
-pub mod Debts
 pub mod Places
 pub mod Seen
 pub mod Kept

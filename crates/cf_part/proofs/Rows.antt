@@ -367,7 +367,7 @@ owed_step old now (Stop j) new i answer h o = record {
 owed_step old now (Call j args) new i answer h o = record {
   ended = ap (λ (p : Part). call_in p.calls i) h.1 ∙ ended_other old.calls i j NotCalled Runs o.ended h.0.is.new (omega arith);
   owed = o.owed;
-  is = ap (λ (p : Part). owed_in p.owed i) h.1 ∙ o.is;
+  is = ap (λ (p : Part). owed_in p.owed i) h.1 ∙ get_or-set_other old.owed j i None None (other_stage old.calls i j NotCalled o.ended h.0.is.new (omega arith)) ∙ o.is;
   answers = o.answers;
 }
 

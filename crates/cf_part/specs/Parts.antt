@@ -1,18 +1,17 @@
 -- One process's part in one request.
-use Rattle.std.specs.Prelude.{◌≡◌, ◌≢◌, ℕ, ◌+◌, ◌*◌, ◌<◌, ◌≤◌, ◌||◌, Bool, true, false, cond, min, Option, Some, None, List, [], is_some, length, map, nat_lt, replicate, slice_index_or}
+use Rattle.std.specs.Prelude.{◌≡◌, ℕ, ◌+◌, ◌*◌, ◌<◌, ◌≤◌, ◌||◌, Bool, true, false, cond, min, Option, Some, None, List, [], is_some, length, map, nat_lt, replicate, slice_index_or}
 use Rattle.std.specs.declared.vec.Vec.{Vec}
 use Rattle.std.specs.Vec.{vec_capacity}
 use Rattle.cf_forms.specs.Plans.{Planned, with_room}
-use Rattle.cf_model.specs.States.{State, claim_at, outcome_at}
+use Rattle.cf_model.specs.States.{State}
 use Rattle.cf_row.specs.Rows.{Replica, stages_of, state_of, words_in}
 use Rattle.cf_row.specs.Puts.{Row}
 use Rattle.cf_row.specs.declared.entry.Entry.{Entry}
-use Rattle.cf_row.specs.Grants.{IsGrantedTo}
 use Rattle.cf_notes.specs.Noting.{noted_plan}
 use Rattle.cf_notes.specs.Tables.{Table}
 use Rattle.cf_notes.specs.declared.note.Note.{Note}
 use Rattle.cf_part.specs.declared.progress.Progress.{Progress}
-use Rattle.cf_part.specs.declared.progress.Progress.TheVariants.{NotCalled, Runs, Stopped, Ended}
+use Rattle.cf_part.specs.declared.progress.Progress.TheVariants.{NotCalled}
 use Rattle.cf_part.specs.declared.question.Fault.{Fault}
 use Rattle.cf_part.specs.declared.question.PutOf.{PutOf}
 use Rattle.cf_part.specs.declared.question.PutOf.TheVariants.{Rest}
@@ -23,7 +22,7 @@ use Rattle.cf_notes.specs.declared.wants.Owed.{Owed}
 use Rattle.cf_notes.specs.declared.wants.Want.{Want}
 
 -- What a contract sees: the session's view of the row with the put that is under way; of each stage what the notes say, how far its call has
--- come, what is owed, and from which moment on it is shown, if somebody waits; the notes and payloads of the put, and what it is of; the question that is open; how many words the store has
+-- come, what is owed (no value until its function is called, and what it came to once it has ended), and from which moment on it is shown, if somebody waits; the notes and payloads of the put, and what it is of; the question that is open; how many words the store has
 -- told of, and whether it has to be read besides; before which moment nothing is asked; and why nothing goes on any more.
 pub record Part : Type 0 where
   pub row : Row
@@ -111,6 +110,10 @@ pub record HasPlaces {W : Type 0} {X : Type 0} {Y : Type 0} {Z : Type 0} (words 
   pub of_entries : most_wants ≤ vec_capacity landing
   pub of_notes : most_wants ≤ vec_capacity said
 
+-- What is owed of a stage whose function wasn't called: where another process settles the stage, the finish closes its claim.
+abbrev pub no_value : Owed
+no_value = record { answer = NoValue; is_error = false }
+
 -- as it is opened
 abbrev pub opened : Planned → List Note → ℕ → ℕ → ℕ → Bool → Part
 opened plan notes room session first is_flow =
@@ -123,7 +126,7 @@ opened plan notes room session first is_flow =
       };
       notes = record { stages = noted_plan [] plan.stages notes; room = room };
       calls = replicate places NotCalled;
-      owed = replicate places None;
+      owed = replicate places (Some no_value);
       wanted = replicate places None;
       wants = [];
       of = Rest;
@@ -169,26 +172,3 @@ IsClose asked = ⊥
 -- 20 milliseconds later
 abbrev pub later : ℕ → ℕ
 later now = min (now + 20) 18446744073709551615
-
--- ---- what is owed
-
--- what a finish says: what the function came to, or nothing where the stage was settled before its function was called
-abbrev pub debt_in : Option Owed → Progress → Bool → Option Owed
-debt_in (Some o) call is_settled = Some o
-debt_in None NotCalled is_settled = cond is_settled (Some (record { answer = NoValue; is_error = false })) None
-debt_in None Runs is_settled = None
-debt_in None Stopped is_settled = None
-debt_in None Ended is_settled = None
-
--- a stage whose claim is this session's and open, and what its finish says
-pub record OwesIn (r : Replica) (calls : List Progress) (owed : List (Option Owed)) (i : ℕ) (o : Owed) : Type 0 where
-  pub granted : IsGrantedTo r r.session i
-  pub claimed : claim_at (state_of r) i ≢ None
-  pub is : debt_in (owed_in owed i) (call_in calls i) (is_some (outcome_at (state_of r) i)) ≡ Some o
-
--- no stage from a number up to another is such a one
-abbrev pub OwesNone : Replica → List Progress → List (Option Owed) → ℕ → ℕ → Type 0
-OwesNone r calls owed from to = (i : ℕ) (o : Owed) → from ≤ i → i < to → ¬ OwesIn r calls owed i o
-
-abbrev pub Owes : Part → ℕ → Owed → Type 0
-Owes p i o = OwesIn p.row.replica p.calls p.owed i o

@@ -82,7 +82,7 @@ abbrev pub Tells : Part → ℕ → Step → Part → Type 0
 Tells old now (Show i shown) new =
     (is_time (is_some old.fault) now (wanted_in old.wanted i) ≡ true) × Shows old i shown × (new ≡ record old { wanted = slice_set old.wanted i None })
 Tells old now (Stop i) new = (old.fault ≡ None) × IsToStop old.calls (state_in old) i × (new ≡ record old { calls = slice_set old.calls i Stopped })
-Tells old now (Call i args) new = Calls old i args × (new ≡ record old { calls = slice_set old.calls i Runs })
+Tells old now (Call i args) new = Calls old i args × (new ≡ record old { calls = slice_set old.calls i Runs; owed = slice_set old.owed i None })
 
 -- none goes before it: stages are shown first, then stopped, then called, and of each the lowest comes first
 abbrev pub ComesFirst : Part → ℕ → Step → Type 0

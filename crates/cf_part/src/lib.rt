@@ -11,7 +11,6 @@
 
 mod finding;
 pub mod laws;
-mod owing;
 mod part;
 mod progress;
 mod putting;
@@ -22,7 +21,6 @@ mod step;
 pub use cf_ledger::{LedgerFault, Misfit};
 pub use cf_notes::{EndsWith, Note, Noted, Owed, Source, Want};
 pub use cf_row::{Entry, PutFault, Replica};
-pub use owing::Debt;
 pub use part::{MOST_WANTS, Part};
 pub use progress::Progress;
 pub use question::{Fault, PutOf, Question};

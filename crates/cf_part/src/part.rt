@@ -5,12 +5,11 @@ ghost use Rattle.cf_forms.specs.Plans.{has_place};
 ghost use Rattle.cf_row.specs.Puts.{IsNoPut};
 ghost use Rattle.cf_row.specs.Rows.{stages_of};
 ghost use Rattle.cf_notes.specs.Noting.{AreNotes};
-ghost use Rattle.cf_part.specs.Parts.{IsClose, IsPut, IsRead, MayPlan, Owes, OwesNone, later, most_wants, opened, question_of, seen_by, words_wanted};
+ghost use Rattle.cf_part.specs.Parts.{IsClose, IsPut, IsRead, MayPlan, later, most_wants, opened, question_of, seen_by, words_wanted};
 ghost use Rattle.cf_part.specs.Steps.{ComesFirst, NothingToTell, Tells};
 ghost use Rattle.cf_part.specs.Answers.{Breaks, Closes, Ends, IsRunning, Lands, Meets, Mismeets, Misreads, PlansWords, Reads, Refuses, Waits};
 
 use crate::finding::{args_for, is_running, shown, to_call, to_show, to_stop};
-use crate::owing::{Debt, first_owed};
 use crate::progress::Progress;
 use crate::putting::{fault_after, refuse, write_entries, write_notes, write_wants, write_words};
 use crate::question::{Fault, PutOf, Question, later};
@@ -25,6 +24,12 @@ use std::marker::Model;
 
 /// How many words a put has at most.
 pub const MOST_WANTS: usize = 8;
+
+/// What is owed of a stage whose function wasn't called.
+const NO_VALUE: Option<Owed> = Some(Owed {
+    answer: EndsWith::NoValue,
+    is_error: false,
+});
 
 /// A session's view of a request's row, with what its process has to do there.
 #[derive(Drop)]
@@ -99,7 +104,7 @@ impl Part {
     {
         let places = plan.stages() as usize + room as usize;
         let calls = vec![in alloc; Progress::NotCalled; places]?;
-        let owed = vec![in alloc; None; places]?;
+        let owed = vec![in alloc; NO_VALUE; places]?;
         let wanted = vec![in alloc; None; places]?;
         let numbers: Vec<u64> = Vec::with_capacity(alloc, MOST_WANTS)?;
         let wants: Vec<Want> = Vec::with_capacity(alloc, MOST_WANTS)?;
@@ -143,7 +148,8 @@ impl Part {
         self.notes.stages()
     }
 
-    /// Of each stage what its function came to, until the row has it.
+    /// Of each stage what its finish says, should its claim be this session's and open: no value while its function wasn't
+    /// called, for then another process has settled it; nothing while it runs; and then what it came to.
     pub fn owed(&self) -> &[Option<Owed>]
         ensures { result.now ≡ self.now.owed }
     {
@@ -487,22 +493,7 @@ impl Part {
         let stage = to_call(&self.calls, replica)?;
         let args = args_for(replica, stage);
         self.calls[stage as usize] = Progress::Runs;
+        self.owed[stage as usize] = None;
         Some(Step::Call { stage, args })
-    }
-
-    /// The lowest stage from a number on whose finish is owed, and what it says. It costs a look at each stage between,
-    /// and at each claim that was granted.
-    pub fn owes(&self, from: u16) -> Option<Debt>
-        ensures is { IfSome result (λ debt. Owes self.now debt.stage debt.owed) }
-        ensures above { IfSome result (λ debt. from ≤ debt.stage) }
-        ensures lowest { IfSome result (λ debt. OwesNone self.now.row.replica self.now.calls self.now.owed
-            from debt.stage) }
-        ensures none { IfNone result (OwesNone self.now.row.replica self.now.calls self.now.owed
-            from (stages_of self.now.row.replica)) }
-    {
-        let replica = self.row.replica();
-        // (what it took says that there is a place for each stage)
-        let _ = replica.ledger();
-        first_owed(replica, &self.calls, &self.owed, from)
     }
 }

@@ -4,7 +4,7 @@ use cf_forms::{Args, Form};
 use cf_ledger::{LedgerFault, Misfit};
 use cf_notes::{EndsWith, Note, Owed, Source, Timer, Want, function_of, timer_of};
 use cf_outcome::{Outcome, Value};
-use cf_part::{Debt, Fault, Part, PutOf, Question, Shown, Step};
+use cf_part::{Fault, Part, PutOf, Question, Shown, Step};
 use cf_plan::{Plan, PlanBuilder};
 use cf_row::{Entry, TOKENS};
 use std::alloc::Global;
@@ -28,7 +28,7 @@ enum Move {
     Tells(Option<Step>),
     TellsAt(u64, Option<Step>),
     Unreads(u64),
-    Owes(Option<Debt>),
+    Owes(Option<Owed>),
     Faults(Option<Fault>),
     Calls(u16, Option<u32>),
     Times(u16, u64, u64),
@@ -86,20 +86,20 @@ const SHOW: Option<Step> = Some(Step::Show {
 });
 
 /// What the function came to is owed, or an error in its place.
-const VALUE: Option<Debt> = Some(Debt {
-    stage: 0,
-    owed: Owed {
-        answer: EndsWith::Gives,
-        is_error: false,
-    },
+const VALUE: Option<Owed> = Some(Owed {
+    answer: EndsWith::Gives,
+    is_error: false,
 });
 
-const ERROR: Option<Debt> = Some(Debt {
-    stage: 0,
-    owed: Owed {
-        answer: EndsWith::Gives,
-        is_error: true,
-    },
+const ERROR: Option<Owed> = Some(Owed {
+    answer: EndsWith::Gives,
+    is_error: true,
+});
+
+/// No function was called.
+const NO_VALUE: Option<Owed> = Some(Owed {
+    answer: EndsWith::NoValue,
+    is_error: false,
 });
 
 /// The value is put until it stands: as it is where no answer came, and behind a refusal of it and of the error. Where its
@@ -112,6 +112,7 @@ const KEEPS: [Move; 34] = [
     Plans(CLAIM, Note::Nothing, PutOf::Rest),
     Asks(0, PUT),
     Stands,
+    Owes(NO_VALUE),
     Tells(CALL),
     Tells(None),
     Owes(None),
@@ -132,7 +133,6 @@ const KEEPS: [Move; 34] = [
     Asks(39, None),
     Asks(40, FINISH_PUT),
     Stands,
-    Owes(None),
     Tells(SHOW),
     Tells(None),
     Unreads(40),
@@ -342,7 +342,7 @@ fn is_answered(part: &mut Part, call: Move) -> bool {
         Ends => ends(part),
         Tells(wanted) => part.next(0) == wanted,
         TellsAt(now, wanted) => part.next(now) == wanted,
-        Owes(wanted) => part.owes(0) == wanted,
+        Owes(wanted) => part.owed()[0] == wanted,
         Faults(wanted) => part.fault() == wanted,
         Calls(stage, wanted) => function_of(part.notes(), stage) == wanted,
         Times(stage, moment, place) => is_timed(part, stage, moment, place),

@@ -25,7 +25,9 @@ enum Move {
     Rests(u64),
     Acts(Act),
     Ends,
+    Hears(usize),
     Reads,
+    Sees(Entry),
     Stands,
     Meets(Entry, bool),
     Refuses(u64),
@@ -92,6 +94,22 @@ const FLOWS: [Move; 19] = [
     AsksClose(20, 4),
     Closes(true),
     Rests(20),
+];
+
+/// A stage was cancelled behind this session's claim, before its function was called: it isn't called, and a finish closes
+/// the claim.
+const CLOSED: [Move; 11] = [
+    AsksRead(0, 0),
+    Reads,
+    AsksPut(0, 0),
+    Stands,
+    Hears(2),
+    AsksRead(0, 1),
+    Sees(CANCELLED),
+    AsksPut(0, 2),
+    Stands,
+    AsksClose(0, 3),
+    Closes(true),
 ];
 
 /// An act stands, one comes too late, and one attaches a stage.
@@ -215,8 +233,9 @@ const ENDED: [Move; 10] = [
 /// The name of a case, whether its request is a flow, and what is done.
 type Case = (&'static str, bool, &'static [Move]);
 
-static CASES: [Case; 10] = [
+static CASES: [Case; 11] = [
     ("flows", true, &FLOWS),
+    ("closed", true, &CLOSED),
     ("acts", false, &ACTS),
     ("again", false, &AGAIN),
     ("taken", false, &TAKEN),
@@ -247,10 +266,12 @@ fn work_of(rt: &impl Abort, alloc: Global, is_flow: bool) -> Work {
     work
 }
 
-/// Whether a read is answered: nothing more stands there.
-fn reads(work: &mut Work) -> bool {
+/// Whether a read is answered: these entries stand there.
+fn reads(work: &mut Work, entries: &[Entry], notes: &[Note]) -> bool {
     match work.part().asked() {
-        Some(Question::Read { .. }) => work.read(0, &[], &[]).is_ok(),
+        Some(Question::Read { .. }) => {
+            entries.len() == notes.len() && work.read(0, entries, notes).is_ok()
+        }
         _ => false,
     }
 }
@@ -321,7 +342,8 @@ fn is_made(work: &mut Work, call: Move) -> bool {
             act.fits() && work.reserve(1).is_ok() && work.asks(NUMBER, act, UNTIL).is_ok()
         }
         Ends => work.ends(NUMBER, UNTIL).is_ok(),
-        Reads => reads(work),
+        Reads => reads(work, &[], &[]),
+        Sees(entry) => reads(work, &[entry], &[Note::Nothing]),
         Stands | Refuses(_) | Meets(..) => is_put_answered(work, call),
         Closes(is_closed) => closes(work, is_closed),
         Finishes(stage, answer) => finishes(work, stage, answer),
@@ -331,6 +353,10 @@ fn is_made(work: &mut Work, call: Move) -> bool {
         }
         Breaks => {
             work.breaks(Fault::Dropped);
+            true
+        }
+        Hears(words) => {
+            work.told_length(words);
             true
         }
         _ => false,

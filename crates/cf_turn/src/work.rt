@@ -220,9 +220,7 @@ impl Work {
             (length self.old.ends) self.old.ends) }
     {
         let is_closed = is_at(self.closed_at, self.part.view().seen().len());
-        let place = self
-            .users
-            .end_to_tell(self.part.fault(), is_closed, now)?;
+        let place = self.users.end_to_tell(self.part.fault(), is_closed, now)?;
         self.users.remove_end(place.at);
         Some(place)
     }

@@ -1,4 +1,4 @@
-use Rattle.std.proofs.Common.{◌≤◌, List, length, set, ap, subst, sym, ◌∙◌, arith}
+use Rattle.std.proofs.Common.{◌≤◌, List, None, length, set, ap, subst, sym, ◌∙◌, arith}
 use Rattle.cf_row.specs.Rows.{Replica, stages_of}
 use Rattle.cf_part.specs.declared.progress.Progress.{Progress}
 use Rattle.cf_part.specs.declared.progress.Progress.TheVariants.{Runs}
@@ -21,6 +21,14 @@ index_mut-requires-2 c =
     let there = c.in_ok-stage.ensures.there in
     omega (arith, all, len, there)
 
+pub index_mut-requires-3 : goal.index_mut-requires-3
+index_mut-requires-3 c =
+    let i = c.self.inside in
+    let places = c.self.invariant.sound.of_owed ∙ ap (λ (r : Replica). places_of r.plan) (sym c.replica-replica.ensures) in
+    let all : stages_of c.replica-replica.result.now ≤ length i.owed.items = stages_have_places c.replica-replica.result.now (length i.owed.items) c.ledger.ensures.taken places in
+    let there = c.in_ok-stage.ensures.there in
+    omega (arith, all, i.owed.ok.0, there)
+
 pub returns-clause-step : goal.returns-clause-step
 returns-clause-step c =
     let places = c.self.invariant.sound.of_calls ∙ ap (λ (r : Replica). places_of r.plan) (sym c.replica-replica.ensures) in
@@ -38,4 +46,4 @@ returns-clause-step c =
           (subst (λ (r : Replica). IsToCall c.deref-3.result.now r c.in_ok-stage.stage) c.replica-replica.ensures c.in_ok-stage.ensures.is);
       granted = subst (λ (r : Replica). IsGrantedWith r.records c.in_ok-stage.stage c.args_for-args.result) c.replica-replica.ensures c.args_for-args.ensures;
     }) in
-    (calls, ap (λ (p : Part). let q : Part = record p { calls = set p.calls c.in_ok-stage.stage Runs } in q) c.self.view_is)
+    (calls, ap (λ (p : Part). let q : Part = record p { calls = set p.calls c.in_ok-stage.stage Runs; owed = set p.owed c.in_ok-stage.stage None } in q) c.self.view_is)

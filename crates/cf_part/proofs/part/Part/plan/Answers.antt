@@ -1,6 +1,6 @@
 use Rattle.std.proofs.Common.{List, ap, rules, subst, sym, ◌∙◌}
 use Rattle.cf_notes.specs.declared.wants.Want.{Want}
-use Rattle.cf_row.specs.Puts.{Plans}
+use Rattle.cf_row.specs.Puts.{IsNoPut, Plans}
 use Rattle.cf_part.specs.Parts.{IsSound, Part, words_wanted}
 use Rattle.cf_part.proofs.Kept.{planned_sound, planned_stages}
 use Rattle.cf_part.proofs.part.Part.plan.Goals as goal
@@ -16,3 +16,9 @@ invariant_of-self-2 c =
       noted = planned_stages i.row c.plan.new.self _ i.notes plans c.self.invariant.noted;
       places = search rules;
     }
+
+pub returns-in-Err-clause-why : goal.returns-in-Err-clause-why
+returns-in-Err-clause-why c =
+    let i = c.self.inside in
+    subst (λ (p : Part). IsNoPut p.row.replica p.row.next (words_wanted c.args.wants.now) c.in-Err.fault) c.self.view_is
+    (subst (λ ws. IsNoPut i.row.replica i.row.next ws c.in-Err.fault) (c.as_slice.ensures.value ∙ c.write_words.ensures.items) c.in-Err.ensures.why)
