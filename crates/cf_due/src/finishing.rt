@@ -1,6 +1,8 @@
 //! The finish of a stage whose function has ended.
-ghost use Rattle.std.specs.Prelude.{◌≡◌, IfNone, IfSome};
+ghost use Rattle.std.specs.Prelude.{◌≡◌, ◌<◌, IfNone, IfSome};
 ghost use Rattle.cf_row.specs.Next.{Finishes, HasNoClaim};
+ghost use Rattle.cf_row.specs.Numbers.{FollowsRule};
+ghost use Rattle.cf_row.specs.Puts.{pairs_of};
 ghost use Rattle.cf_row.specs.Rows.{stages_of};
 ghost use Rattle.cf_due.specs.Finishing.{ClaimsIfMay, FinishesOwed, IsFinishDue, NoneToFinish, answer_by, held_by, note_by, owed_at, promise_by, settled_as, source_by};
 
@@ -31,9 +33,10 @@ pub(crate) fn finish_due(
     ensures finish { IfSome result (λ f. IsFinishDue view.now notes.now owed.now may_claim f) }
     ensures none { IfNone result (NoneToFinish view.now owed.now (stages_of view.now)) }
 {
+    let who = view.number();
     for stage in 0..view.ledger().stages() {
         if let Some(owed) = owed_at(owed, stage) {
-            if let Some(finish) = finish_of(view, notes, stage, owed) {
+            if let Some(finish) = finish_if_open(view, notes, stage, who, owed) {
                 let held = held_by(view, notes, stage, owed);
                 let claim = claim_if_may(view, notes, may_claim, held, finish.word);
                 return Some(Finishing {
@@ -73,6 +76,20 @@ fn claim_if_may(
     } else {
         None
     }
+}
+
+/// What finishes a stage with what its function came to, if this view's session has its claim, whose number is `who`. It
+/// costs one look where no claim is open under that.
+fn finish_if_open(view: &Replica, notes: &[Noted], stage: u16, who: u8, owed: Owed) -> Option<Want>
+    requires there { stage < stages_of view.now }
+    requires rule { FollowsRule (pairs_of view.now.seen) (view.now.session, who) }
+    ensures finish { IfSome result (λ want. FinishesOwed view.now notes.now stage owed want) }
+    ensures none { IfNone result (HasNoClaim view.now stage) }
+{
+    if view.ledger().claimant(stage) != Some(who) {
+        return None;
+    }
+    finish_of(view, notes, stage, owed)
 }
 
 /// What finishes a stage with what its function came to, if this view's session has its claim.
