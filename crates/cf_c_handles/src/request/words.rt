@@ -95,8 +95,8 @@ fn finish(
     }
 }
 
-/// Does a word of any kind, in a call of its own. Most of these attach a stage.
-#[inline(never)]
+/// Does a word of any kind. Most of these attach a stage.
+#[inline(always)]
 fn apply_other(machine: &mut Machine, word: u64, lane: u8, reply: &mut CfReply) -> Result<(), Code>
     requires { lane < machine.old.teller.lanes.count }
     ensures done { OnOk result (Answers word lane machine.old machine.new reply.new) }
