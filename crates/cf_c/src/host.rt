@@ -1,5 +1,5 @@
 //! All requests of a store that a process works on.
-ghost use Rattle.std.specs.Prelude.{true, false};
+ghost use Rattle.std.specs.Prelude.{None, Some};
 ghost use Rattle.cf_c_handles.specs.Handles.{HandleDoes, HandleTells, HandleWrites};
 ghost use Rattle.cf_c_handles.specs.HostAnswers.{OpensBehind, TakesBeats, TakesEnd, TakesNews, TakesPlain, TakesRows, plain_numbered};
 ghost use Rattle.cf_c_handles.specs.HostValues.{act_of, ends_of};
@@ -63,7 +63,7 @@ pub extern "C" fn cf_host_end(
 /// Somebody waits for a stage.
 #[unsafe(no_mangle)]
 pub extern "C" fn cf_host_wants(alloc: Global, h: &mut CfHandle, request: u64, stage: u16) -> u32
-    ensures { HandleDoes (OfHost (Wants true request stage)) h.old h.new result }
+    ensures { HandleDoes (OfHost (Wants (Some 0) request stage)) h.old h.new result }
 {
     ask!(alloc, h, held => calling::want(&mut held, request, stage))
 }
@@ -71,7 +71,7 @@ pub extern "C" fn cf_host_wants(alloc: Global, h: &mut CfHandle, request: u64, s
 /// Nobody waits for a stage any more.
 #[unsafe(no_mangle)]
 pub extern "C" fn cf_host_lets_go(alloc: Global, h: &mut CfHandle, request: u64, stage: u16) -> u32
-    ensures { HandleDoes (OfHost (Wants false request stage)) h.old h.new result }
+    ensures { HandleDoes (OfHost (Wants None request stage)) h.old h.new result }
 {
     ask!(alloc, h, held => calling::let_go(&mut held, request, stage))
 }

@@ -1,6 +1,7 @@
 -- What C reads of the requests of a host behind a handle.
 use Rattle.std.specs.Prelude.{◌≡◌, ℕ, ◌<◌, ◌≤◌, Option, Some, None, Result, Ok, Err, List, length, min, slice_get}
 use Rattle.cf_host.specs.Hosts.{Host as Host', IsShownPart}
+use Rattle.cf_host.specs.Requests.{IsOpenIn}
 use Rattle.cf_notes.specs.declared.wants.Want.{Want}
 use Rattle.cf_part.specs.Parts.{Part as Part', seen_by}
 use Rattle.cf_part.specs.declared.question.Fault.{Fault}
@@ -19,15 +20,16 @@ use Rattle.cf_c_handles.specs.declared.values.stage.CfStage.{CfStage}
 
 -- ---- a request that is opened
 
--- it tells this, or isn't opened
+-- it tells this
 pub record TellsOf {X : Type 0} (Tells : Part' → Result X Code → Type 0) (request : ℕ) (h : Host') (r : Result X Code) : Type 0 where
   pub part : Part'
   pub is : IsShownPart h request part
   pub tells : Tells part r
 
+-- or isn't opened, and C is told that
 abbrev pub OfHostPart : {X : Type 0} → (Part' → Result X Code → Type 0) → ℕ → Host' → Result X Code → Host' → Type 0
 OfHostPart Tells request h (Ok told) new = TellsOf Tells request h (Ok told) × (new ≡ h)
-OfHostPart Tells request h (Err NotOpen) new = new ≡ h
+OfHostPart Tells request h (Err NotOpen) new = (¬ IsOpenIn request h.requests) × (new ≡ h)
 OfHostPart Tells request h (Err code) new = TellsOf Tells request h (Err code) × (new ≡ h)
 
 -- what a stage is
@@ -68,7 +70,7 @@ pub record GivesPut (request : ℕ) (h : Host') (had has : List CfHostWant × �
 
 abbrev pub WritesPutOf : ℕ → Host' → List CfHostWant × ℕ → Result (Unit {0}) Code → List CfHostWant × ℕ → Type 0
 WritesPutOf request h had (Ok done) has = GivesPut request h had has
-WritesPutOf request h had (Err code) has = (code ≡ NotOpen) × (has ≡ had)
+WritesPutOf request h had (Err code) has = (code ≡ NotOpen) × (¬ IsOpenIn request h.requests) × (has ≡ had)
 
 abbrev pub WritesPut : ℕ → Object → List CfHostWant × ℕ → Result (Unit {0}) Code → Object → List CfHostWant × ℕ → Type 0
 WritesPut request (Host h) had r new has = WritesPutOf request h.value had r has × (new ≡ Host h)

@@ -1,9 +1,9 @@
 -- What users call of a host behind a handle, and what it has to do next.
-use Rattle.std.specs.Prelude.{◌≡◌, ◌⊎◌, ℕ, ◌<◌, ◌≤◌, Bool, true, min, Result, Ok, Err}
+use Rattle.std.specs.Prelude.{◌≡◌, ◌⊎◌, ℕ, ◌<◌, ◌≤◌, true, min, Option, Result, Ok, Err, List}
 use Rattle.std.specs.Global.{Box}
 use Rattle.cf_due.specs.Acts.{IsFitting}
 use Rattle.cf_due.specs.declared.acts.Act.{Act}
-use Rattle.cf_host.specs.Asking.{Asking, Ending, Wanting}
+use Rattle.cf_host.specs.Asking.{Asking, Ending, IsNoAsking, IsNoEnding, IsNoWanting, Wanting}
 use Rattle.cf_host.specs.Hosts.{FollowsIn, Host as Host', Keeps, OnRequest, OnRequestFor, Orders, new_host}
 use Rattle.cf_host.specs.Pulses.{later_by}
 use Rattle.cf_host.specs.declared.order.NoAnswer.{NoAnswer}
@@ -11,9 +11,11 @@ use Rattle.cf_host.specs.declared.order.NoAnswer.TheVariants as answers
 use Rattle.cf_host.specs.declared.order.NoCall.{NoCall}
 use Rattle.cf_host.specs.declared.order.NoCall.TheVariants as calls
 use Rattle.cf_host.specs.declared.order.Order.{Order}
+use Rattle.cf_host.specs.declared.request.Request.{Request}
 use Rattle.cf_c_handles.specs.Building.{Fills}
 use Rattle.cf_c_handles.specs.HostOrders.{as_order}
 use Rattle.cf_c_handles.specs.HostValues.{flag}
+use Rattle.cf_c_handles.specs.RequestCalls.{IsDueAs}
 use Rattle.cf_c_handles.specs.declared.code.Code.{Code}
 use Rattle.cf_c_handles.specs.declared.code.Code.TheVariants.{BadAttach, NoMemory, NoStage, NoTicket, NoTokens, NotOpen, Unfit, WrongKind}
 use Rattle.cf_c_handles.specs.declared.handle.CfHandle.{CfHandle}
@@ -67,10 +69,9 @@ abbrev pub OfHost : {X : Type 0} → (Host' → Result X Code → Host' → Type
 OfHost Asks (Host h) r new = AsksHost Asks h r new
 OfHost Asks held r new = (r ≡ Err WrongKind) × (new ≡ held)
 
--- why a call on a request is refused
-pub record IsCallCode (code : Code) : Type 0 where
-  pub why : NoCall
-  pub is : code ≡ call_code why
+-- the reason for which a call on a request is refused has this code
+abbrev pub IsCallCode : (List Request → NoCall → Type 0) → Host' → Code → Type 0
+IsCallCode IsNoCall h code = IsDueAs call_code (IsNoCall h.requests) code
 
 -- a request is worked on
 abbrev pub Follows : ℕ → Host' → Result (Unit {0}) Code → Host' → Type 0
@@ -80,9 +81,9 @@ Follows request h (Err code) new = (code ≡ NoMemory) × (new ≡ h)
 -- an act is asked for that fits, and C has its ticket
 abbrev pub ActsSo : ℕ → ℕ → Act → Host' → Result ℕ Code → Host' → Type 0
 ActsSo now request act h (Ok ticket) new =
-    IsFitting act × OnRequestFor (λ n. Asking n act (later_by 60000 now)) request ticket h new
+    IsFitting act × OnRequestFor (λ n. Asking n act (later_by 60000 now)) request now ticket h new
 ActsSo now request act h (Err code) new =
-    ((code ≡ BadAttach) × (¬ IsFitting act) × (new ≡ h)) ⊎ (IsFitting act × IsCallCode code × Keeps h new)
+    ((code ≡ BadAttach) × (¬ IsFitting act) × (new ≡ h)) ⊎ (IsFitting act × IsCallCode (IsNoAsking act request) h code × Keeps h new)
 
 abbrev pub Acts : ℕ → ℕ → Result Act Code → Host' → Result ℕ Code → Host' → Type 0
 Acts now request (Ok act) h r new = ActsSo now request act h r new
@@ -90,13 +91,13 @@ Acts now request (Err why) h r new = (r ≡ Err why) × (new ≡ h)
 
 -- a request is to be closed, and C has the ticket for that
 abbrev pub EndsRequest : ℕ → ℕ → Host' → Result ℕ Code → Host' → Type 0
-EndsRequest now request h (Ok ticket) new = OnRequestFor (λ n. Ending n (later_by 60000 now)) request ticket h new
-EndsRequest now request h (Err code) new = IsCallCode code × Keeps h new
+EndsRequest now request h (Ok ticket) new = OnRequestFor (λ n. Ending n (later_by 60000 now)) request now ticket h new
+EndsRequest now request h (Err code) new = IsCallCode (IsNoEnding request) h code × Keeps h new
 
--- somebody waits for a stage, or nobody does any more
-abbrev pub Wants : Bool → ℕ → ℕ → Host' → Result (Unit {0}) Code → Host' → Type 0
-Wants is_wanted request stage h (Ok done) new = OnRequest (Wanting stage is_wanted) request h new
-Wants is_wanted request stage h (Err code) new = IsCallCode code × (new ≡ h)
+-- somebody waits for a stage, which is shown from a moment on, or nobody does any more
+abbrev pub Wants : Option ℕ → ℕ → ℕ → Host' → Result (Unit {0}) Code → Host' → Type 0
+Wants from request stage h (Ok done) new = OnRequest (Wanting stage from) request h new
+Wants from request stage h (Err code) new = IsCallCode (IsNoWanting stage request) h code × (new ≡ h)
 
 -- what is new is asked for by now
 abbrev pub IsStirred : ℕ → Host' → Result (Unit {0}) Code → Host' → Type 0

@@ -1,6 +1,6 @@
 //! The answers of a store to a host, and the ends of functions.
-ghost use Rattle.std.specs.Prelude.{◌≡◌};
-ghost use Rattle.cf_c_handles.specs.HostAnswers.{OpensBehind, OpensOf, OpensPlan, TakesBeats, TakesEnd, TakesNews, TakesPlain, TakesRows, plain_numbered, taken_as};
+ghost use Rattle.std.specs.Prelude.{◌≡◌, IfErr, OnErr, OnOk};
+ghost use Rattle.cf_c_handles.specs.HostAnswers.{DoesPlain, FitsPlain, IsPlainNo, OpensBehind, OpensOf, OpensPlan, TakesBeats, TakesEnd, TakesNews, TakesPlain, TakesRows, plain_numbered, taken_as};
 ghost use Rattle.cf_c_handles.specs.HostValues.{ends_of};
 ghost use Rattle.cf_c_handles.specs.Hosts.{OfHost};
 
@@ -195,15 +195,23 @@ fn answer_in(host: &mut Host, plain: Option<Plain>, now: u64, ticket: u64) -> Re
     let Some(plain) = plain else {
         return Err(Code::NoSuchNumber);
     };
-    let done = match plain {
+    taken_as(tell(host, plain, now, ticket))
+}
+
+/// The same of a number that there is.
+fn tell(host: &mut Host, plain: Plain, now: u64, ticket: u64) -> Result<(), NoAnswer>
+    ensures ok { OnOk result (DoesPlain plain now host.old ticket host.new) }
+    ensures why { IfErr result (λ why. IsPlainNo (FitsPlain plain) host.old ticket why) }
+    ensures err { OnErr result (host.new ≡ host.old) }
+{
+    match plain {
         Plain::Stands => host.stands(ticket),
         Plain::Closed => host.closed(ticket, true),
         Plain::NotClosed => host.closed(ticket, false),
         Plain::Unknown => host.unknown(now, ticket),
         Plain::Refused => host.refused(now, ticket),
         Plain::Dropped => host.dropped(ticket),
-    };
-    taken_as(done)
+    }
 }
 
 /// The answer of a number.

@@ -1,5 +1,5 @@
 //! What users and the store's notices call of a host, and what it has to do next.
-ghost use Rattle.std.specs.Prelude.{false, true};
+ghost use Rattle.std.specs.Prelude.{None, Some};
 ghost use Rattle.cf_c_handles.specs.HostValues.{act_of};
 ghost use Rattle.cf_c_handles.specs.Hosts.{Acts, EndsRequest, Follows, IsStirred, OfHost, Stops, TurnsTo, Wants};
 
@@ -75,13 +75,13 @@ fn end_in(host: &mut Host, now: u64, request: u64) -> Result<u64, Code>
 
 /// Somebody waits for a stage.
 pub fn want(held: &mut Object, request: u64, stage: u16) -> Result<(), Code>
-    ensures { OfHost (Wants true request stage) held.old result held.new }
+    ensures { OfHost (Wants (Some 0) request stage) held.old result held.new }
 {
     of_host!(held, host => want_in(host, request, stage))
 }
 
 fn want_in(host: &mut Host, request: u64, stage: u16) -> Result<(), Code>
-    ensures { Wants true request stage host.old result host.new }
+    ensures { Wants (Some 0) request stage host.old result host.new }
 {
     match host.wants(request, stage) {
         Ok(()) => Ok(()),
@@ -91,13 +91,13 @@ fn want_in(host: &mut Host, request: u64, stage: u16) -> Result<(), Code>
 
 /// Nobody waits for a stage any more.
 pub fn let_go(held: &mut Object, request: u64, stage: u16) -> Result<(), Code>
-    ensures { OfHost (Wants false request stage) held.old result held.new }
+    ensures { OfHost (Wants None request stage) held.old result held.new }
 {
     of_host!(held, host => let_go_in(host, request, stage))
 }
 
 fn let_go_in(host: &mut Host, request: u64, stage: u16) -> Result<(), Code>
-    ensures { Wants false request stage host.old result host.new }
+    ensures { Wants None request stage host.old result host.new }
 {
     match host.lets_go(request, stage) {
         Ok(()) => Ok(()),
