@@ -250,6 +250,135 @@ static void requests(void) {
   for (uint32_t left = 0; left <= 4; ++left) request(65, EDGES - left, 0);
 }
 
+/* The one request of a store: its plan, and its row, into which one host puts. */
+static struct {
+  cf_handle plan;
+  uint16_t stages, room;
+  cf_note notes[STAGES];
+  cf_noted row[4 * STAGES];
+  size_t entries;
+} stored;
+
+/* How often each order came since a host began to be served. */
+static uint32_t orders[CF_ORDER_TELL + 1];
+
+/* A request of a source and so many applies of it, each with a function of its own. */
+static void store(uint32_t applies, uint32_t room) {
+  uint16_t at;
+  plan_of(&stored.plan, 1, 0, 0, 0);
+  for (uint32_t k = 1; k <= applies; ++k) {
+    wants(cf_builder_stage(&stored.plan, CF_APPLY, zeros, 1, 0, &at), CF_OK, "builder_stage", applies, k);
+    stored.notes[k].what = CF_NOTE_CALLS(k);
+  }
+  wants(cf_build(&stored.plan), CF_OK, "build", applies, 0);
+  stored.stages = (uint16_t)(1 + applies);
+  stored.room = (uint16_t)room;
+  stored.entries = 0;
+}
+
+/* Puts a host's entries into the row. */
+static uint32_t put(cf_handle *host, const cf_host_order *order) {
+  cf_host_want given[8];
+  size_t n = 0;
+  wants(cf_host_put(host, order->request, given, 8, &n), CF_OK, "host_put", (uint32_t)n, 0);
+  for (size_t k = 0; k < n; ++k) stored.row[stored.entries++] = given[k].entry;
+  return cf_host_answered(host, 0, order->ticket, CF_STANDS);
+}
+
+/* Does an order of a host. Functions end at once. */
+static uint32_t obey(cf_handle *host, const cf_host_order *order) {
+  const cf_host_beat beat = {.session = 7, .count = 1};
+  switch (order->kind) {
+  case CF_ORDER_BEAT: return cf_host_beats(host, 0, order->ticket, 0, &beat, 1);
+  case CF_ORDER_LIST:
+  case CF_ORDER_NEWS: return cf_host_news(host, 0, order->ticket, 1, NULL, 0);
+  case CF_ORDER_OPEN: return cf_host_opened(host, order->ticket, &stored.plan, stored.room, 0, stored.notes, stored.stages);
+  case CF_ORDER_READ: return cf_host_read(host, 0, order->ticket, stored.row + order->place, stored.entries - order->place);
+  case CF_ORDER_PUT: return put(host, order);
+  case CF_ORDER_CLOSE: return cf_host_answered(host, 0, order->ticket, CF_CLOSED);
+  case CF_ORDER_CALL: return cf_host_ended(host, order->ticket, CF_ENDS_GIVE, 0, 0);
+  case CF_ORDER_TELL: return order->told == CF_TOLD_STANDS || order->told == CF_TOLD_CLOSED ? CF_OK : CF_UNFIT;
+  default: return CF_OK;
+  }
+}
+
+/* Does its orders until it sleeps. */
+static void serve(cf_handle *host, uint32_t size) {
+  cf_host_order order = {0};
+  memset(orders, 0, sizeof orders);
+  while (wants(cf_host_turn(host, 0, &order), CF_OK, "host_turn", size, 0) == CF_OK && order.kind != CF_ORDER_SLEEP) {
+    ++orders[order.kind];
+    wants(obey(host, &order), CF_OK, "the answer to an order", order.kind, size);
+  }
+}
+
+/* A host that follows so many requests. */
+static void host_new(cf_handle *host, uint32_t workers, uint64_t requests) {
+  const cf_host_opening opening = {.session = 7, .workers = workers, .lease = 3000, .takes_all = 1};
+  wants(cf_host_new(&opening, host), CF_OK, "host_new", workers, 0);
+  for (uint64_t k = 0; k < requests; ++k) wants(cf_host_follow(host, k), CF_OK, "host_follow", (uint32_t)k, 0);
+}
+
+/* A host is told of so many sessions and so many requests, of which it follows some. */
+static void host_of_lists(uint32_t size) {
+  static cf_host_beat beats[8193];
+  static cf_host_length lengths[8193];
+  cf_handle host = {0};
+  cf_host_order order = {0};
+  for (uint32_t k = 0; k < size; ++k) beats[k].session = lengths[k].request = k;
+  host_new(&host, 1, size < 1000 ? size : 1000);
+  wants(cf_host_turn(&host, 0, &order), CF_OK, "host_turn", size, 0);
+  wants(cf_host_beats(&host, 0, order.ticket, 0, beats, size), CF_OK, "host_beats", size, 0);
+  wants(cf_host_turn(&host, 0, &order), CF_OK, "host_turn", size, 1);
+  wants(cf_host_news(&host, 0, order.ticket, 1, lengths, size), CF_OK, "host_news", size, 0);
+  cf_free(&host);
+}
+
+/* A host attaches so many stages by as many acts, for as many waiters, and ends the request. Another one reads the whole row. */
+static void host_of_acts(uint32_t size) {
+  const cf_host_acting attach = {.kind = CF_ACT_ATTACH, .form = CF_SOURCE, .function = CF_NO_FUNCTION};
+  cf_handle host = {0}, reader = {0};
+  uint64_t ticket;
+  store(0, size);
+  host_new(&host, 1, 1);
+  serve(&host, size);
+  for (uint32_t k = 0; k < size; ++k) wants(cf_host_act(&host, 0, 0, &attach, &ticket), CF_OK, "host_act", size, k);
+  for (uint32_t k = 0; k <= size; ++k) wants(cf_host_wants(&host, 0, (uint16_t)k), CF_OK, "host_wants", size, k);
+  wants(cf_host_end(&host, 0, 0, &ticket), CF_OK, "host_end", size, 0);
+  serve(&host, size);
+  wants(orders[CF_ORDER_TELL], size + 1, "what users are told", size, 0);
+  wants((uint32_t)stored.entries, size, "the entries of a row", size, 0);
+  host_new(&reader, 1, 1);
+  serve(&reader, size);
+  wants(orders[CF_ORDER_READ], 1, "the reads of a row", size, 0);
+  cf_free(&host);
+  cf_free(&reader);
+  cf_free(&stored.plan);
+}
+
+/* A host runs so many functions at a time. */
+static void host_of_calls(uint32_t size) {
+  const cf_host_acting complete = {.kind = CF_ACT_COMPLETE};
+  cf_handle host = {0};
+  uint64_t ticket;
+  store(size, 0);
+  host_new(&host, size, 1);
+  serve(&host, size);
+  wants(cf_host_act(&host, 0, 0, &complete, &ticket), CF_OK, "host_act", size, 0);
+  serve(&host, size);
+  wants(orders[CF_ORDER_CALL], size, "the calls of functions", size, 0);
+  cf_free(&host);
+  cf_free(&stored.plan);
+}
+
+static void hosts(void) {
+  for (size_t i = 0; i < COUNT; i += is_short ? 3 : 1) {
+    if (SIZES[i] <= 8193) host_of_lists(SIZES[i]);
+    if (SIZES[i] < STAGES) host_of_acts(SIZES[i]);
+    if (SIZES[i] <= 1025) host_of_calls(SIZES[i]);
+  }
+}
+
 static uint8_t text[TEXT + 2], report[TEXT];
 
 static void run(size_t n, size_t room, uint32_t wanted, uint32_t number) {
@@ -285,6 +414,7 @@ int main(int n, char **words) {
   desks();
   ledgers();
   requests();
+  hosts();
   scripts();
   printf("%ld of %ld calls answered otherwise\n", wrong, made);
   return wrong != 0;

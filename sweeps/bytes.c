@@ -98,9 +98,45 @@ static uint32_t plan_put(cf_handle *view) {
   return code == CF_OK ? cf_row_give_up(view) : code;
 }
 
+static cf_host_order order;
+
+/* A host asks for beats and for news, and is answered. */
+static uint32_t look(cf_handle *host) {
+  static const cf_host_beat beats[CALLERS] = {{7, 1}, {8, 1}, {9, 1}, {10, 1}};
+  static const cf_host_length lengths[FEW] = {{1, 0}};
+  uint32_t code = cf_host_turn(host, 0, &order);
+  if (code == CF_OK) code = cf_host_beats(host, 0, order.ticket, 0, beats, CALLERS);
+  if (code == CF_OK) code = cf_host_turn(host, 0, &order);
+  return code == CF_OK ? cf_host_news(host, 0, order.ticket, 1, lengths, 1) : code;
+}
+
+/* It opens a request, and reads its empty row. */
+static uint32_t begin(cf_handle *host, cf_handle *plan) {
+  static const cf_note notes[STAGES];
+  uint32_t code = cf_host_turn(host, 0, &order);
+  if (code == CF_OK) code = cf_host_opened(host, order.ticket, plan, ROOM, 0, notes, STAGES);
+  if (code == CF_OK) code = cf_host_turn(host, 0, &order);
+  return code == CF_OK ? cf_host_read(host, 0, order.ticket, NULL, 0) : code;
+}
+
+/* Its turns until it sleeps: what it asks to be put stands, and functions end at once. */
+static uint32_t work(cf_handle *host) {
+  uint32_t code = cf_host_turn(host, 0, &order);
+  while (code == CF_OK && order.kind != CF_ORDER_SLEEP) {
+    if (order.kind == CF_ORDER_PUT) code = cf_host_answered(host, 0, order.ticket, CF_STANDS);
+    if (order.kind == CF_ORDER_CALL) code = cf_host_ended(host, order.ticket, CF_ENDS_GIVE, 0, 0);
+    if (code == CF_OK) code = cf_host_turn(host, 0, &order);
+  }
+  return code;
+}
+
 int main(void) {
   cf_handle plan = {0}, grown = {0}, again = {0}, graph = {0}, callers[CALLERS] = {{0}}, ledger = {0}, view = {0};
   const cf_row_opening opening = {.room = ROOM, .session = 7};
+  cf_handle host = {0};
+  const cf_host_opening open_host = {.session = 7, .workers = 1, .lease = 3000};
+  const cf_host_acting complete = {.kind = CF_ACT_COMPLETE};
+  uint64_t ticket;
   static const char SCRIPT[] = "{\"cf\":1,\"stages\":[{\"form\":\"source\"}],\"steps\":[[\"complete\",0,3],[\"outcome\",0]]}";
   static uint8_t report[1000];
   size_t length;
@@ -132,6 +168,13 @@ int main(void) {
   takes("its entries", see(&view), 21380);
   takes("a put of it", plan_put(&view), 0);
   takes("more room for it", cf_row_grow(&view, ROOM), 22104);
+  takes("a host", cf_host_new(&open_host, &host), 912);
+  takes("a request that it follows", cf_host_follow(&host, 1), 1040);
+  takes("its beats and news", look(&host), 2512);
+  takes("a request's opening", begin(&host, &plan), 28690);
+  takes("an act", cf_host_act(&host, 0, 1, &complete, &ticket), 256);
+  takes("a host's work", work(&host), 8492);
+  takes("its next turn", cf_host_turn(&host, 0, &order), 0);
   takes("a script", cf_run_script((const uint8_t *)SCRIPT, sizeof SCRIPT - 1, report, sizeof report, &length), 3845);
   cf_free(&plan);
   cf_free(&grown);
@@ -140,6 +183,7 @@ int main(void) {
   for (int k = 0; k < CALLERS; ++k) cf_free(&callers[k]);
   cf_free(&ledger);
   cf_free(&view);
+  cf_free(&host);
   printf("%u of %u steps asked for other memory\n", wrong, steps);
   return wrong != 0;
 }

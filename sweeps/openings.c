@@ -428,6 +428,121 @@ static uint32_t view(long numbers[3]) {
   return code;
 }
 
+/* The row of the one request of a store, and the moment by the hosts' clock. */
+typedef struct {
+  cf_noted row[64];
+  size_t entries;
+  uint64_t now;
+} store;
+
+/* Puts a host's entries into the row. */
+static uint32_t put(cf_handle *host, const cf_host_order *order, store *store) {
+  cf_host_want wants[8];
+  size_t n = 0;
+  uint32_t code = cf_host_put(host, order->request, wants, 8, &n);
+  for (size_t k = 0; k < n; k++) store->row[store->entries++] = wants[k].entry;
+  return code == CF_OK ? cf_host_answered(host, store->now, order->ticket, CF_STANDS) : code;
+}
+
+/* Does an order of a host. What isn't a question needs no answer. */
+static uint32_t obey(cf_handle *host, cf_handle *plan, const cf_host_order *order, store *store) {
+  static const cf_note notes[] = {{0, 0}, {CF_NOTE_CALLS(1), 0}, {CF_NOTE_CALLS(2), 0}};
+  static const cf_host_beat beats[] = {{7, 1}, {8, 1}, {9, 1}};
+  static const cf_host_length lengths[] = {{1, 0}, {2, 0}, {3, 0}};
+  switch (order->kind) {
+  case CF_ORDER_BEAT: return cf_host_beats(host, store->now, order->ticket, 0, beats, 3);
+  case CF_ORDER_LIST:
+  case CF_ORDER_NEWS: return cf_host_news(host, store->now, order->ticket, 1, lengths, 3);
+  case CF_ORDER_OPEN: return cf_host_opened(host, order->ticket, plan, 20, 0, notes, 3);
+  case CF_ORDER_READ: return cf_host_read(host, store->now, order->ticket, store->row + order->place, store->entries - order->place);
+  case CF_ORDER_PUT: return put(host, order, store);
+  case CF_ORDER_CLOSE: return cf_host_answered(host, store->now, order->ticket, CF_CLOSED);
+  case CF_ORDER_CALL: return cf_host_ended(host, order->ticket, CF_ENDS_GIVE, 0, 0);
+  default: return CF_OK;
+  }
+}
+
+/* A host's next order, which is done. A call that is refused memory is made again. The sum is of what is put, called and told. */
+static uint32_t serve_next(cf_handle *host, cf_handle *plan, store *store, cf_host_order *order, long numbers[3]) {
+  uint32_t code = cf_host_turn(host, store->now, order);
+  if (code == CF_NO_MEMORY) {
+    ++numbers[2];
+    code = cf_host_turn(host, store->now, order);
+  }
+  if (code != CF_OK) return code;
+  if (order->kind >= CF_ORDER_PUT)
+    numbers[0] = (31 * numbers[0] + (long)(order->kind + 16 * order->told + 256 * order->stage + 4096 * order->place)) % 1000003;
+  code = obey(host, plan, order, store);
+  if (code != CF_NO_MEMORY) return code;
+  ++numbers[2];
+  return obey(host, plan, order, store);
+}
+
+/* Serves a host for a tenth of a second at least. It asks a question again for which it was refused memory. */
+static uint32_t serve_host(cf_handle *host, cf_handle *plan, store *store, long numbers[3]) {
+  const uint64_t until = store->now + 100;
+  cf_host_order order = {0};
+  uint32_t code = CF_OK;
+  while (code == CF_OK && store->now < until) {
+    code = serve_next(host, plan, store, &order, numbers);
+    if (code == CF_OK && order.kind == CF_ORDER_SLEEP) store->now = order.moment < until ? order.moment : until;
+  }
+  return code;
+}
+
+/* A user's call: the request is followed, an act is asked for, or it is ended. */
+typedef enum { WORK_ON, COMPLETE_IT, ATTACH_TO_IT, END_IT } user_call;
+
+static uint32_t call_host(cf_handle *host, user_call call, uint64_t now) {
+  const cf_host_acting complete = {.kind = CF_ACT_COMPLETE},
+                       attach = {.kind = CF_ACT_ATTACH, .form = CF_SOURCE, .function = CF_NO_FUNCTION};
+  uint64_t ticket;
+  switch (call) {
+  case WORK_ON: return cf_host_follow(host, 1);
+  case END_IT: return cf_host_end(host, now, 1, &ticket);
+  default: return cf_host_act(host, now, 1, call == COMPLETE_IT ? &complete : &attach, &ticket);
+  }
+}
+
+/* The same, and once more where it was refused memory. */
+static uint32_t use_host(cf_handle *host, user_call call, uint64_t now, long *again) {
+  uint32_t code = call_host(host, call, now);
+  if (code != CF_NO_MEMORY) return code;
+  ++*again;
+  return call_host(host, call, now);
+}
+
+/* Uses it, or the first host alone, and serves it. */
+static uint32_t run_host(cf_handle *host, cf_handle *plan, store *store, bool is_first, long numbers[3]) {
+  static const user_call calls[] = {COMPLETE_IT, ATTACH_TO_IT, ATTACH_TO_IT, ATTACH_TO_IT, ATTACH_TO_IT, ATTACH_TO_IT, END_IT};
+  cf_host_view seen = {0};
+  uint32_t code = use_host(host, WORK_ON, store->now, &numbers[2]);
+  if (code == CF_OK) code = serve_host(host, plan, store, numbers);
+  for (size_t k = 0; is_first && k < sizeof calls / sizeof *calls && code == CF_OK; k++)
+    code = use_host(host, calls[k], store->now, &numbers[2]);
+  if (code == CF_OK) code = serve_host(host, plan, store, numbers);
+  if (code == CF_OK) code = cf_host_seen(host, 1, &seen);
+  numbers[1] = (long)seen.words;
+  return code == CF_OK && seen.words != store->entries ? CF_NO_MEMORY : code; /* it may read later what it couldn't */
+}
+
+/* A host works on a request and ends it, and another one reads its whole row: a sum of what was put, called and told, and how many words the
+ * second has seen. */
+static uint32_t host(long numbers[3]) {
+  cf_handle plan = {0};
+  store store = {.entries = 0};
+  numbers[0] = numbers[1] = numbers[2] = 0;
+  uint32_t code = make_plan(&plan, &numbers[2]);
+  for (uint64_t session = 7; session < 9 && code == CF_OK; session++) {
+    cf_handle it = {0};
+    code = cf_host_new(&(cf_host_opening){.session = session, .workers = 2, .lease = 3000}, &it);
+    if (code == CF_OK) code = run_host(&it, &plan, &store, session == 7, numbers);
+    cf_free(&it);
+  }
+  cf_free(&plan);
+  return code;
+}
+
 /* The words of a completion, a claim, a finish, and an attach for which there is no room. */
 static size_t words_in(uint64_t words[4]) {
   const cf_event events[] = {
@@ -507,6 +622,7 @@ static const struct {
     {"C request", request},
     {"C long request", long_request},
     {"C view", view},
+    {"C host", host},
     {"C history", history},
     {"C script", script},
     {"C wrong script", wrong_script},
