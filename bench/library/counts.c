@@ -46,7 +46,14 @@
  *   handle                        cf_stages, which looks behind its handle and does little else
  *   graph_complete                cf_complete; a completion
  *   graph_restart_with            cf_restart_with, which completes them all; a completion
- *   desk_complete, desk_many      cf_desk_complete and cf_desk_complete_many; a completion */
+ *   desk_complete, desk_many      cf_desk_complete and cf_desk_complete_many; a completion
+ *
+ * There, too, over a host that works on so many requests, which all are open and at rest:
+ *
+ *   host_idle_1, _100, _1000      a turn that finds nothing to do
+ *   host_act_1, _100, _1000       cf_host_act: the source of the last request is to be completed
+ *   host_put_1, _100, _1000       the turn that tells a put, cf_host_put and the answer that it stands
+ *   host_call_1, _100, _1000      the turn that tells a call, and cf_host_ended */
 #define _POSIX_C_SOURCE 200809L
 #include "times.h"
 #include <string.h>
@@ -620,6 +627,83 @@ static void count_completions(cf_handle *plan) {
   say("desk_complete", STAGES), say("desk_many", STAGES);
 }
 
+/* ---- Hosts ---- */
+
+static cf_host_order order;
+
+/* A host's next order, which has to be of this kind. */
+static inline __attribute__((always_inline)) void take_order(cf_handle *host, uint32_t kind) {
+  MUST(cf_host_turn(host, 0, &order));
+  must_be(order.kind == kind, "the kind of an order");
+}
+
+#define ROWS_OF_HOST(requests)                                                                                                             \
+  COUNTED host_idle_##requests(cf_handle *host) { take_order(host, CF_ORDER_SLEEP); }                                                      \
+  COUNTED host_act_##requests(cf_handle *host) {                                                                                           \
+    MUST(cf_host_act(host, 0, requests, &(cf_host_acting){.kind = CF_ACT_COMPLETE}, &order.ticket));                                       \
+  }                                                                                                                                        \
+  COUNTED host_put_##requests(cf_handle *host) {                                                                                           \
+    cf_host_want wants[8];                                                                                                                 \
+    take_order(host, CF_ORDER_PUT);                                                                                                        \
+    MUST(cf_host_put(host, requests, wants, 8, &n));                                                                                       \
+    MUST(cf_host_answered(host, 0, order.ticket, CF_STANDS));                                                                              \
+  }                                                                                                                                        \
+  COUNTED host_call_##requests(cf_handle *host) {                                                                                          \
+    take_order(host, CF_ORDER_CALL);                                                                                                       \
+    MUST(cf_host_ended(host, order.ticket, CF_ENDS_GIVE, 0, 0));                                                                           \
+  }
+ROWS_OF_HOST(1)
+ROWS_OF_HOST(100)
+ROWS_OF_HOST(1000)
+
+/* A host over the requests 1 to so many of a plan. All are open, and in their rows stands nothing. */
+static void open_host(cf_handle *host, cf_handle *plan, uint64_t requests) {
+  static const cf_note notes[] = {{0, 0}, {CF_NOTE_CALLS(1), 0}};
+  MUST(cf_host_new(&(cf_host_opening){.session = 7, .workers = 1, .lease = 3000}, host));
+  for (uint64_t k = 1; k <= requests; k++) MUST(cf_host_follow(host, k));
+  take_order(host, CF_ORDER_BEAT);
+  MUST(cf_host_beats(host, 0, order.ticket, 0, &(cf_host_beat){.session = 7, .count = 1}, 1));
+  take_order(host, CF_ORDER_LIST);
+  MUST(cf_host_news(host, 0, order.ticket, 1, NULL, 0));
+  for (uint64_t k = 1; k <= requests; k++) {
+    take_order(host, CF_ORDER_OPEN);
+    MUST(cf_host_opened(host, order.ticket, plan, 0, 0, notes, 2));
+  }
+  for (uint64_t k = 1; k <= requests; k++) {
+    take_order(host, CF_ORDER_READ);
+    MUST(cf_host_read(host, 0, order.ticket, NULL, 0));
+  }
+}
+
+/* The last request is worked on: a completion, a claim, a call and a finish. */
+static void count_hosts(void) {
+  static const struct {
+    uint64_t requests;
+    void (*idle)(cf_handle *host), (*act)(cf_handle *host), (*put)(cf_handle *host), (*call)(cf_handle *host);
+  } hosts[] = {
+      {1, host_idle_1, host_act_1, host_put_1, host_call_1},
+      {100, host_idle_100, host_act_100, host_put_100, host_call_100},
+      {1000, host_idle_1000, host_act_1000, host_put_1000, host_call_1000},
+  };
+  cf_handle plan = plan_of(CHAIN, 2);
+  for (size_t row = 0; row < sizeof hosts / sizeof hosts[0]; row++) {
+    cf_handle host = {0};
+    open_host(&host, &plan, hosts[row].requests);
+    hosts[row].idle(&host);
+    hosts[row].act(&host);
+    hosts[row].put(&host);
+    take_order(&host, CF_ORDER_TELL);
+    hosts[row].put(&host);
+    hosts[row].call(&host);
+    hosts[row].put(&host);
+    cf_free(&host);
+  }
+  cf_free(&plan);
+  say("host_idle_1", 1), say("host_act_1", 1), say("host_put_1", 3), say("host_call_1", 1);
+  say("host_idle_100", 1), say("host_act_100", 1), say("host_put_100", 3), say("host_call_100", 1);
+  say("host_idle_1000", 1), say("host_act_1000", 1), say("host_put_1000", 3), say("host_call_1000", 1);
+}
+
 int main(int count, char **given_words) {
   static const struct {
     const char *name;
@@ -631,6 +715,7 @@ int main(int count, char **given_words) {
     if (shapes[i].shape == SOURCES) {
       count_joins();
       count_completions(&plan);
+      count_hosts();
     } else {
       count_ledger(&plan);
       count_views(&plan);
