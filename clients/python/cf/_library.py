@@ -118,6 +118,62 @@ class CRowClaim(c.Structure):
     _fields_ = [("session", c.c_uint64), ("stage", c.c_uint16)]
 
 
+class CNote(c.Structure):
+    _fields_ = [("what", c.c_uint64), ("moment", c.c_uint64)]
+
+
+class CNoted(c.Structure):
+    _fields_ = [("word", c.c_uint64), ("token", c.c_uint64), ("note", CNote)]
+
+
+class CHostOpening(c.Structure):
+    _fields_ = [("session", c.c_uint64), ("workers", c.c_uint32), ("lease", c.c_uint64), ("takes_all", c.c_uint32)]
+
+
+class CHostActing(c.Structure):
+    _fields_ = [
+        ("kind", c.c_uint32),
+        ("stage", c.c_uint16),
+        ("moment", c.c_uint64),
+        ("form", c.c_uint32),
+        ("sources", c.c_uint32),
+        ("first", c.c_uint16),
+        ("second", c.c_uint16),
+        ("function", c.c_uint32),
+    ]
+
+
+class CHostOrder(c.Structure):
+    _fields_ = [
+        ("kind", c.c_uint32),
+        ("told", c.c_uint32),
+        ("ticket", c.c_uint64),
+        ("request", c.c_uint64),
+        ("stage", c.c_uint16),
+        ("function", c.c_uint32),
+        ("place", c.c_size_t),
+        ("moment", c.c_uint64),
+        ("args", CArgs),
+        ("outcome", COutcome),
+    ]
+
+
+class CHostWant(c.Structure):
+    _fields_ = [("entry", CNoted), ("source", c.c_uint32), ("stage", c.c_uint16)]
+
+
+class CHostBeat(c.Structure):
+    _fields_ = [("session", c.c_uint64), ("count", c.c_uint64)]
+
+
+class CHostLength(c.Structure):
+    _fields_ = [("request", c.c_uint64), ("words", c.c_size_t)]
+
+
+class CHostView(c.Structure):
+    _fields_ = [("words", c.c_size_t), ("stages", c.c_uint16), ("fault", c.c_uint32)]
+
+
 def in_range(number: int, highest: int, lowest: int = 0) -> int:
     """The number, which ctypes would cut to C's width. One out of its range raises OverflowError, and no call is
     made."""
@@ -221,6 +277,24 @@ CALLS: Dict[str, List[Any]] = {
     "cf_row_abandon": [_H, _U64, _U16, _U32, _U64_OUT],
     "cf_row_finish": [_H, c.POINTER(CTask), _U64_OUT],
     "cf_row_next_claim": [_H, c.POINTER(CTask), _U16, _U16_OUT],
+    "cf_host_new": [c.POINTER(CHostOpening), _H],
+    "cf_host_follow": [_H, _U64],
+    "cf_host_act": [_H, _U64, _U64, c.POINTER(CHostActing), _U64_OUT],
+    "cf_host_end": [_H, _U64, _U64, _U64_OUT],
+    "cf_host_wants": [_H, _U64, _U16],
+    "cf_host_lets_go": [_H, _U64, _U16],
+    "cf_host_stirred": [_H, _U64],
+    "cf_host_stop": [_H],
+    "cf_host_turn": [_H, _U64, c.POINTER(CHostOrder)],
+    "cf_host_put": [_H, _U64, c.POINTER(CHostWant), _SIZE, _SIZE_OUT],
+    "cf_host_opened": [_H, _U64, _H, _U16, _U32, c.POINTER(CNote), _SIZE],
+    "cf_host_read": [_H, _U64, _U64, c.POINTER(CNoted), _SIZE],
+    "cf_host_beats": [_H, _U64, _U64, _U64, c.POINTER(CHostBeat), _SIZE],
+    "cf_host_news": [_H, _U64, _U64, _U64, c.POINTER(CHostLength), _SIZE],
+    "cf_host_answered": [_H, _U64, _U64, _U32],
+    "cf_host_ended": [_H, _U64, _U32, _U32, _U16],
+    "cf_host_stage": [_H, _U64, _U16, c.POINTER(CStage)],
+    "cf_host_seen": [_H, _U64, c.POINTER(CHostView)],
     "cf_history_new": [_H, _U16, c.POINTER(_U64), _SIZE, _H],
     "cf_history_times": [_H, c.POINTER(_U64), _SIZE],
     "cf_history_say": [_H, _U32, c.c_char_p, _SIZE, _SIZE_OUT, _SIZE],
@@ -266,6 +340,15 @@ STRUCTURES = {
     "cf_entry": CEntry,
     "cf_row_opening": CRowOpening,
     "cf_row_claim": CRowClaim,
+    "cf_note": CNote,
+    "cf_noted": CNoted,
+    "cf_host_opening": CHostOpening,
+    "cf_host_acting": CHostActing,
+    "cf_host_order": CHostOrder,
+    "cf_host_want": CHostWant,
+    "cf_host_beat": CHostBeat,
+    "cf_host_length": CHostLength,
+    "cf_host_view": CHostView,
 }
 
 
