@@ -20,6 +20,7 @@ class SharedPlan:
 
     Attributes:
         rows: Form, sources, function or None, and name of each stage.
+        library_plan: The same for the library.
         start: How far each has come before any word, and what it came to."""
 
     def __init__(self, text: str, name: str) -> None:
@@ -35,9 +36,9 @@ class SharedPlan:
                 (form, tuple(it.get("of", [])), None if form in FORMS_WITHOUT_FUNCTION else _nobody, str(it["name"]))
                 for form, it in zip(forms, self.definitions)
             ]
-            self._plan = Plan()
+            self.library_plan = Plan()
             for number, (form, of, call, _) in enumerate(self.rows):
-                self._plan.stage(Form(form), *of, function=None if call is None else number)
+                self.library_plan.stage(Form(form), *of, function=None if call is None else number)
             fresh = self.new_replica(0, 0, 0)
             self.start: List[Tuple[int, OutcomeNumbers]] = [fresh.stage(number) for number in range(len(self.rows))]
         except (ValueError, KeyError, TypeError, Refused) as error:
@@ -51,7 +52,7 @@ class SharedPlan:
     def new_replica(self, room: int, session: int, first: int) -> Replica:
         """What a session has seen of a row of it before the first word, with room for so many stages more. Its tokens
         count from `first` on."""
-        return Replica(self._plan, len(self.rows), room, session, first)
+        return Replica(self.library_plan, len(self.rows), room, session, first)
 
 
 def checked_definition(read: Any, number: int) -> Dict[str, Any]:
