@@ -18,7 +18,7 @@ from pathlib import Path
 TOP = Path(__file__).resolve().parents[4]
 if not os.environ.get("CF_INSTALLED"):
     sys.path.insert(0, str(TOP / "clients/python"))
-from cf.service.words import ATTACH, CANCEL, CLAIM, COMPLETE, FAIL, FAIL_AS, FINISH, FORMS, GIVES, LINKS, THROWS  # noqa: E402
+from cf.service.words import ATTACH, CANCEL, CLAIM, COMPLETE, FAIL, FAIL_AS, FINISH, FORMS, GIVES, LINKS, THROWS, TICK  # noqa: E402
 from cf.store import Abandoned, Broken, DurableService, Functions, RemoteError, StoreError, Unknown  # noqa: E402
 from cf.store.codec import Json  # noqa: E402
 from cf.store.host import Host  # noqa: E402
@@ -106,6 +106,8 @@ class Scripted:
 
 
 class Row:
+    """A row, which leads a process: a `DurableService`."""
+
     def __init__(self, lines):
         self.given = [line for line in lines if not line.startswith("  ")]
         self.clock, self.at, self.moves, self.is_over = 0.0, 0, [], False
@@ -122,8 +124,7 @@ class Row:
         for name in self.knows:
             self.functions.function(name)(self.function(name))
         self.host = Led(self, 1)
-        self.service = DurableService(Scripted(self), self.threads, functions=self.functions, lease=LEASE, takes_all=True, host=self.host)
-        self.request = self.service.open("r")
+        self.begin()
         self.play()
         return self.moves
 
@@ -199,6 +200,24 @@ class Row:
 
     # The process.
 
+    def begin(self):
+        self.service = DurableService(Scripted(self), self.threads, functions=self.functions, lease=LEASE, takes_all=True, host=self.host)
+        self.request = self.service.open("r")
+
+    def stop(self):
+        self.service.shutdown(False)
+
+    def wait_for(self, number):
+        def show(stage):
+            error = None if stage.cancelled() else stage.exception(0)
+            self.show(number, None if stage.cancelled() or error else stage.result(0), error, stage.cancelled())
+
+        self.request._stage(number).add_done_callback(show)
+
+    def show(self, number, value, error, is_cancelled):
+        """Somebody is shown what a stage came to."""
+        self.add("shows", f"{self.names[number]} {'cancelled' if is_cancelled else shown(value, error)}")
+
     def look(self):
         ended = None
         while ended != self.ended:
@@ -230,10 +249,9 @@ class Row:
 
     def move(self, word, *rest):
         if word == "stops":
-            self.service.shutdown(False)
+            self.stop()
         elif word == "waits":
-            number = self.names.index(rest[1])
-            self.request._stage(number).add_done_callback(lambda it: self.add("shows", f"{rest[1]} {shown(it)}"))
+            self.wait_for(self.names.index(rest[1]))
         elif rest[1:] == ("pass",):
             until, many = self.clock + float(word) - LOOKS / 2, len(self.moves)
             while self.clock < until and len(self.moves) == many:
@@ -312,17 +330,21 @@ class Row:
         if play.startswith("first "):
             self.peer(play[6:])
         told = call(put)
-        if told is None:
-            self.add("puts", ", ".join(self.word(word, put.payloads.get(put.at + k)) for k, (word, _) in enumerate(put.entries, 1)))
+        if told is None and any(word >> 56 != TICK for word, _ in put.entries):  # (beside which a timer stands, of which rows say nothing)
+            self.add("puts", ", ".join(self.word(word) for word, _ in put.entries))
         if play.startswith("unanswered"):
             if play != "unanswered":
                 self.prepare(play.partition(" and ")[2])
             raise Unknown("the row says so")
         return told
 
-    def word(self, word, payload):
-        """A word of the process, as the row says it."""
-        kind, stage, tag = word >> 56, word >> 36 & 0xFFF, word >> 32 & 0xF
+    def payload_at(self, place):
+        return self.store.payloads("r", [place]).get(place)
+
+    def word(self, word):
+        """A word of the process that stands, as the row says it."""
+        kind, stage, tag, place = word >> 56, word >> 36 & 0xFFF, word >> 32 & 0xF, word & 0xFFFFFFFF
+        payload = self.payload_at(place) if tag or kind == FAIL else None
         said = WORDS[kind] if kind == ATTACH else f"{WORDS[kind]} {self.names[stage]}"
         if kind == FAIL or kind == FINISH and tag == THROWS:
             error = json.loads(payload)
@@ -382,13 +404,10 @@ def text_of(given):
     return kind_of(given) if isinstance(given, BaseException) else json.dumps(given)
 
 
-def shown(stage):
+def shown(value, error):
     """What a stage that is shown came to."""
-    if stage.cancelled():
-        return "cancelled"
-    error = stage.exception(0)
     kinds = {CancelledError: "cancelled", TimeoutError: "timed out", Gone: "gone", Broken: "broken"}
-    return json.dumps(stage.result(0)) if error is None else kinds.get(type(error)) or kind_of(error)
+    return json.dumps(value) if error is None else kinds.get(type(error)) or kind_of(error)
 
 
 def lines_of(move, did):
@@ -399,24 +418,34 @@ class Decisions(unittest.TestCase):
     maxDiff = None
 
 
-def add_tests():
+def all_rows():
+    """The name of each row, and its lines."""
     _, *rows = re.split("^== ", (TOP / "conformance/stores/decisions.rows").read_text(encoding="utf-8"), flags=re.M)
     for row in rows:
         name, *lines = [line for line in row.splitlines() if line and not line.startswith("#")]
-
-        def test(self, lines=lines):
-            first = next(k for k, line in enumerate(lines) if line.startswith("> "))
-            wanted = [line for line in lines[first:] if line.startswith(("> ", "  "))]
-            self.assertEqual([line for move in Row(lines).tell() for line in lines_of(*move)], wanted)
-
-        test.__doc__ = name
-        called = "test_" + re.sub(r"\W+", "_", name.replace("n't", " not"))
-        if hasattr(Decisions, called):
-            raise ValueError(f"two rows are {name!r}")
-        setattr(Decisions, called, test)
+        yield name, lines
 
 
-add_tests()
+def wanted_by(lines):
+    first = next(k for k, line in enumerate(lines) if line.startswith("> "))
+    return [line for line in lines[first:] if line.startswith(("> ", "  "))]
+
+
+def told_by(row):
+    return [line for move in row.tell() for line in lines_of(*move)]
+
+
+def add_test(tests, name, test):
+    """Adds the test of a row, by its name."""
+    test.__doc__ = name
+    called = "test_" + re.sub(r"\W+", "_", name.replace("n't", " not"))
+    if hasattr(tests, called):
+        raise ValueError(f"two rows are {name!r}")
+    setattr(tests, called, test)
+
+
+for _name, _lines in all_rows():
+    add_test(Decisions, _name, lambda self, lines=_lines: self.assertEqual(told_by(Row(lines)), wanted_by(lines)))
 
 
 if __name__ == "__main__":
