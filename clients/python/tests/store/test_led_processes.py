@@ -57,6 +57,17 @@ class LedProcesses(Case):
         self.assertEqual(led.future(request, loaded.number).result(20), {"number": 17, "extra": 0})
         self.until(lambda: "r" not in led.store.ends())
 
+    def test_a_request_that_another_has_closed(self):
+        """Each of two processes sees that it is over, and one closes it. The other one asks no more."""
+        led, other, flow, asked = self.process(takes_all=True), self.process(0, takes_all=True), Flow("one"), []
+        ends = other.store.end
+        other.store.end = lambda *given: asked.append(given) or ends(*given)
+        step = flow.supply(f.load, 1)
+        self.assertEqual(led.future(led.begin(flow, name="r"), step.number).result(20), {"number": 1, "extra": 0})
+        self.until(lambda: "r" not in led.store.ends())
+        time.sleep(0.5)
+        self.assertLess(len(asked), 3)
+
     def test_what_users_ask(self):
         led = self.process()
         request = led.request("r")

@@ -108,9 +108,11 @@ class Earlier(unittest.TestCase):
         self.assertEqual([called_definition(said, stage) for stage in (0, 3)], [{"fn": "f"}] * 2)
 
     def test_what_the_claim_was_told(self):
-        claim = CLAIM * KIND + 2 * 2**48 + 1 * 2**36
-        self.assertEqual(self.called_with([self.completes, claim, FAIL * KIND + 1 * 2**36 + 3], 1, Form.APPLY, 0), (1,))
-        self.assertEqual(self.called_with([self.completes - 1 - GIVES * STAGE, claim], 1, Form.APPLY, 0), (None,))
+        claims = [CLAIM * KIND + 2 * 2**48 + stage * 2**36 for stage in range(3)]
+        self.assertEqual(self.called_with([self.completes, claims[1], FAIL * KIND + 1 * 2**36 + 3], 1, Form.APPLY, 0), (1,))
+        self.assertEqual(self.called_with([COMPLETE * KIND, claims[1]], 1, Form.APPLY, 0), (None,))
+        first, then = COMPLETE * KIND + 1 * 2**36 + GIVES * STAGE + 1, self.completes + 2
+        self.assertEqual(self.called_with([first, claims[2], then], 2, Form.APPLY_EITHER, 0, 1), (1,))
 
     def test_a_stage_that_nobody_claimed(self):
         """It gets what its sources have: of an either the first one that has a value."""
