@@ -1,5 +1,6 @@
--- What a process orders, where there is a place for a ticket.
-use Rattle.std.proofs.Common.{◌≡◌, ℕ, ◌∙◌, Bool, List, Some, true, ap, get_or, length, refl, set, sym, subst}
+-- What a process orders, where there is memory for a ticket.
+use Rattle.std.proofs.Common.{◌≡◌, ℕ, ◌∙◌, Bool, List, Some, ap, arith, get_or, length, refl, set, sym, subst, true}
+use Rattle.std.proofs.Math.Nat.{le-max_left}
 use Rattle.std.specs.Prelude.{slice_get}
 use Rattle.std.proofs.lemmas.Option.{get_or_from_slice_get}
 use Rattle.cf_turn.specs.declared.turn.Turn.{Turn}
@@ -13,12 +14,18 @@ use Rattle.cf_turn.specs.Turns.{moment_of}
 use Rattle.cf_host.specs.Hosts.{AsksOpen, BeatsAreDue, FirstTurns, Host, IsToOpen, IsToOpenAt, MayClaim, NoLookIsDue, NoneToOpen, Orders, OrdersTurn, WorksOn, moment_in}
 use Rattle.cf_host.specs.Pulses.{clock_of}
 use Rattle.cf_host.specs.Tickets.{AreSame, Opens, Shuts, Tickets}
-use Rattle.cf_host.proofs.Placed.{opens_ready, ready}
+use Rattle.cf_host.proofs.Placed.{found, opens_ready, ready}
 
-turn_ready : (now request : ℕ) (t : Turn) (order : Order) (old new : Tickets) → OrdersTurn now request t order (record old { is_ready = true }) new → OrdersTurn now request t order old new
-turn_ready now request (TellTurn number told) order old new (is, s) = (is, record { last = s.last; waiting = s.waiting })
-turn_ready now request (ShowTurn i shown) order old new (is, s) = (is, record { last = s.last; waiting = s.waiting })
-turn_ready now request (StopTurn i) order old new (is, s) = (is, record { last = s.last; waiting = s.waiting })
+same_ready : (old new : Tickets) → AreSame (found old) new → AreSame old new
+same_ready old new s = let more = s.free in let most = le-max_left old.free 1 in record { last = s.last; waiting = s.waiting; free = omega (arith, more, most) }
+
+shuts_ready : (number : ℕ) (old new : Tickets) → Shuts number (found old) new → Shuts number old new
+shuts_ready number old new s = let more = s.places in let most = le-max_left old.free 1 in record { last = s.last; waiting = s.waiting; places = omega (arith, more, most) }
+
+turn_ready : (now request : ℕ) (t : Turn) (order : Order) (old new : Tickets) → OrdersTurn now request t order (found old) new → OrdersTurn now request t order old new
+turn_ready now request (TellTurn number told) order old new (is, s) = (is, shuts_ready number old new s)
+turn_ready now request (ShowTurn i shown) order old new (is, s) = (is, same_ready old new s)
+turn_ready now request (StopTurn i) order old new (is, s) = (is, same_ready old new s)
 turn_ready now request (CallTurn i function args) order old new (number, is, o) = (number, is, opens_ready (OfCall request i) now number old new o)
 turn_ready now request (AskTurn q) order old new (number, is, o) = (number, is, opens_ready (OfRow request) now number old new o)
 
@@ -70,7 +77,7 @@ orders_ready old now (Sleep until) new o =
       may_claim = o.may_claim;
       may = record { busy = o.may.busy; are = o.may.are; is = o.may.is };
       all = o.all;
-      tickets = record { last = o.tickets.last; waiting = o.tickets.waiting };
+      tickets = same_ready old.tickets new.tickets o.tickets;
       rest = o.rest;
       until_is = o.until_is;
     }
@@ -91,7 +98,7 @@ ordered_by (AskTurn q) old now request order new (number, is, o) w = subst (λ (
 pub works_order : (old : Host) (now : ℕ) (order : Order) (new : Host) → WorksOn old now order new → Orders old now order new
 works_order old now order new w = ordered_by w.turn old now w.request order new w.orders w
 
-pub turns_ready : (old view mid new : Host) (tickets : Tickets) (now : ℕ) (order : Order) → view ≡ old → tickets ≡ record view.tickets { is_ready = true } →
+pub turns_ready : (old view mid new : Host) (tickets : Tickets) (now : ℕ) (order : Order) → view ≡ old → tickets ≡ found view.tickets →
     mid ≡ record view { tickets = tickets } → Orders mid now order new → Orders old now order new
 turns_ready old view mid new tickets now order is has mid_is o =
     let all : mid ≡ ready view = mid_is ∙ ap (λ (t : Tickets). record view { tickets = t }) has in

@@ -1,5 +1,7 @@
 -- A request at its place in a process.
-use Rattle.std.proofs.Common.{◌≡◌, ℕ, ◌+◌, ◌∙◌, Bool, true, None, List, ap, get_or, set, subst, sym}
+use Rattle.std.proofs.Common.{◌≡◌, ℕ, zero, suc, ◌+◌, ◌-◌, ◌∙◌, None, List, ap, arith, get_or, refl, set, subst, sym}
+use Rattle.std.specs.Prelude.{max}
+use Rattle.std.proofs.Math.Nat.{max-eq_left}
 use Rattle.std.proofs.lemmas.Option.{get_or_from_slice_get}
 use Rattle.cf_turn.specs.Works.{Work}
 use Rattle.cf_host.specs.declared.request.Request.{Request}
@@ -55,13 +57,23 @@ shown request place old view x part is at value of =
 pub follows_in : (request : ℕ) (old view new : Host) → view ≡ old → Follows request view.requests new.requests → new ≡ record view { requests = new.requests } → FollowsIn request old new
 follows_in request old view new is follows rest = subst (λ (h : Host). FollowsIn request h new) is (record { follows = follows; rest = rest })
 
--- with a place for a ticket
-abbrev pub ready : Host → Host
-ready h = record h { tickets = record h.tickets { is_ready = true } }
+-- with memory for one more ticket
+abbrev pub found : Tickets → Tickets
+found t = record t { free = max t.free 1 }
 
-pub opens_ready : (of : Asked) (now number : ℕ) (old new : Tickets) → OpensOf of now number (record old { is_ready = true }) new → OpensOf of now number old new
+pub one_less : (n : ℕ) → max n 1 - 1 ≡ n - 1
+one_less zero = refl
+one_less (suc n) = ap (λ (k : ℕ). k - 1) (max-eq_left (omega arith))
+
+abbrev pub ready : Host → Host
+ready h = record h { tickets = found h.tickets }
+
+pub found_opens : (ticket : Ticket) (old new : Tickets) → Opens ticket (found old) new → Opens ticket old new
+found_opens ticket old new o = record { number = o.number; last = o.last; waiting = o.waiting; free = o.free ∙ one_less old.free }
+
+pub opens_ready : (of : Asked) (now number : ℕ) (old new : Tickets) → OpensOf of now number (found old) new → OpensOf of now number old new
 opens_ready of now number old new o =
-    record { ticket = o.ticket; opens = record { number = o.opens.number; last = o.opens.last; waiting = o.opens.waiting }; is = o.is; asked = o.asked; named = o.named }
+    record { ticket = o.ticket; opens = found_opens o.ticket old new o.opens; is = o.is; asked = o.asked; named = o.named }
 
 pub on_request_for : (call : ℕ → Work → Work → Type 0) (request now number place : ℕ) (old mid view new : Host) (x after : Request) (ticket : Ticket) → mid ≡ ready old → view ≡ mid →
     IsAt request place old.requests → x ≡ get_or view.requests place x → number ≡ view.tickets.last + 1 → OnWork (call number) x after → Opens ticket view.tickets new.tickets →
@@ -78,7 +90,7 @@ on_request_for call request now number place old mid view new x after ticket fro
       calls = subst (λ (r : Request). OnWork (call number) r after) (same_at request place old.requests x at there) calls;
       opens = record {
         ticket = ticket;
-        opens = record { number = opened.number; last = opened.last; waiting = opened.waiting };
+        opens = found_opens ticket old.tickets new.tickets opened;
         is = of;
         asked = asked;
         named = opened.number ∙ sym next;

@@ -1,25 +1,27 @@
 -- Tickets: each is opened for a question, a call or an act, and is closed by its answer.
-use Rattle.std.specs.Prelude.{◌≡◌, ◌≢◌, ◌⊎◌, ℕ, ◌+◌, ◌<◌, ◌&&◌, Bool, true, false, Option, Some, None, List, [], ◌∷◌, ◌++◌, cond, eqb, length, not}
+use Rattle.std.specs.Prelude.{◌≡◌, ◌≢◌, ◌⊎◌, ℕ, ◌+◌, ◌-◌, ◌<◌, ◌≤◌, ◌&&◌, Bool, true, false, Option, Some, None, List, [], ◌∷◌, ◌++◌, cond, eqb, length, not}
 use Rattle.std.specs.List.{filter}
-use Rattle.std.specs.declared.vec.Vec.{Vec}
-use Rattle.std.specs.Vec.{vec_capacity}
 use Rattle.cf_host.specs.declared.ticket.Asked.{Asked}
 use Rattle.cf_host.specs.declared.ticket.Asked.TheVariants.{Beats, News, Open, Row, Call as Called, Act}
 use Rattle.cf_host.specs.declared.ticket.Ticket.{Ticket}
 
--- the number given last, the tickets that are open, and whether a place was found for one more
+-- the number given last, the tickets that are open, and for how many more memory was found
 pub record Tickets : Type 0 where
   pub last : ℕ
   pub waiting : List Ticket
-  pub is_ready : Bool
+  pub free : ℕ
 
 abbrev pub no_tickets : Tickets
-no_tickets = record { last = 0; waiting = []; is_ready = false }
+no_tickets = record { last = 0; waiting = []; free = 0 }
 
--- what is kept: a number and a place are left where one was found
-pub record IsReady {Z : Type 0} (is_ready : Bool) (last : ℕ) (waiting : Vec Ticket Z) : Type 0 where
-  pub number : is_ready ≡ true → last < 18446744073709551615
-  pub place : is_ready ≡ true → length waiting.items < vec_capacity waiting
+-- memory was found for one more, and a number is left
+pub record IsReady (t : Tickets) : Type 0 where
+  pub place : 0 < t.free
+  pub number : t.last < 18446744073709551615
+
+-- for how many memory was found
+abbrev pub places_of : Tickets → ℕ
+places_of t = length t.waiting + t.free
 
 -- the first ticket that has this number
 abbrev pub ticket_of : ℕ → List Ticket → Option Ticket
@@ -43,21 +45,24 @@ abbrev pub call_in : ℕ → ℕ → List Ticket → ℕ
 call_in request stage [] = 0
 call_in request stage (t ∷ ts) = cond (is_call t.of request stage) t.number (call_in request stage ts)
 
--- a ticket with a new number is opened
+-- a ticket with a new number is opened; memory for it is found where there is none
 pub record Opens (t : Ticket) (old new : Tickets) : Type 0 where
   pub number : t.number ≡ old.last + 1
   pub last : new.last ≡ t.number
   pub waiting : new.waiting ≡ old.waiting ++ t ∷ []
+  pub free : new.free ≡ old.free - 1
 
--- none with this number is left
+-- none with this number is left, and their memory is free
 pub record Shuts (number : ℕ) (old new : Tickets) : Type 0 where
   pub last : new.last ≡ old.last
   pub waiting : new.waiting ≡ without number old.waiting
+  pub places : places_of old ≤ places_of new
 
 -- all tickets are as they were
 pub record AreSame (old new : Tickets) : Type 0 where
   pub last : new.last ≡ old.last
   pub waiting : new.waiting ≡ old.waiting
+  pub free : old.free ≤ new.free
 
 -- an open ticket is closed, and none with its number is left
 pub record Closes (t : Ticket) (old new : Tickets) : Type 0 where

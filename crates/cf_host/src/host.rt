@@ -1,11 +1,12 @@
 //! A process at work on the requests of a store.
-ghost use Rattle.std.specs.Prelude.{◌≡◌, ◌<◌, IfErr, IfNone, IfOk, IfSome, None, OnErr, OnOk, Some, length, min, true};
+ghost use Rattle.std.specs.Prelude.{◌≡◌, ◌<◌, IfErr, IfNone, IfOk, IfSome, None, OnErr, OnOk, Some, length, max, min, true};
 ghost use Rattle.cf_due.specs.Acts.{IsFitting};
 ghost use Rattle.cf_host.specs.Asking.{Asking, Ending, IsNoAsking, IsNoEnding, IsNoWanting, Wanting};
 ghost use Rattle.cf_host.specs.Hosts.{FollowsIn, IsShownPart, Keeps, OnRequest, OnRequestFor, new_host};
 ghost use Rattle.cf_host.specs.Pulses.{later_by};
 ghost use Rattle.cf_host.specs.declared.order.NoCall.TheVariants.{NoMemory, NotOpen};
 ghost use Rattle.cf_host.specs.Requests.{IsAt, IsOpenAt, IsOpenIn};
+ghost use Rattle.cf_host.specs.Tickets.{IsReady};
 
 use crate::news::News;
 use crate::order::NoCall;
@@ -202,13 +203,14 @@ impl Host {
         Ok(place)
     }
 
-    /// Finds a place for a ticket.
+    /// Finds memory for a ticket.
     fn reserve(&mut self) -> Result<(), NoCall>
         ensures ok { OnOk result (self.new ≡ record self.old {
-          tickets = record self.old.tickets { is_ready = true };
+          tickets = record self.old.tickets { free = max self.old.tickets.free 1 };
         }) }
+        ensures number { OnOk result (self.old.tickets.last < u64.MAX) }
         ensures err { OnErr result (self.new ≡ self.old) }
-        ensures why { IfErr result (λ why. why ≡ NoMemory) }
+        ensures why { IfErr result (λ why. (why ≡ NoMemory) × (¬ IsReady self.old.tickets)) }
     {
         match self.tickets.reserve() {
             Ok(()) => Ok(()),

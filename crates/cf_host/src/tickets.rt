@@ -1,7 +1,7 @@
 //! The tickets of a process.
-ghost use Rattle.std.specs.Prelude.{◌≡◌, ◌+◌, ◌<◌, IfSome, None, OnErr, OnOk, length, true, vec_capacity};
+ghost use Rattle.std.specs.Prelude.{◌≡◌, ◌+◌, ◌<◌, ◌≤◌, IfSome, OnErr, OnOk, length, max, vec_capacity};
 ghost use Rattle.cf_host.specs.Waking.{first_patience};
-ghost use Rattle.cf_host.specs.Tickets.{Opens, Shuts, call_in, is_call, no_tickets, ticket_of, without};
+ghost use Rattle.cf_host.specs.Tickets.{IsReady, Opens, Shuts, call_in, is_call, no_tickets, ticket_of, without};
 
 use crate::ticket::{Asked, Ticket};
 use crate::timers::first_patience;
@@ -13,7 +13,7 @@ use std::marker::Model;
 pub struct Tickets {
     last: u64,
     waiting: Vec<Ticket>,
-    is_ready: bool,
+    free: usize,
 }
 
 impl Model for Tickets {
@@ -21,11 +21,11 @@ impl Model for Tickets {
 
     ghost Value = { Tickets };
 
-    ghost use Rattle.cf_host.specs.Tickets.{IsReady};
+    ghost use Rattle.std.specs.Prelude.{◌+◌, ◌≤◌, length, vec_capacity};
 
-    ghost view = { λ t. record { last = t.last; waiting = t.waiting.items; is_ready = t.is_ready } };
+    ghost view = { λ t. record { last = t.last; waiting = t.waiting.items; free = t.free } };
 
-    ghost invariant = { λ t. IsReady t.is_ready t.last t.waiting };
+    ghost invariant = { λ t. length t.waiting.items + t.free ≤ vec_capacity t.waiting };
 }
 
 impl Tickets {
@@ -36,27 +36,31 @@ impl Tickets {
         Tickets {
             last: 0,
             waiting: Vec::new(alloc),
-            is_ready: false,
+            free: 0,
         }
     }
 
-    /// Finds a place for one more. It fails only where there is no memory, or once all numbers are given, and then
-    /// changes nothing.
+    /// Finds memory for one more. It fails only where none was found before and there is none, or once all numbers are
+    /// given, and then changes nothing.
     pub fn reserve(&mut self) -> Result<(), AllocError>
-        ensures ready { OnOk result (self.new ≡ record self.old { is_ready = true }) }
+        ensures found { OnOk result (self.new ≡ record self.old { free = max self.old.free 1 }) }
+        ensures number { OnOk result (self.old.last < u64.MAX) }
         ensures unchanged { OnErr result (self.new ≡ self.old) }
+        ensures short { OnErr result (¬ IsReady self.old) }
     {
         if self.last == u64::MAX {
             return Err(AllocError);
         }
-        self.waiting.reserve(1)?;
-        self.is_ready = true;
+        if self.free == 0 {
+            self.waiting.reserve(1)?;
+            self.free = 1;
+        }
         Ok(())
     }
 
-    /// The number that the next ticket has, for which a place was found.
+    /// The number that the next ticket has, for which memory was found.
     pub fn next(&self) -> u64
-        requires { self.now.is_ready ≡ true }
+        requires { IsReady self.now }
         ensures { result ≡ self.now.last + 1 }
     {
         self.last + 1
@@ -69,9 +73,9 @@ impl Tickets {
         first_patience(&self.waiting)
     }
 
-    /// Opens a ticket in the place that was found for it.
+    /// Opens a ticket, for which memory was found.
     pub fn open(&mut self, of: Asked, asked: u64) -> Ticket
-        requires { self.old.is_ready ≡ true }
+        requires { IsReady self.old }
         ensures opens { Opens result self.old self.new }
         ensures of { result.of ≡ of }
         ensures asked { result.asked ≡ asked }
@@ -80,7 +84,7 @@ impl Tickets {
         let ticket = Ticket { number, of, asked };
         self.waiting.push_reserved(ticket);
         self.last = number;
-        self.is_ready = false;
+        self.free -= 1;
         ticket
     }
 
@@ -103,8 +107,9 @@ impl Tickets {
     pub fn close(&mut self, number: u64)
         ensures { Shuts number self.old self.new }
     {
-        self.is_ready = false;
+        let open = self.waiting.len();
         remove(&mut self.waiting, number);
+        self.free += open - self.waiting.len();
     }
 }
 
@@ -148,7 +153,9 @@ fn is_call(of: Asked, request: u64, stage: u16) -> bool
 
 /// Removes the tickets that have a number.
 fn remove(waiting: &mut Vec<Ticket>, number: u64)
-    ensures { waiting.new.items ≡ without number waiting.old.items }
+    ensures is { waiting.new.items ≡ without number waiting.old.items }
+    ensures fewer { length waiting.new.items ≤ length waiting.old.items }
+    ensures kept { vec_capacity waiting.new ≡ vec_capacity waiting.old }
 {
     waiting.retain(|ticket| ticket.number != number);
 }

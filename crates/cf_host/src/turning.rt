@@ -1,8 +1,9 @@
 //! What a process does next.
-ghost use Rattle.std.specs.Prelude.{◌≡◌, ◌<◌, ◌&&◌, IfNone, IfOk, IfSome, OnErr, length, nat_lt, not, true};
+ghost use Rattle.std.specs.Prelude.{◌≡◌, ◌<◌, ◌&&◌, IfNone, IfOk, IfSome, OnErr, length, nat_lt, not};
 ghost use Rattle.cf_host.specs.Hosts.{AllRest, AsksBeats, AsksNews, AsksOpen, BeatsAreDue, FirstTurns, IsToOpen, IsToOpenAt, MayClaim, NoLookIsDue, NoneToOpen, Orders, OrdersTurn, RestsIn, WorksNothing, beats_at_in, until_of};
 ghost use Rattle.std.specs.Bool.{OnFalse, OnTrue};
 ghost use Rattle.cf_host.specs.Requests.{OnWork};
+ghost use Rattle.cf_host.specs.Tickets.{IsReady};
 ghost use Rattle.cf_turn.specs.Turns.{Turns, moment_of};
 
 use crate::busy::free_threads;
@@ -25,10 +26,12 @@ pub(crate) struct Turned {
 
 impl Host {
     /// What the process has to do next, by a moment of its own clock. It is asked again until it tells to sleep. It fails
-    /// only where there is no memory for a ticket, and then changes nothing.
+    /// only where there is no memory for a ticket, and then changes nothing. The memory of tickets that were closed serves
+    /// others.
     pub fn turn(&mut self, now: u64) -> Result<Order, AllocError>
         ensures orders { IfOk result (λ order. Orders self.old now order self.new) }
         ensures err { OnErr result (self.new ≡ self.old) }
+        ensures short { OnErr result (¬ IsReady self.old.tickets) }
     {
         self.tickets.reserve()?;
         Ok(self.next(now))
@@ -36,7 +39,7 @@ impl Host {
 
     /// The same, where there is a place for a ticket.
     fn next(&mut self, now: u64) -> Order
-        requires { self.old.tickets.is_ready ≡ true }
+        requires { IsReady self.old.tickets }
         ensures { Orders self.old now result self.new }
     {
         if let Some(order) = self.beat(now) {
@@ -58,7 +61,7 @@ impl Host {
 
     /// Asks for the beats, where that is due.
     fn beat(&mut self, now: u64) -> Option<Order>
-        requires { self.old.tickets.is_ready ≡ true }
+        requires { IsReady self.old.tickets }
         ensures orders { IfSome result (λ order. Orders self.old now order self.new) }
         ensures none { IfNone result (¬ BeatsAreDue self.old now) }
         ensures unchanged { IfNone result (self.new ≡ self.old) }
@@ -83,7 +86,7 @@ impl Host {
 
     /// Looks what is new, where that is due.
     fn look(&mut self, now: u64) -> Option<Order>
-        requires ready { self.old.tickets.is_ready ≡ true }
+        requires ready { IsReady self.old.tickets }
         requires beats { ¬ BeatsAreDue self.old now }
         ensures orders { IfSome result (λ order. Orders self.old now order self.new) }
         ensures none { IfNone result (NoLookIsDue self.old now) }
@@ -99,7 +102,7 @@ impl Host {
 
     /// Opens the first request that is to be opened.
     fn open(&mut self, now: u64) -> Option<Order>
-        requires ready { self.old.tickets.is_ready ≡ true }
+        requires ready { IsReady self.old.tickets }
         requires beats { ¬ BeatsAreDue self.old now }
         requires news { NoLookIsDue self.old now }
         ensures orders { IfSome result (λ order. Orders self.old now order self.new) }
@@ -118,7 +121,7 @@ impl Host {
 
     /// Does what the first work has to do that has anything to do.
     fn work(&mut self, now: u64) -> Option<Order>
-        requires ready { self.old.tickets.is_ready ≡ true }
+        requires ready { IsReady self.old.tickets }
         requires beats { ¬ BeatsAreDue self.old now }
         requires news { NoLookIsDue self.old now }
         requires opens { NoneToOpen now (length self.old.requests) self.old.requests }
@@ -228,7 +231,7 @@ impl Request {
 
 /// What the turn of a request's work orders.
 fn order_of(tickets: &mut Tickets, now: u64, request: u64, turn: Turn) -> Order
-    requires { tickets.old.is_ready ≡ true }
+    requires { IsReady tickets.old }
     ensures { OrdersTurn now request turn result tickets.old tickets.new }
 {
     match turn {
