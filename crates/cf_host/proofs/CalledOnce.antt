@@ -1,93 +1,61 @@
 -- No function is called twice.
-use Rattle.std.proofs.Common.{◌≡◌, ◌≢◌, ℕ, ◌+◌, ◌<◌, ◌≤◌, ◌⊎◌, inl, inr, Bool, true, false, cond, eqb, Option, Some, None, List, [], ◌∷◌, ◌++◌, refl, ap, sym, ◌∙◌, subst, append-nil, arith, length, set, zero, suc}
+use Rattle.std.proofs.Common.{◌≡◌, ◌≢◌, ℕ, ◌⊎◌, inl, inr, Bool, true, false, cond, eqb, Option, Some, None, List, [], ◌∷◌, ◌++◌, refl, ap, sym, ◌∙◌, subst, append-nil, arith, length, zero, suc}
 use Rattle.std.specs.Prelude.{slice_get}
 use Rattle.std.proofs.lemmas.Bool.Decides.{eqb_tells}
+use Rattle.std.proofs.lemmas.List.{append_assoc}
 use Rattle.std.proofs.lemmas.Option.{slice_get_within}
-use Rattle.cf_notes.specs.declared.note.Note.{Note}
-use Rattle.cf_row.specs.declared.entry.Entry.{Entry}
-use Rattle.cf_part.specs.declared.question.Fault.TheVariants.{Dropped}
-use Rattle.cf_part.specs.Parts.{opened}
-use Rattle.cf_part.specs.Rows.{CallsOnce as PartCallsOnce, IsApart, all_calls}
+use Rattle.cf_part.specs.Rows.{CallsOnce as PartCallsOnce, IsApart}
 use Rattle.cf_turn.specs.declared.turn.Turn.{Turn}
 use Rattle.cf_turn.specs.declared.turn.Turn.TheVariants.{Tell as TellTurn, Show as ShowTurn, Stop as StopTurn, Call as CallTurn, Ask as AskTurn}
 use Rattle.cf_turn.specs.Rows.{AreCalls as AreCallsOfWork, IsCall as IsCallOfWork, WorksArePartsCalls, all_of, called_by}
-use Rattle.cf_turn.specs.Rows.IsCall.{asks as AsksOf, ends as EndsOf, wants as WantsOf, finishes as FinishesOf, reads as ReadsOf, misreads as MisreadsOf, lands as LandsOf, meets as MeetsOf, mismeets as MismeetsOf, waits as WaitsOf, refuses as RefusesOf, closes as ClosesOf, breaks as BreaksOf}
-use Rattle.cf_turn.specs.Works.{Work, new_work}
+use Rattle.cf_turn.specs.Rows.IsCall.{turns as TurnsOf, hears as HearsOf}
+use Rattle.cf_turn.specs.Works.{Work}
 use Rattle.cf_host.specs.declared.order.Order.{Order}
 use Rattle.cf_host.specs.declared.order.Order.TheVariants.{Beats, News as LooksFor, Open, Row, Call, Stop, Show, Tell, Sleep}
 use Rattle.cf_host.specs.declared.request.Request.{Request}
 use Rattle.cf_host.specs.declared.ticket.Asked.{Asked}
 use Rattle.cf_host.specs.declared.ticket.Asked.TheVariants.{Beats as OfBeats, News as OfNews, Open as OfOpen, Row as OfRow, Call as OfCall, Act as OfAct}
-use Rattle.cf_host.specs.Answering.{Breaking, Closing, Hearing, Landing, Meeting, Reading, Refusing, Waiting}
-use Rattle.cf_host.specs.Asking.{Asking, CallEnding, Ending, Wanting}
-use Rattle.cf_host.specs.Answering.Hearing.{read as HearsRead, put as HearsPut}
-use Rattle.cf_host.specs.Hosts.{Answers, Host, IsDropped, IsOpened, Lacks, Loses, OnRequest, OnRequestFor, Orders, OrdersTurn, StaysShut, WorksOn, moment_in}
+use Rattle.cf_host.specs.Hosts.{Host, Lacks, Loses, Orders, OrdersTurn}
 use Rattle.cf_host.specs.Laws.{CallsOnce, ComesTo, IsCall, called_in, calls_of}
 use Rattle.cf_host.specs.Laws.IsCall.{turns, follows, acts, ends, wants, stirs, stops, opens, hears, lands, refuses, closes, beats, news, lacks, loses, finishes}
-use Rattle.cf_host.specs.Requests.{NoneAt, OnWork, told_length}
+use Rattle.cf_host.specs.Requests.{NoneAt}
 use Rattle.cf_host.specs.Tickets.{Tickets}
-use Rattle.cf_host.proofs.Worked.{AreApart, Effect, Kept, Moves, Worked, begins, goes, kept_more, kept_quiet, stays}
-use Rattle.cf_host.proofs.Effects.{follows_effect, hears_all_kept, rest_effect, same_some, set_effect, turn_calls, turn_effect}
+use Rattle.cf_host.proofs.Worked.{Begun, Kept, Moves, begins, goes, stays}
+use Rattle.cf_host.proofs.Effects.{Anyhow, Heard, same_some}
+use Rattle.cf_host.proofs.Going.{CarriesOn, CarriesWords, Does, IsElse, Still, call_kept, of_another, turned, unordered, went}
 
--- ---- one request
+-- ---- a work
 
--- this call of works is one of theirs that tells nothing
-abbrev IsQuiet : (Work → Work → Type 0) → Type 0
-IsQuiet call = (w v : Work) → call w v → IsCallOfWork w None v
+snoc : (a b c : Work) (ts : List (Option Turn)) (out : Option Turn) → AreCallsOfWork a ts b → IsCallOfWork b out c → AreCallsOfWork a (ts ++ out ∷ []) c
+snoc a b c [] out is call = (c, subst (λ (x : Work). IsCallOfWork x out c) is call, refl)
+snoc a b c (t ∷ ts) out (between, first, rest) call = (between, first, snoc between b c ts out rest call)
 
-moves_on : (call : Work → Work → Type 0) → IsQuiet call → (before after : Request) → OnWork call before after → Moves [] before.work after.work
-moves_on call is before after o = goes o.before o.after None o.is (ap (λ (x : Request). x.work) o.rest) (is o.before o.after o.calls) refl
+all_snoc : (ts : List (Option Turn)) (out : Option Turn) → all_of called_by (ts ++ out ∷ []) ≡ all_of called_by ts ++ called_by out
+all_snoc [] out = append-nil (called_by out)
+all_snoc (t ∷ ts) out = ap (λ (l : List ℕ). called_by t ++ l) (all_snoc ts out) ∙ sym (append_assoc (called_by t) (all_of called_by ts) (called_by out))
 
-named_on : (call : Work → Work → Type 0) (before after : Request) → OnWork call before after → after.number ≡ before.number
-named_on call before after o = ap (λ (x : Request). x.number) o.rest
+-- from how it was begun a work came to this by these calls, which told to call these stages
+pub record IsWorked (session : ℕ) (calls : List ℕ) (w : Work) : Type 0 where
+  pub first : Work
+  pub begun : Begun session first
+  pub turns : List (Option Turn)
+  pub are : AreCallsOfWork first turns w
+  pub told : all_of called_by turns ≡ calls
 
-reading_is : (now : ℕ) (entries : List Entry) (notes : List Note) → IsQuiet (Reading now entries notes)
-reading_is now entries notes w v r = elim r.part [
-  | inl reads ↦ ReadsOf entries notes refl reads r.rest
-  | inr m ↦ MisreadsOf now entries notes m.0 refl m.1 r.rest
-]
+abbrev pub Worked : ℕ → List ℕ → Option Work → Type 0
+Worked session calls None = calls ≡ []
+Worked session calls (Some w) = IsWorked session calls w
 
-meeting_is : (now : ℕ) (entries : List Entry) (notes : List Note) → IsQuiet (Meeting now entries notes)
-meeting_is now entries notes w v (inl m) = MeetsOf entries notes m.0 refl m.1
-meeting_is now entries notes w v (inr m) = MismeetsOf now entries notes m.0 refl m.1
+worked_on : {session : ℕ} → (calls called : List ℕ) (w v : Work) (out : Option Turn) → IsWorked session calls w → IsCallOfWork w out v → called ≡ called_by out → IsWorked session (calls ++ called) v
+worked_on calls called w v out h call told = record {
+  first = h.first;
+  begun = h.begun;
+  turns = h.turns ++ out ∷ [];
+  are = snoc h.first w v h.turns out h.are call;
+  told = all_snoc h.turns out ∙ ap (λ (l : List ℕ). l ++ called_by out) h.told ∙ ap (λ (l : List ℕ). calls ++ l) (sym told);
+}
 
-hearing_is : (now : ℕ) (entries : List Entry) (notes : List Note) → IsQuiet (Hearing now entries notes)
-hearing_is now entries notes w v (HearsRead asked r) = reading_is now entries notes w v r
-hearing_is now entries notes w v (HearsPut asked m) = meeting_is now entries notes w v m
-
--- ---- one process
-
-answers_kept : (calls : ℕ → List ℕ) (of : ℕ → Asked) (change : Request → Request → Type 0) (old : Host) (number : ℕ) (new : Host) →
-    ((before after : Request) → change before after → after.number ≡ before.number) → ((before after : Request) → change before after → Moves [] before.work after.work) →
-    Kept calls old.requests → Answers of change old number new → Kept calls new.requests
-answers_kept calls of change old number new named moves k a =
-    let at = a.is.at in
-    let effect = set_effect old.requests a.place at.request a.after at.is (named at.request a.after a.changes) (moves at.request a.after a.changes) in
-    subst (Kept calls) (sym (ap (λ (h : Host). h.requests) a.rest)) (kept_quiet calls old.requests (set old.requests a.place a.after) k effect)
-
-row_kept : (calls : ℕ → List ℕ) (call : Work → Work → Type 0) (of : ℕ → Asked) → IsQuiet call → (old : Host) (number : ℕ) (new : Host) →
-    Kept calls old.requests → Answers of (OnWork call) old number new → Kept calls new.requests
-row_kept calls call of is old number new k a =
-    answers_kept calls of (OnWork call) old number new (λ before after o. named_on call before after o) (λ before after o. moves_on call is before after o) k a
-
-user_kept : (calls : ℕ → List ℕ) (call : Work → Work → Type 0) → IsQuiet call → (request : ℕ) (old new : Host) →
-    Kept calls old.requests → OnRequest call request old new → Kept calls new.requests
-user_kept calls call is request old new k o =
-    let at = o.at in
-    let effect = set_effect old.requests o.place at.request o.after at.is (named_on call at.request o.after o.calls) (moves_on call is at.request o.after o.calls) in
-    subst (Kept calls) (sym (ap (λ (h : Host). h.requests) o.rest)) (kept_quiet calls old.requests (set old.requests o.place o.after) k effect)
-
-act_kept : (calls : ℕ → List ℕ) (call : ℕ → Work → Work → Type 0) → ((n : ℕ) → IsQuiet (call n)) → (request now number : ℕ) (old new : Host) →
-    Kept calls old.requests → OnRequestFor call request now number old new → Kept calls new.requests
-act_kept calls call is request now number old new k o =
-    let at = o.at in
-    let effect = set_effect old.requests o.place at.request o.after at.is (named_on (call number) at.request o.after o.calls) (moves_on (call number) (is number) at.request o.after o.calls) in
-    subst (Kept calls) (sym (ap (λ (h : Host). h.requests) o.rest)) (kept_quiet calls old.requests (set old.requests o.place o.after) k effect)
-
-same_kept : (calls : ℕ → List ℕ) (old new : Host) → new.requests ≡ old.requests → Kept calls old.requests → Kept calls new.requests
-same_kept calls old new is k = subst (Kept calls) (sym is) k
-
--- ---- a turn
+-- ---- one call
 
 abbrev no_stages : List ℕ
 no_stages = []
@@ -96,112 +64,92 @@ empty : (b : Bool) → cond b no_stages no_stages ≡ no_stages
 empty true = refl
 empty false = refl
 
+is_not : (n m : ℕ) → n ≢ m → eqb n m ≡ false
+is_not n m differ = elim (eqb_tells n m) [
+  | inl p ↦ absurd (differ p.1)
+  | inr p ↦ p.0
+]
+
+is_itself : (n : ℕ) → eqb n n ≡ true
+is_itself n = elim (eqb_tells n n) [
+  | inl p ↦ p.0
+  | inr p ↦ absurd (p.1 refl)
+]
+
 -- the stages that a turn's order calls
-ordered : (now request : ℕ) (t : Turn) (order : Order) (old new : Tickets) (n : ℕ) → OrdersTurn now request t order old new → called_in n (Some order) ≡ turn_calls request (Some t) n
+ordered : (now request : ℕ) (t : Turn) (order : Order) (old new : Tickets) (n : ℕ) → OrdersTurn now request t order old new → called_in n (Some order) ≡ cond (eqb request n) (called_by (Some t)) []
 ordered now request (TellTurn number told) order old new n (is, rest) = ap (λ (o : Order). called_in n (Some o)) is ∙ sym (empty (eqb request n))
 ordered now request (ShowTurn i shown) order old new n (is, rest) = ap (λ (o : Order). called_in n (Some o)) is ∙ sym (empty (eqb request n))
 ordered now request (StopTurn i) order old new n (is, rest) = ap (λ (o : Order). called_in n (Some o)) is ∙ sym (empty (eqb request n))
 ordered now request (CallTurn i function args) order old new n (number, is, rest) = ap (λ (o : Order). called_in n (Some o)) is
 ordered now request (AskTurn q) order old new n (number, is, rest) = ap (λ (o : Order). called_in n (Some o)) is ∙ sym (empty (eqb request n))
 
-kept_same : (f g : ℕ → List ℕ) (requests : List Request) → ((n : ℕ) → f n ≡ g n) → Kept f requests → Kept g requests
-kept_same f g requests same k =
-    record {
-      apart = k.apart;
-      worked = λ place r at. subst (λ (l : List ℕ). Worked l r.work) (same r.number) (k.worked place r at);
-      absent = λ n none. sym (same n) ∙ k.absent n none;
-    }
+none_by_else : (n : ℕ) (out : Option Order) → IsElse out → called_in n out ≡ []
+none_by_else n None quiet = refl
+none_by_else n (Some (Beats number)) quiet = refl
+none_by_else n (Some (LooksFor number look)) quiet = refl
+none_by_else n (Some (Open number request)) quiet = refl
+none_by_else n (Some (Sleep until)) quiet = refl
+none_by_else n (Some (Row number request q)) quiet = absurd quiet
+none_by_else n (Some (Call number request i function args)) quiet = absurd quiet
+none_by_else n (Some (Stop number)) quiet = absurd quiet
+none_by_else n (Some (Show request i shown)) quiet = absurd quiet
+none_by_else n (Some (Tell number told)) quiet = absurd quiet
 
-works_kept : (calls : ℕ → List ℕ) (old : Host) (now : ℕ) (order : Order) (new : Host) → Kept calls old.requests → WorksOn old now order new →
-    Kept (λ n. calls n ++ called_in n (Some order)) new.requests
-works_kept calls old now order new k w =
-    let effect = turn_effect (moment_in old now w.may_claim) old.requests w.request w.turn new.requests k.apart w.turns in
-    let more = kept_more calls (turn_calls w.request (Some w.turn)) old.requests new.requests k effect in
-    kept_same (λ n. calls n ++ turn_calls w.request (Some w.turn) n) (λ n. calls n ++ called_in n (Some order)) new.requests
-    (λ n. ap (λ (l : List ℕ). calls n ++ l) (sym (ordered now w.request w.turn order old.tickets new.tickets n w.orders))) more
+none_called : {holds : ℕ → Option Work → Type 0} → (old : Host) (out : Option Order) (new : Host) (n : ℕ) → Still holds old out new n → called_in n out ≡ []
+none_called old out new n (unordered quiet) = none_by_else n out quiet
+none_called old out new n (of_another request t order at w v differ its is orders turn) =
+    ap (λ (o : Option Order). called_in n o) is ∙ ordered at.now request t order old.tickets new.tickets n orders ∙ ap (λ (b : Bool). cond b (called_by (Some t)) []) (is_not request n differ)
 
--- nothing is called by an order
-none_called : (calls : ℕ → List ℕ) (out : Option Order) (requests : List Request) → ((n : ℕ) → called_in n out ≡ []) → Kept calls requests → Kept (λ n. calls n ++ called_in n out) requests
-none_called calls out requests none k =
-    kept_same calls (λ n. calls n ++ called_in n out) requests (λ n. sym (ap (λ (l : List ℕ). calls n ++ l) (none n) ∙ append-nil (calls n))) k
-
-orders_kept : (calls : ℕ → List ℕ) (old : Host) (now : ℕ) (order : Order) (new : Host) → Kept calls old.requests → Orders old now order new →
-    Kept (λ n. calls n ++ called_in n (Some order)) new.requests
-orders_kept calls old now (Beats number) new k o =
-    none_called calls (Some (Beats number)) new.requests (λ n. refl) (same_kept calls old new (ap (λ (h : Host). h.requests) o.rest) k)
-orders_kept calls old now (LooksFor number look) new k o =
-    none_called calls (Some (LooksFor number look)) new.requests (λ n. refl) (same_kept calls old new (ap (λ (h : Host). h.requests) o.rest) k)
-orders_kept calls old now (Open number request) new k o =
-    let after : Request = record o.before { is_asked = true } in
-    let effect = set_effect old.requests o.place o.before after o.there refl (stays refl refl) in
-    none_called calls (Some (Open number request)) new.requests (λ n. refl)
-    (subst (Kept calls) (sym (ap (λ (h : Host). h.requests) o.rest)) (kept_quiet calls old.requests (set old.requests o.place after) k effect))
-orders_kept calls old now (Sleep until) new k o =
-    none_called calls (Some (Sleep until)) new.requests (λ n. refl) (kept_quiet calls old.requests new.requests k (rest_effect (moment_in old now o.may_claim) old.requests new.requests o.all))
-orders_kept calls old now (Row number request q) new k o = works_kept calls old now (Row number request q) new k o
-orders_kept calls old now (Call number request i function args) new k o = works_kept calls old now (Call number request i function args) new k o
-orders_kept calls old now (Stop number) new k o = works_kept calls old now (Stop number) new k o
-orders_kept calls old now (Show request i shown) new k o = works_kept calls old now (Show request i shown) new k o
-orders_kept calls old now (Tell number told) new k o = works_kept calls old now (Tell number told) new k o
-
--- ---- a call
-
-lacks_kept : (calls : ℕ → List ℕ) (of : Asked) (old : Host) (now number : ℕ) (new : Host) → Kept calls old.requests → Lacks of old now number new → Kept calls new.requests
-lacks_kept calls OfBeats old now number new k l = same_kept calls old new (ap (λ (h : Host). h.requests) l.rest) k
-lacks_kept calls OfNews old now number new k l = same_kept calls old new (ap (λ (h : Host). h.requests) l.rest) k
-lacks_kept calls (OfOpen request) old now number new k l =
-    answers_kept calls OfOpen (StaysShut now) old number new (λ before after c. ap (λ (x : Request). x.number) c.rest) (λ before after c. stays (ap (λ (x : Request). x.work) c.rest) refl) k l
-lacks_kept calls (OfRow request) old now number new k l = row_kept calls (Waiting now) OfRow (λ w v c. WaitsOf now refl c) old number new k l
-lacks_kept calls (OfCall request stage) old now number new k l = absurd l
-lacks_kept calls (OfAct request) old now number new k l = absurd l
-
-loses_kept : (calls : ℕ → List ℕ) (of : Asked) (old : Host) (number : ℕ) (new : Host) → Kept calls old.requests → Loses of old number new → Kept calls new.requests
-loses_kept calls OfBeats old number new k l = absurd l
-loses_kept calls OfNews old number new k l = absurd l
-loses_kept calls (OfOpen request) old number new k l =
-    answers_kept calls OfOpen IsDropped old number new (λ before after c. ap (λ (x : Request). x.number) c.rest) (λ before after c. stays (ap (λ (x : Request). x.work) c.rest) refl) k l
-loses_kept calls (OfRow request) old number new k l = row_kept calls Breaking OfRow (λ w v c. BreaksOf Dropped refl c.part c.rest) old number new k l
-loses_kept calls (OfCall request stage) old number new k l = absurd l
-loses_kept calls (OfAct request) old number new k l = absurd l
-
--- what it does where nothing is ordered
-told_nothing : (calls : ℕ → List ℕ) (out : Option Order) (requests : List Request) → out ≡ None → Kept calls requests → Kept (λ n. calls n ++ called_in n out) requests
-told_nothing calls out requests is k = none_called calls out requests (λ n. ap (λ (o : Option Order). called_in n o) is) k
-
-call_kept : (calls : ℕ → List ℕ) (old : Host) (out : Option Order) (new : Host) → Kept calls old.requests → IsCall old out new → Kept (λ n. calls n ++ called_in n out) new.requests
-call_kept calls old out new k (turns now order is o) =
-    subst (λ (x : Option Order). Kept (λ n. calls n ++ called_in n x) new.requests) (sym is) (orders_kept calls old now order new k o)
-call_kept calls old out new k (follows request is f) =
-    told_nothing calls out new.requests is (kept_quiet calls old.requests new.requests k (follows_effect request old.requests new.requests f.follows))
-call_kept calls old out new k (acts now request number until act is a) =
-    told_nothing calls out new.requests is (act_kept calls (λ n. Asking n act until) (λ n w v c. AsksOf n act until refl c) request now number old new k a)
-call_kept calls old out new k (ends now request number until is a) =
-    told_nothing calls out new.requests is (act_kept calls (λ n. Ending n until) (λ n w v c. EndsOf (record { number = n; until = until }) refl c) request now number old new k a)
-call_kept calls old out new k (wants request stage from is a) =
-    told_nothing calls out new.requests is (user_kept calls (Wanting stage from) (λ w v c. WantsOf stage from refl c.rest) request old new k a)
-call_kept calls old out new k (stirs due is e) = told_nothing calls out new.requests is (same_kept calls old new (ap (λ (h : Host). h.requests) e) k)
-call_kept calls old out new k (stops is e) = told_nothing calls out new.requests is (same_kept calls old new (ap (λ (h : Host). h.requests) e) k)
-call_kept calls old out new k (opens plan notes room number is_flow is a) =
-    told_nothing calls out new.requests is
-    (answers_kept calls OfOpen (IsOpened old.session plan notes room is_flow) old number new (λ before after c. ap (λ (x : Request). x.number) c.begins)
-    (λ before after c. begins (told_length before.words (new_work (opened plan notes room old.session 0 is_flow))) c.fresh (ap (λ (x : Request). x.work) c.begins) refl) k a)
-call_kept calls old out new k (hears now number entries notes is a) =
-    told_nothing calls out new.requests is (row_kept calls (Hearing now entries notes) OfRow (hearing_is now entries notes) old number new k a)
-call_kept calls old out new k (lands number is a) = told_nothing calls out new.requests is (row_kept calls Landing OfRow (λ w v c. LandsOf refl c) old number new k a)
-call_kept calls old out new k (refuses now number is a) =
-    told_nothing calls out new.requests is (row_kept calls (Refusing now) OfRow (λ w v c. RefusesOf now refl c) old number new k a)
-call_kept calls old out new k (closes number is_closed is a) =
-    told_nothing calls out new.requests is (row_kept calls (Closing is_closed) OfRow (λ w v c. ClosesOf is_closed refl c) old number new k a)
-call_kept calls old out new k (beats now number clock beats' is b) = told_nothing calls out new.requests is (same_kept calls old new (ap (λ (h : Host). h.requests) b.rest) k)
-call_kept calls old out new k (news now number mark lengths is b) =
-    told_nothing calls out new.requests is (hears_all_kept calls old.takes_all lengths old.requests new.requests k b.hears)
-call_kept calls old out new k (lacks now number is b) = told_nothing calls out new.requests is (lacks_kept calls b.ticket.of old now number new k b.lacks)
-call_kept calls old out new k (loses number is b) = told_nothing calls out new.requests is (loses_kept calls b.ticket.of old number new k b.loses)
-call_kept calls old out new k (finishes number answer is b) =
-    told_nothing calls out new.requests is
-    (row_kept calls (CallEnding b.stage answer) (λ request. OfCall request b.stage) (λ w v c. FinishesOf b.stage answer refl c.runs c.part c.rest) old number new k b.ends)
+its_called : (now n : ℕ) (t : Turn) (order : Order) (out : Option Order) (old new : Tickets) → out ≡ Some order → OrdersTurn now n t order old new → called_in n out ≡ called_by (Some t)
+its_called now n t order out old new is orders =
+    ap (λ (o : Option Order). called_in n o) is ∙ ordered now n t order old new n orders ∙ ap (λ (b : Bool). cond b (called_by (Some t)) []) (is_itself n)
 
 -- ---- a row of calls
+
+-- by calls that were ordered so far each work came to this
+abbrev Holds : ℕ → List (Option Order) → ℕ → Option Work → Type 0
+Holds session outs n work = Worked session (calls_of n outs) work
+
+abbrev HasNone : List (Option Order) → ℕ → Type 0
+HasNone outs n = calls_of n outs ≡ []
+
+does_more : (session : ℕ) (outs : List (Option Order)) (old : Host) (out : Option Order) (new : Host) (n : ℕ) (w v : Work) → IsWorked session (calls_of n outs) w → Does (Holds session outs) old out new n w v →
+    IsWorked session (calls_of n outs ++ called_in n out) v
+does_more session outs old out new n w v h (turned t order at is orders turn) =
+    worked_on (calls_of n outs) (called_in n out) w v (Some t) h (TurnsOf at t refl turn) (its_called at.now n t order out old.tickets new.tickets is orders)
+does_more session outs old out new n w v h (went still call meant) = worked_on (calls_of n outs) (called_in n out) w v None h call (none_called old out new n still)
+
+still_worked : (session : ℕ) (calls called : List ℕ) (work : Option Work) → called ≡ [] → Worked session calls work → Worked session (calls ++ called) work
+still_worked session calls called work none h = subst (λ (l : List ℕ). Worked session l work) (sym (ap (λ (l : List ℕ). calls ++ l) none ∙ append-nil calls)) h
+
+worked_more : (session : ℕ) (outs : List (Option Order)) (old : Host) (out : Option Order) (new : Host) (n : ℕ) (before after : Option Work) → Worked session (calls_of n outs) before →
+    Moves session (Still (Holds session outs) old out new n) (Does (Holds session outs) old out new n) before after → Worked session (calls_of n outs ++ called_in n out) after
+worked_more session outs old out new n before after h (stays is still) =
+    still_worked session (calls_of n outs) (called_in n out) after (none_called old out new n still) (subst (Worked session (calls_of n outs)) (sym is) h)
+worked_more session outs old out new n before after h (begins w was is begun still) =
+    let none : calls_of n outs ≡ [] = subst (Worked session (calls_of n outs)) was h in
+    let all : calls_of n outs ++ called_in n out ≡ [] = ap (λ (l : List ℕ). l ++ called_in n out) none ∙ none_called old out new n still in
+    subst (Worked session (calls_of n outs ++ called_in n out)) (sym is) (record { first = w; begun = begun; turns = []; are = refl; told = sym all })
+worked_more session outs old out new n before after h (goes w v was is does) =
+    subst (Worked session (calls_of n outs ++ called_in n out)) (sym is) (does_more session outs old out new n w v (subst (Worked session (calls_of n outs)) was h) does)
+
+carries : (session : ℕ) (outs : List (Option Order)) (old : Host) (out : Option Order) (new : Host) → CarriesOn session old out new (Holds session outs) (HasNone outs) (Holds session (out ∷ outs)) (HasNone (out ∷ outs))
+carries session outs old out new =
+    let none : (n : ℕ) → calls_of n outs ≡ [] → Still (Holds session outs) old out new n → calls_of n outs ++ called_in n out ≡ [] =
+    λ n absent still. ap (λ (l : List ℕ). l ++ called_in n out) absent ∙ none_called old out new n still in
+    record { moves = λ n before after h m. worked_more session outs old out new n before after h m; begun = none; missing = none }
+
+heard_more : (session : ℕ) (calls : List ℕ) (n : ℕ) (before after : Option Work) → Worked session calls before → Moves session (Anyhow n) (Heard n) before after → Worked session calls after
+heard_more session calls n before after h (stays is still) = subst (Worked session calls) (sym is) h
+heard_more session calls n before after h (begins w was is begun still) =
+    let none : calls ≡ [] = subst (Worked session calls) was h in
+    subst (Worked session calls) (sym is) (record { first = w; begun = begun; turns = []; are = refl; told = sym none })
+heard_more session calls n before after h (goes w v was is (words, heard)) =
+    subst (Worked session calls) (sym is) (subst (λ (l : List ℕ). IsWorked session l v) (append-nil calls) (worked_on calls [] w v None (subst (Worked session calls) was h) (HearsOf words refl heard) refl))
+
+words : (session : ℕ) (outs : List (Option Order)) → CarriesWords session (Holds session outs) (HasNone outs)
+words session outs = record { moves = λ n before after h m. heard_more session (calls_of n outs) n before after h m; begun = λ n absent still. absent; missing = λ n absent still. absent }
 
 abbrev no_requests : List Request
 no_requests = []
@@ -213,15 +161,68 @@ none_in : (n : ℕ) (x : Request) (xs : List Request) → x.number ≢ n → Non
 none_in n x xs other none zero r low at = let is : x ≡ r = same_some x r at in subst (λ (y : Request). y.number ≢ n) is other
 none_in n x xs other none (suc k) r low at = none k r (omega (arith, low)) at
 
-none_yet : (calls : ℕ → List ℕ) → ((n : ℕ) → calls n ≡ []) → Kept calls []
-none_yet calls none = record { apart = λ i j r s at bt e. absurd (no_place i r at); worked = λ place r at. absurd (no_place place r at); absent = λ n h. none n }
+-- no request is there yet
+pub none_yet : {holds : ℕ → Option Work → Type 0} {absent : ℕ → Type 0} → ((n : ℕ) → absent n) → Kept holds absent []
+none_yet none = record { apart = λ i j r s at bt e. absurd (no_place i r at); each = λ place r at. absurd (no_place place r at); none = λ n h. none n }
 
-kept_all : (session : ℕ) (outs : List (Option Order)) (h : Host) → ComesTo session outs h → Kept (λ n. calls_of n outs) h.requests
+-- the session stays
+orders_session : (old : Host) (now : ℕ) (order : Order) (new : Host) → Orders old now order new → new.session ≡ old.session
+orders_session old now (Beats number) new o = ap (λ (h : Host). h.session) o.rest
+orders_session old now (LooksFor number look) new o = ap (λ (h : Host). h.session) o.rest
+orders_session old now (Open number request) new o = ap (λ (h : Host). h.session) o.rest
+orders_session old now (Sleep until) new o = ap (λ (h : Host). h.session) o.rest
+orders_session old now (Row number request q) new o = ap (λ (h : Host). h.session) o.rest
+orders_session old now (Call number request i function args) new o = ap (λ (h : Host). h.session) o.rest
+orders_session old now (Stop number) new o = ap (λ (h : Host). h.session) o.rest
+orders_session old now (Show request i shown) new o = ap (λ (h : Host). h.session) o.rest
+orders_session old now (Tell number told) new o = ap (λ (h : Host). h.session) o.rest
+
+lacks_session : (of : Asked) (old : Host) (now number : ℕ) (new : Host) → Lacks of old now number new → new.session ≡ old.session
+lacks_session OfBeats old now number new l = ap (λ (h : Host). h.session) l.rest
+lacks_session OfNews old now number new l = ap (λ (h : Host). h.session) l.rest
+lacks_session (OfOpen request) old now number new l = ap (λ (h : Host). h.session) l.rest
+lacks_session (OfRow request) old now number new l = ap (λ (h : Host). h.session) l.rest
+lacks_session (OfCall request stage) old now number new l = absurd l
+lacks_session (OfAct request) old now number new l = absurd l
+
+loses_session : (of : Asked) (old : Host) (number : ℕ) (new : Host) → Loses of old number new → new.session ≡ old.session
+loses_session OfBeats old number new l = absurd l
+loses_session OfNews old number new l = absurd l
+loses_session (OfOpen request) old number new l = ap (λ (h : Host). h.session) l.rest
+loses_session (OfRow request) old number new l = ap (λ (h : Host). h.session) l.rest
+loses_session (OfCall request stage) old number new l = absurd l
+loses_session (OfAct request) old number new l = absurd l
+
+call_session : (old : Host) (out : Option Order) (new : Host) → IsCall old out new → new.session ≡ old.session
+call_session old out new (turns now order is o) = orders_session old now order new o
+call_session old out new (follows request is f) = ap (λ (h : Host). h.session) f.rest
+call_session old out new (acts now request number until act is a) = ap (λ (h : Host). h.session) a.rest
+call_session old out new (ends now request number until is a) = ap (λ (h : Host). h.session) a.rest
+call_session old out new (wants request stage is_wanted is a) = ap (λ (h : Host). h.session) a.rest
+call_session old out new (stirs due is e) = ap (λ (h : Host). h.session) e
+call_session old out new (stops is e) = ap (λ (h : Host). h.session) e
+call_session old out new (opens plan notes room number is_flow is a) = ap (λ (h : Host). h.session) a.rest
+call_session old out new (hears now number entries notes is a) = ap (λ (h : Host). h.session) a.rest
+call_session old out new (lands number is a) = ap (λ (h : Host). h.session) a.rest
+call_session old out new (refuses now number is a) = ap (λ (h : Host). h.session) a.rest
+call_session old out new (closes number is_closed is a) = ap (λ (h : Host). h.session) a.rest
+call_session old out new (beats now number clock beats' is b) = ap (λ (h : Host). h.session) b.rest
+call_session old out new (news now number mark lengths is b) = ap (λ (h : Host). h.session) b.rest
+call_session old out new (lacks now number is b) = lacks_session b.ticket.of old now number new b.lacks
+call_session old out new (loses number is b) = loses_session b.ticket.of old number new b.loses
+call_session old out new (finishes number answer is b) = ap (λ (h : Host). h.session) b.ends.rest
+
+pub same_sessions : (session : ℕ) (outs : List (Option Order)) (h : Host) → ComesTo session outs h → h.session ≡ session
+same_sessions session [] h (threads, lease, takes_all, is) = ap (λ (x : Host). x.session) is
+same_sessions session (out ∷ outs) h (before, comes, call) = call_session before out h call ∙ same_sessions session outs before comes
+
+pub kept_all : (session : ℕ) (outs : List (Option Order)) (h : Host) → ComesTo session outs h → Kept (Holds session outs) (HasNone outs) h.requests
 kept_all session [] h (threads, lease, takes_all, is) =
-    subst (Kept (λ n. calls_of n [])) (sym (ap (λ (x : Host). x.requests) is)) (none_yet (λ n. calls_of n []) (λ n. refl))
-kept_all session (out ∷ outs) h (before, comes, call) = call_kept (λ n. calls_of n outs) before out h (kept_all session outs before comes) call
+    subst (Kept (Holds session []) (HasNone [])) (sym (ap (λ (x : Host). x.requests) is)) (none_yet (λ n. refl))
+kept_all session (out ∷ outs) h (before, comes, call) =
+    call_kept before out h (same_sessions session outs before comes) (carries session outs before out h) (words session outs) (kept_all session outs before comes) call
 
-find : (n : ℕ) (requests : List Request) → ((place : ℕ) × (r : Request) × (slice_get requests place ≡ Some r) × (r.number ≡ n)) ⊎ NoneAt n (length requests) requests
+pub find : (n : ℕ) (requests : List Request) → ((place : ℕ) × (r : Request) × (slice_get requests place ≡ Some r) × (r.number ≡ n)) ⊎ NoneAt n (length requests) requests
 find n [] = inr (λ k r low at. absurd (omega (arith, low)))
 find n (x ∷ xs) = elim (eqb_tells x.number n) [
   | inl p ↦ inl (0, x, refl, p.1)
@@ -231,16 +232,16 @@ find n (x ∷ xs) = elim (eqb_tells x.number n) [
   ]
 ]
 
-once_in : WorksArePartsCalls → PartCallsOnce → (calls : List ℕ) (work : Option Work) → Worked calls work → IsApart calls
-once_in parts once calls None is = subst IsApart (sym is) tt
-once_in parts once calls (Some w) (first, ts, are, same) =
-    let p = parts first w ts are in
-    subst IsApart (p.calls ∙ same) (once first.part w.part p.parts p.are).apart
+once_in : WorksArePartsCalls → PartCallsOnce → (session : ℕ) (calls : List ℕ) (work : Option Work) → Worked session calls work → IsApart calls
+once_in parts once session calls None is = subst IsApart (sym is) tt
+once_in parts once session calls (Some w) h =
+    let p = parts h.first w h.turns h.are in
+    subst IsApart (p.calls ∙ h.told) (once h.first.part w.part p.parts p.are).apart
 
 pub calls_once : WorksArePartsCalls → PartCallsOnce → CallsOnce
 calls_once parts once session number outs h comes =
     let k = kept_all session outs h comes in
     elim (find number h.requests) [
-      | inl f ↦ subst (λ (n : ℕ). IsApart (calls_of n outs)) f.3 (once_in parts once (calls_of f.1.number outs) f.1.work (k.worked f.0 f.1 f.2))
-      | inr none ↦ subst IsApart (sym (k.absent number none)) tt
+      | inl f ↦ subst (λ (n : ℕ). IsApart (calls_of n outs)) f.3 (once_in parts once session (calls_of f.1.number outs) f.1.work (k.each f.0 f.1 f.2))
+      | inr none ↦ subst IsApart (sym (k.none number none)) tt
     ]

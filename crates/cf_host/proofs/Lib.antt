@@ -9,6 +9,8 @@ pub mod Ordering
 pub mod Sleeping
 pub mod Worked
 pub mod Effects
+pub mod Going
 pub mod CalledOnce
 pub mod Turned
 pub mod Unfit
+pub mod Processes

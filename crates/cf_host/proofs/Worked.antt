@@ -1,50 +1,31 @@
 -- What a row of calls of a process does to each request's work.
-use Rattle.std.proofs.Common.{◌≡◌, ◌≢◌, ℕ, ◌+◌, ◌<◌, ◌≤◌, ◌⊎◌, inl, inr, Bool, true, false, cond, eqb, Option, Some, None, List, [], ◌∷◌, ◌++◌, refl, ap, sym, ◌∙◌, subst, append-nil, arith, length, set}
+use Rattle.std.proofs.Common.{◌≡◌, ℕ, Bool, Option, Some, None, List, [], ◌∷◌, ◌++◌, refl, ap, sym, ◌∙◌, subst, append-nil, length}
 use Rattle.std.specs.Prelude.{slice_get}
 use Rattle.std.proofs.lemmas.List.{append_assoc}
-use Rattle.std.proofs.lemmas.Bool.Decides.{eqb_tells}
-use Rattle.std.proofs.lemmas.Option.{slice_get_past, slice_get_within}
-use Rattle.cf_model.proofs.StateLemmas.{slice_get-set_other}
+use Rattle.std.proofs.lemmas.Option.{slice_get_within}
+use Rattle.cf_forms.specs.Plans.{Planned}
+use Rattle.cf_notes.specs.declared.note.Note.{Note}
+use Rattle.cf_part.specs.Parts.{opened}
 use Rattle.cf_turn.specs.declared.turn.Turn.{Turn}
 use Rattle.cf_turn.specs.Rows.{AreCalls as AreCallsOfWork, IsCall as IsCallOfWork, all_of, called_by}
-use Rattle.cf_turn.specs.Works.{Work}
+use Rattle.cf_turn.specs.Works.{Work, new_work}
 use Rattle.cf_host.specs.declared.request.Request.{Request}
-use Rattle.cf_host.specs.Requests.{NoneAt, fresh}
+use Rattle.cf_host.specs.Requests.{NoneAt, told_length}
 
--- ---- a work
+-- a work as this session begins it
+pub record Begun (session : ℕ) (w : Work) : Type 0 where
+  pub plan : Planned
+  pub notes : List Note
+  pub room : ℕ
+  pub is_flow : Bool
+  pub words : ℕ
+  pub is : w ≡ told_length words (new_work (opened plan notes room session 0 is_flow))
 
-snoc : (a b c : Work) (ts : List (Option Turn)) (out : Option Turn) → AreCallsOfWork a ts b → IsCallOfWork b out c → AreCallsOfWork a (ts ++ out ∷ []) c
-snoc a b c [] out is call = (c, subst (λ (x : Work). IsCallOfWork x out c) is call, refl)
-snoc a b c (t ∷ ts) out (between, first, rest) call = (between, first, snoc between b c ts out rest call)
-
-all_snoc : (ts : List (Option Turn)) (out : Option Turn) → all_of called_by (ts ++ out ∷ []) ≡ all_of called_by ts ++ called_by out
-all_snoc [] out = append-nil (called_by out)
-all_snoc (t ∷ ts) out = ap (λ (l : List ℕ). called_by t ++ l) (all_snoc ts out) ∙ sym (append_assoc (called_by t) (all_of called_by ts) (called_by out))
-
--- what a call does to a request's work, which tells to call these stages
-pub data Moves (called : List ℕ) (before after : Option Work) : Type 0 where
-  stays : after ≡ before → called ≡ [] → Moves called before after
-  begins : (w : Work) → before ≡ None → after ≡ Some w → called ≡ [] → Moves called before after
-  goes : (w v : Work) (out : Option Turn) → before ≡ Some w → after ≡ Some v → IsCallOfWork w out v → called ≡ called_by out → Moves called before after
-
--- a work came to this by a row of calls, which told to call these stages
-abbrev pub Worked : List ℕ → Option Work → Type 0
-Worked calls None = calls ≡ []
-Worked calls (Some w) = (first : Work) × (ts : List (Option Turn)) × AreCallsOfWork first ts w × (all_of called_by ts ≡ calls)
-
-worked_on : (calls called : List ℕ) (w v : Work) (out : Option Turn) → Worked calls (Some w) → IsCallOfWork w out v → called ≡ called_by out → Worked (calls ++ called) (Some v)
-worked_on calls called w v out (first, ts, are, same) call told =
-    (first, ts ++ out ∷ [], snoc first w v ts out are call, all_snoc ts out ∙ ap (λ (l : List ℕ). l ++ called_by out) same ∙ ap (λ (l : List ℕ). calls ++ l) (sym told))
-
-worked_more : (calls called : List ℕ) (before after : Option Work) → Worked calls before → Moves called before after → Worked (calls ++ called) after
-worked_more calls called before after h (stays is empty) =
-    subst (Worked (calls ++ called)) (sym is) (subst (λ (l : List ℕ). Worked (calls ++ l) before) (sym empty) (subst (λ (l : List ℕ). Worked l before) (sym (append-nil calls)) h))
-worked_more calls called before after h (begins w old is empty) =
-    let none : calls ≡ [] = subst (Worked calls) old h in
-    let all : calls ++ called ≡ [] = ap (λ (l : List ℕ). l ++ called) none ∙ empty in
-    subst (Worked (calls ++ called)) (sym is) (w, [], refl, sym all)
-worked_more calls called before after h (goes w v out old is call told) =
-    subst (Worked (calls ++ called)) (sym is) (worked_on calls called w v out (subst (Worked calls) old h) call told)
+-- What a call does to a request's work: it stays, or is begun, where this may be said of the request; or the call does this to it.
+pub data Moves (session : ℕ) (still : Type 0) (does : Work → Work → Type 0) (before after : Option Work) : Type 0 where
+  stays : after ≡ before → still → Moves session still does before after
+  begins : (w : Work) → before ≡ None → after ≡ Some w → Begun session w → still → Moves session still does before after
+  goes : (w v : Work) → before ≡ Some w → after ≡ Some v → does w v → Moves session still does before after
 
 -- ---- all requests
 
@@ -52,48 +33,48 @@ worked_more calls called before after h (goes w v out old is call told) =
 abbrev pub AreApart : List Request → Type 0
 AreApart requests = (i j : ℕ) (r s : Request) → slice_get requests i ≡ Some r → slice_get requests j ≡ Some s → r.number ≡ s.number → i ≡ j
 
-pub record Kept (calls : ℕ → List ℕ) (requests : List Request) : Type 0 where
+-- this holds of each number and the work that its request has, and this of each number that no request has
+pub record Kept (holds : ℕ → Option Work → Type 0) (absent : ℕ → Type 0) (requests : List Request) : Type 0 where
   pub apart : AreApart requests
-  pub worked : (place : ℕ) (r : Request) → slice_get requests place ≡ Some r → Worked (calls r.number) r.work
-  pub absent : (n : ℕ) → NoneAt n (length requests) requests → calls n ≡ []
+  pub each : (place : ℕ) (r : Request) → slice_get requests place ≡ Some r → holds r.number r.work
+  pub none : (n : ℕ) → NoneAt n (length requests) requests → absent n
 
 -- a request behind a call stood there before it, or is the new one
-pub data Comes (called : ℕ → List ℕ) (old : List Request) (place : ℕ) (r : Request) : Type 0 where
-  from : (before : Request) → slice_get old place ≡ Some before → r.number ≡ before.number → Moves (called before.number) before.work r.work → Comes called old place r
-  taken : place ≡ length old → r.work ≡ None → NoneAt r.number (length old) old → Comes called old place r
+pub data Comes (session : ℕ) (still : ℕ → Type 0) (does : ℕ → Work → Work → Type 0) (old : List Request) (place : ℕ) (r : Request) : Type 0 where
+  from : (before : Request) → slice_get old place ≡ Some before → r.number ≡ before.number →
+      Moves session (still before.number) (does before.number) before.work r.work → Comes session still does old place r
+  taken : place ≡ length old → r.work ≡ None → NoneAt r.number (length old) old → Comes session still does old place r
 
-pub record Effect (called : ℕ → List ℕ) (old new : List Request) : Type 0 where
-  pub comes : (place : ℕ) (r : Request) → slice_get new place ≡ Some r → Comes called old place r
+pub record Effect (session : ℕ) (still : ℕ → Type 0) (does : ℕ → Work → Work → Type 0) (old new : List Request) : Type 0 where
+  pub comes : (place : ℕ) (r : Request) → slice_get new place ≡ Some r → Comes session still does old place r
   pub keeps : (n : ℕ) → NoneAt n (length new) new → NoneAt n (length old) old
-  pub absent : (n : ℕ) → NoneAt n (length old) old → called n ≡ []
+  pub absent : (n : ℕ) → NoneAt n (length old) old → still n
 
-apart_more : (called : ℕ → List ℕ) (old : List Request) → AreApart old → (i j : ℕ) (r s : Request) → Comes called old i r → Comes called old j s → r.number ≡ s.number → i ≡ j
-apart_more called old apart i j r s (from b at named moves) (from c bt same moves') e = apart i j b c at bt (sym named ∙ e ∙ same)
-apart_more called old apart i j r s (from b at named moves) (taken place work none) e = absurd (none i b (slice_get_within old i b at) at (sym named ∙ e))
-apart_more called old apart i j r s (taken place work none) (from c bt same moves') e = absurd (none j c (slice_get_within old j c bt) bt (sym same ∙ sym e))
-apart_more called old apart i j r s (taken place work none) (taken place' work' none') e = place ∙ sym place'
+-- what holds of a request holds again behind such a call
+pub record Carries (session : ℕ) (still : ℕ → Type 0) (does : ℕ → Work → Work → Type 0) (holds : ℕ → Option Work → Type 0) (absent : ℕ → Type 0) (holds' : ℕ → Option Work → Type 0) (absent' : ℕ → Type 0) : Type 0 where
+  pub moves : (n : ℕ) (before after : Option Work) → holds n before → Moves session (still n) (does n) before after → holds' n after
+  pub begun : (n : ℕ) → absent n → still n → holds' n None
+  pub missing : (n : ℕ) → absent n → still n → absent' n
 
-worked_at : (calls called : ℕ → List ℕ) (old : List Request) (place : ℕ) (r : Request) → Kept calls old → ((n : ℕ) → NoneAt n (length old) old → called n ≡ []) → Comes called old place r →
-    Worked (calls r.number ++ called r.number) r.work
-worked_at calls called old place r k absent (from b at named moves) =
-    subst (λ (n : ℕ). Worked (calls n ++ called n) r.work) (sym named) (worked_more (calls b.number) (called b.number) b.work r.work (k.worked place b at) moves)
-worked_at calls called old place r k absent (taken there work none) =
-    subst (Worked (calls r.number ++ called r.number)) (sym work) (ap (λ (l : List ℕ). l ++ called r.number) (k.absent r.number none) ∙ absent r.number none)
+apart_more : {session : ℕ} {still : ℕ → Type 0} {does : ℕ → Work → Work → Type 0} → (old : List Request) → AreApart old → (i j : ℕ) (r s : Request) → Comes session still does old i r → Comes session still does old j s → r.number ≡ s.number → i ≡ j
+apart_more old apart i j r s (from b at named moves) (from c bt same moves') e = apart i j b c at bt (sym named ∙ e ∙ same)
+apart_more old apart i j r s (from b at named moves) (taken place work none) e = absurd (none i b (slice_get_within old i b at) at (sym named ∙ e))
+apart_more old apart i j r s (taken place work none) (from c bt same moves') e = absurd (none j c (slice_get_within old j c bt) bt (sym same ∙ sym e))
+apart_more old apart i j r s (taken place work none) (taken place' work' none') e = place ∙ sym place'
 
-pub kept_more : (calls called : ℕ → List ℕ) (old new : List Request) → Kept calls old → Effect called old new → Kept (λ n. calls n ++ called n) new
-kept_more calls called old new k e =
+each_more : {session : ℕ} {still : ℕ → Type 0} {does : ℕ → Work → Work → Type 0} {holds : ℕ → Option Work → Type 0} {absent : ℕ → Type 0} {holds' : ℕ → Option Work → Type 0} {absent' : ℕ → Type 0} →
+    (old : List Request) (place : ℕ) (r : Request) → Kept holds absent old → Carries session still does holds absent holds' absent' → ((n : ℕ) → NoneAt n (length old) old → still n) → Comes session still does old place r →
+    holds' r.number r.work
+each_more {holds'} old place r k c absent (from b at named moves) =
+    subst (λ (n : ℕ). holds' n r.work) (sym named) (c.moves b.number b.work r.work (k.each place b at) moves)
+each_more {holds'} old place r k c absent (taken there work none) =
+    subst (holds' r.number) (sym work) (c.begun r.number (k.none r.number none) (absent r.number none))
+
+pub kept_more : {session : ℕ} {still : ℕ → Type 0} {does : ℕ → Work → Work → Type 0} {holds : ℕ → Option Work → Type 0} {absent : ℕ → Type 0} {holds' : ℕ → Option Work → Type 0} {absent' : ℕ → Type 0} →
+    (old new : List Request) → Carries session still does holds absent holds' absent' → Kept holds absent old → Effect session still does old new → Kept holds' absent' new
+kept_more old new c k e =
     record {
-      apart = λ i j r s at bt. apart_more called old k.apart i j r s (e.comes i r at) (e.comes j s bt);
-      worked = λ place r at. worked_at calls called old place r k e.absent (e.comes place r at);
-      absent = λ n none. ap (λ (l : List ℕ). l ++ called n) (k.absent n (e.keeps n none)) ∙ e.absent n (e.keeps n none);
-    }
-
--- where nothing is called, the calls are as they were
-pub kept_quiet : (calls : ℕ → List ℕ) (old new : List Request) → Kept calls old → Effect (λ n. []) old new → Kept calls new
-kept_quiet calls old new k e =
-    let more = kept_more calls (λ n. []) old new k e in
-    record {
-      apart = more.apart;
-      worked = λ place r at. subst (λ (l : List ℕ). Worked l r.work) (append-nil (calls r.number)) (more.worked place r at);
-      absent = λ n none. sym (append-nil (calls n)) ∙ more.absent n none;
+      apart = λ i j r s at bt. apart_more old k.apart i j r s (e.comes i r at) (e.comes j s bt);
+      each = λ place r at. each_more old place r k c e.absent (e.comes place r at);
+      none = λ n none. c.missing n (k.none n (e.keeps n none)) (e.absent n (e.keeps n none));
     }

@@ -10,3 +10,5 @@ pub mod Waking
 pub mod Hosts
 pub mod Fitting
 pub mod Laws
+pub mod Processes
+pub mod Keeping

@@ -2,10 +2,11 @@
 ghost use Rattle.cf_host.specs.Clocks.{LimitsComeInTime, TimersComeByThen, WhatComesHasCome};
 ghost use Rattle.cf_host.specs.Laws.{CallsOnce, SleepsInTime};
 ghost use Rattle.cf_host.specs.News.{NothingIsMissed};
+ghost use Rattle.cf_host.specs.Processes.{AllCallOnce};
 ghost use Rattle.cf_host.specs.Tickets.{EachIsAnsweredOnce};
 
 use cf_part::laws::each_function_is_called_once;
-use cf_turn::laws::works_are_calls_of_parts;
+use cf_turn::laws::{one_work_calls_each_function, works_are_calls_of_parts};
 
 /// Whatever the store's clock shows, if it goes no faster than this process's, and an answer told it truly: a timer that is
 /// set by `moment_after` comes no earlier than its span from now on.
@@ -49,4 +50,13 @@ pub fn each_function_of_a_request_is_called_once()
 {
     works_are_calls_of_parts();
     each_function_is_called_once();
+}
+
+/// Of all processes that work on a request, one at most is ordered to call a stage's function, and that once: whatever
+/// stands in its row, if each has a session of its own and was told the truth of the request.
+pub fn one_process_calls_each_function_of_a_request()
+    ensures { AllCallOnce }
+{
+    works_are_calls_of_parts();
+    one_work_calls_each_function();
 }
