@@ -5,15 +5,15 @@ use Rattle.cf_host.specs.declared.ticket.Ticket.{Ticket}
 use Rattle.cf_host.specs.Tickets.{AreAmong, AreApart, Call, ComesTo, EachIsAnsweredOnce, IsOneOf, NoneHas, Tickets, closed_in, closes, opened_in, opens, reserves, ticket_of, without}
 
 -- no number is above the last one
-abbrev AreLow : ℕ → List Ticket → Type 0
+abbrev pub AreLow : ℕ → List Ticket → Type 0
 AreLow last [] = Unit {0}
 AreLow last (t ∷ ts) = (t.number ≤ last) × AreLow last ts
 
-low_more : (a b : ℕ) (ts : List Ticket) → a ≤ b → AreLow a ts → AreLow b ts
+pub low_more : (a b : ℕ) (ts : List Ticket) → a ≤ b → AreLow a ts → AreLow b ts
 low_more a b [] l h = tt
 low_more a b (t ∷ ts) l h = ((let n = h.0 in omega (arith, n, l)), low_more a b ts l h.1)
 
-none_low : (n last : ℕ) (ts : List Ticket) → last < n → AreLow last ts → NoneHas n ts
+pub none_low : (n last : ℕ) (ts : List Ticket) → last < n → AreLow last ts → NoneHas n ts
 none_low n last [] l h = tt
 none_low n last (t ∷ ts) l h = ((λ e. let m = h.0 in absurd (omega (arith, m, l, e))), none_low n last ts l h.1)
 

@@ -1,6 +1,5 @@
 -- What each call of a process does to each request's work.
-use Rattle.std.proofs.Common.{◌≡◌, ◌≢◌, ℕ, inl, inr, Bool, true, Option, Some, None, List, refl, ap, sym, ◌∙◌, subst, set}
-use Rattle.std.specs.Prelude.{slice_get}
+use Rattle.std.proofs.Common.{◌≡◌, ◌≢◌, ℕ, inl, inr, true, Option, Some, None, List, refl, ap, sym, ◌∙◌, subst, set}
 use Rattle.cf_notes.specs.declared.note.Note.{Note}
 use Rattle.cf_row.specs.declared.entry.Entry.{Entry}
 use Rattle.cf_part.specs.declared.question.Fault.TheVariants.{Dropped}
@@ -21,7 +20,7 @@ use Rattle.cf_host.specs.Answering.Hearing.{read as HearsRead, put as HearsPut}
 use Rattle.cf_host.specs.Asking.{Asking, CallEnding, Ending, Wanting}
 use Rattle.cf_host.specs.Hosts.{Answers, AnswersRow, Host, IsDropped, IsOpened, Lacks, Loses, OnRequest, OnRequestFor, Orders, OrdersTurn, StaysShut, WorksOn, moment_in}
 use Rattle.cf_host.specs.Keeping.{ClosesRow}
-use Rattle.cf_host.specs.Laws.{ComesTo, IsCall}
+use Rattle.cf_host.specs.Laws.{IsCall}
 use Rattle.cf_host.specs.Laws.IsCall.{turns, follows, acts, ends, wants, stirs, stops, opens, hears, lands, refuses, closes, beats, news, lacks, loses, finishes}
 use Rattle.cf_host.specs.Requests.{OnWork, told_length}
 use Rattle.cf_host.specs.Tickets.{Opens, Tickets}

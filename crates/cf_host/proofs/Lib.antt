@@ -14,3 +14,9 @@ pub mod CalledOnce
 pub mod Turned
 pub mod Unfit
 pub mod Processes
+pub mod Steady
+pub mod Single
+pub mod Keeping
+pub mod Values
+pub mod Numbers
+pub mod ToldOnce

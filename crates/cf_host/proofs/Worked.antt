@@ -1,13 +1,10 @@
 -- What a row of calls of a process does to each request's work.
-use Rattle.std.proofs.Common.{◌≡◌, ℕ, Bool, Option, Some, None, List, [], ◌∷◌, ◌++◌, refl, ap, sym, ◌∙◌, subst, append-nil, length}
+use Rattle.std.proofs.Common.{◌≡◌, ℕ, Bool, Option, Some, None, List, sym, ◌∙◌, subst, length}
 use Rattle.std.specs.Prelude.{slice_get}
-use Rattle.std.proofs.lemmas.List.{append_assoc}
 use Rattle.std.proofs.lemmas.Option.{slice_get_within}
 use Rattle.cf_forms.specs.Plans.{Planned}
 use Rattle.cf_notes.specs.declared.note.Note.{Note}
 use Rattle.cf_part.specs.Parts.{opened}
-use Rattle.cf_turn.specs.declared.turn.Turn.{Turn}
-use Rattle.cf_turn.specs.Rows.{AreCalls as AreCallsOfWork, IsCall as IsCallOfWork, all_of, called_by}
 use Rattle.cf_turn.specs.Works.{Work, new_work}
 use Rattle.cf_host.specs.declared.request.Request.{Request}
 use Rattle.cf_host.specs.Requests.{NoneAt, told_length}

@@ -1,26 +1,36 @@
--- What a process keeps of a request, whatever it is ordered, told and asked: what functions came to, whom it has to show a stage, whom it
--- has to tell what became of an act, and what it was told of the row.
-use Rattle.std.specs.Prelude.{◌≡◌, ◌≢◌, ◌⊎◌, ℕ, false, true, Option, Some, None, List, [], ◌∷◌, ◌++◌, Contains}
-use Rattle.cf_forms.specs.Plans.{Planned}
-use Rattle.cf_model.specs.States.{claim_at}
+-- What a process keeps of a request, whatever it is ordered, told and asked: what functions came to, whom it has to show a stage, and whom
+-- it has to tell what became of an act.
+use Rattle.std.specs.Prelude.{◌≡◌, ◌≢◌, ◌⊎◌, ℕ, ◌≤◌, Option, Some, None, List, [], ◌∷◌, ◌++◌, Contains, map}
+use Rattle.cf_model.specs.States.{outcome_at}
 use Rattle.cf_notes.specs.declared.wants.EndsWith.{EndsWith}
-use Rattle.cf_notes.specs.declared.wants.Owed.{Owed}
-use Rattle.cf_part.specs.Parts.{Owes, Part, is_wanted_in, state_in}
+use Rattle.cf_row.specs.Grants.{IsGrantedTo}
+use Rattle.cf_part.specs.declared.step.Shown.{Shown}
+use Rattle.cf_part.specs.Parts.{session_of, state_in, wanted_in}
 use Rattle.cf_part.specs.Rows.{IsApart, IsOwed}
-use Rattle.cf_row.specs.declared.entry.Entry.{Entry}
 use Rattle.cf_turn.specs.declared.wish.End.{End}
+use Rattle.cf_turn.specs.declared.wish.Told.{Told}
 use Rattle.cf_turn.specs.declared.wish.Wish.{Wish}
 use Rattle.cf_turn.specs.Works.{Work}
 use Rattle.cf_host.specs.declared.order.Order.{Order}
 use Rattle.cf_host.specs.declared.order.Order.TheVariants.{Show, Tell}
-use Rattle.cf_host.specs.declared.request.Request.{Request}
-use Rattle.cf_host.specs.Asking.{Wanting}
-use Rattle.cf_host.specs.Hosts.{Host, OnRequest}
-use Rattle.cf_host.specs.Laws.{ComesTo, IsCall}
 use Rattle.cf_host.specs.declared.ticket.Asked.TheVariants.{Row as OfRow}
 use Rattle.cf_host.specs.declared.ticket.Ticket.{Ticket}
+use Rattle.cf_host.specs.Asking.{Wanting}
+use Rattle.cf_host.specs.Hosts.{EndsCall, Host, OnRequest, Sleeps}
+use Rattle.cf_host.specs.Laws.{ComesTo, IsCall}
 use Rattle.cf_host.specs.Requests.{IsAt}
 use Rattle.cf_host.specs.Tickets.{Shuts, ticket_of}
+
+-- calls by which a process goes on, the last one first
+abbrev pub GoesOn : Host → List (Option Order) → Host → Type 0
+GoesOn old [] new = new ≡ old
+GoesOn old (out ∷ outs) new = (before : Host) × GoesOn old outs before × IsCall before out new
+
+-- this is the work of a request, which is opened
+pub record IsWorkIn (h : Host) (request : ℕ) (w : Work) : Type 0 where
+  pub place : ℕ
+  pub at : IsAt request place h.requests
+  pub is : at.request.work ≡ Some w
 
 -- an answer about this request's row is taken: its ticket is closed
 pub record ClosesRow (request : ℕ) (old : Host) (out : Option Order) (new : Host) : Type 0 where
@@ -30,3 +40,80 @@ pub record ClosesRow (request : ℕ) (old : Host) (out : Option Order) (new : Ho
   pub is : ticket_of number old.tickets.waiting ≡ Some ticket
   pub of : ticket.of ≡ OfRow request
   pub shuts : Shuts number old.tickets new.tickets
+
+-- ---- what functions came to
+
+-- the function of a stage has ended, what it came to is kept, and the claim of the stage was granted to this session
+pub record KeepsValue (h : Host) (request stage : ℕ) (answer : EndsWith) : Type 0 where
+  pub work : Work
+  pub is : IsWorkIn h request work
+  pub kept : IsOwed work.part stage answer
+  pub granted : IsGrantedTo work.part.row.replica (session_of work.part) stage
+
+-- NO VALUE IS LOST: behind the end of a function, whatever is refused, unanswered or asked, what it came to is kept. So its finish is due as
+-- long as the claim is open in what the session has seen.
+abbrev pub NoValueIsLost : Type 0
+NoValueIsLost =
+    (session : ℕ) (outs more : List (Option Order)) (old between new : Host) (number : ℕ) (answer : EndsWith) → ComesTo session outs old →
+    (e : EndsCall answer old number between) → GoesOn between more new → KeepsValue new e.ends.is.request e.stage answer
+
+-- ---- what is shown
+
+-- somebody waits for a stage
+pub record IsWantedIn (h : Host) (request stage : ℕ) : Type 0 where
+  pub work : Work
+  pub is : IsWorkIn h request work
+  pub from : ℕ
+  pub wanted : wanted_in work.part.wanted stage ≡ Some from
+
+-- it is shown, or nobody waits for it any more
+abbrev pub EndsWanting : Host → Option Order → Host → ℕ → ℕ → Type 0
+EndsWanting old out new request stage =
+    ((shown : Shown) × (out ≡ Some (Show request stage shown))) ⊎ OnRequest (Wanting stage None) request old new
+
+-- by each call a stage for which somebody waits stays so, or is shown, or nobody waits for it any more
+abbrev pub StaysWanted : Type 0
+StaysWanted =
+    (session : ℕ) (outs : List (Option Order)) (old : Host) (out : Option Order) (new : Host) (request stage : ℕ) → ComesTo session outs old →
+    IsCall old out new → IsWantedIn old request stage → IsWantedIn new request stage ⊎ EndsWanting old out new request stage
+
+-- Where the process sleeps, none that is to be shown by now is settled, as the session has seen; nor is there a fault.
+pub record IsUnsettled (h : Host) (now request stage : ℕ) (w : IsWantedIn h request stage) : Type 0 where
+  pub pending : w.from ≤ now → outcome_at (state_in w.work.part) stage ≡ None
+  pub sound : w.work.part.fault ≡ None
+
+abbrev pub ShowsBeforeSleep : Type 0
+ShowsBeforeSleep =
+    (old new : Host) (now until request stage : ℕ) → Sleeps old now until new → (wanted : IsWantedIn old request stage) →
+    IsUnsettled old now request stage wanted
+
+-- ---- what users are told
+
+-- the numbers of acts and ends whose users are still to be told
+abbrev pub asked_by : Work → List ℕ
+asked_by w = map (λ (x : Wish). x.number) w.wishes ++ map (λ (x : End). x.number) w.ends
+
+-- one of a request
+pub record IsAskedIn (h : Host) (request number : ℕ) : Type 0 where
+  pub work : Work
+  pub is : IsWorkIn h request work
+  pub asked : Contains (asked_by work) number
+
+-- by each call it stays asked, or its user is told
+abbrev pub StaysAsked : Type 0
+StaysAsked =
+    (session : ℕ) (outs : List (Option Order)) (old : Host) (out : Option Order) (new : Host) (request number : ℕ) → ComesTo session outs old →
+    IsCall old out new → IsAskedIn old request number → IsAskedIn new request number ⊎ ((told : Told) × (out ≡ Some (Tell number told)))
+
+-- the tickets of which a user was told
+abbrev pub told_in : Option Order → List ℕ
+told_in (Some (Tell number told)) = number ∷ []
+told_in out = []
+
+abbrev pub told_by : List (Option Order) → List ℕ
+told_by [] = []
+told_by (out ∷ outs) = told_in out ++ told_by outs
+
+-- NO USER IS TOLD TWICE of one act or end.
+abbrev pub TellsOnce : Type 0
+TellsOnce = (session : ℕ) (outs : List (Option Order)) (h : Host) → ComesTo session outs h → IsApart (told_by outs)

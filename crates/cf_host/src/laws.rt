@@ -1,11 +1,12 @@
 //! Laws of a process: the contract of each function is the statement, and its body is empty.
 ghost use Rattle.cf_host.specs.Clocks.{LimitsComeInTime, TimersComeByThen, WhatComesHasCome};
+ghost use Rattle.cf_host.specs.Keeping.{NoValueIsLost, ShowsBeforeSleep, StaysAsked, StaysWanted, TellsOnce};
 ghost use Rattle.cf_host.specs.Laws.{CallsOnce, SleepsInTime};
 ghost use Rattle.cf_host.specs.News.{NothingIsMissed};
 ghost use Rattle.cf_host.specs.Processes.{AllCallOnce};
 ghost use Rattle.cf_host.specs.Tickets.{EachIsAnsweredOnce};
 
-use cf_part::laws::each_function_is_called_once;
+use cf_part::laws::{each_function_is_called_once, what_is_owed_is_kept};
 use cf_turn::laws::{one_work_calls_each_function, works_are_calls_of_parts};
 
 /// Whatever the store's clock shows, if it goes no faster than this process's, and an answer told it truly: a timer that is
@@ -60,3 +61,32 @@ pub fn one_process_calls_each_function_of_a_request()
     works_are_calls_of_parts();
     one_work_calls_each_function();
 }
+
+/// By each call a stage for which somebody waits stays so, unless it is shown, or nobody waits for it any more.
+pub fn what_is_wanted_stays_so()
+    ensures { StaysWanted }
+{}
+
+/// Where a process sleeps, no stage for which somebody waits is settled, as the session has seen.
+pub fn what_is_settled_is_shown_before_sleep()
+    ensures { ShowsBeforeSleep }
+{}
+
+/// By each call an act of a user stays asked, and so does an end, unless its user is told.
+pub fn what_is_asked_stays_so()
+    ensures { StaysAsked }
+{}
+
+/// What a function came to is owed while its claim is open, behind any calls and whatever a store answers: so a finish that
+/// says it is due, until the session has seen one.
+pub fn no_value_is_lost()
+    ensures { NoValueIsLost }
+{
+    works_are_calls_of_parts();
+    what_is_owed_is_kept();
+}
+
+/// No user is told twice what became of one act, or of the end of a request.
+pub fn each_user_is_told_once()
+    ensures { TellsOnce }
+{}
