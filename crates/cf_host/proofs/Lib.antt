@@ -20,3 +20,5 @@ pub mod Keeping
 pub mod Values
 pub mod Numbers
 pub mod ToldOnce
+pub mod Seeing
+pub mod Questions

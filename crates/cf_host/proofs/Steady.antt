@@ -272,3 +272,42 @@ keeps_asked w v (WaitsOf now is h) = asks_as w v (ap (λ (x : Work). x.wishes) h
 keeps_asked w v (RefusesOf now is h) = refused_asks w.is_acting w.is_doubtful w v v.part h.rest
 keeps_asked w v (ClosesOf is_closed is h) = asks_as w v (ap (λ (x : Work). x.wishes) h.rest) (ap (λ (x : Work). x.ends) h.rest)
 keeps_asked w v (BreaksOf fault is h rest) = asks_as w v (ap (λ (x : Work). x.wishes) rest) (ap (λ (x : Work). x.ends) rest)
+
+-- the same is seen of the same plan; or nothing is said of a call by which more is seen
+pub record SeesSame (w v : Work) : Type 0 where
+  pub plan : v.part.row.replica.plan ≡ w.part.row.replica.plan
+  pub seen : v.part.row.replica.seen ≡ w.part.row.replica.seen
+
+abbrev pub KeepsSeen : (w v : Work) (o : Option Turn) → IsCall w o v → Type 0
+KeepsSeen w v o (ReadsOf entries notes is h rest) = Unit {0}
+KeepsSeen w v o (MisreadsOf now entries notes m is h rest) = Unit {0}
+KeepsSeen w v o (LandsOf is h) = Unit {0}
+KeepsSeen w v o (MeetsOf entries notes landed is h) = Unit {0}
+KeepsSeen w v o (MismeetsOf now entries notes m is h) = Unit {0}
+KeepsSeen w v o call = SeesSame w v
+
+same_seen : (w v : Work) (p : Part) → v.part ≡ p → p.row.replica.plan ≡ w.part.row.replica.plan → p.row.replica.seen ≡ w.part.row.replica.seen → SeesSame w v
+same_seen w v p is plan seen = record { plan = ap (λ (x : Part). x.row.replica.plan) is ∙ plan; seen = ap (λ (x : Part). x.row.replica.seen) is ∙ seen }
+
+refuses_seen : (b : Bool) (w v : Work) (now : ℕ) → RefusesPart b w.part now v.part → SeesSame w v
+refuses_seen true w v now h = same_seen w v _ h refl refl
+refuses_seen false w v now h = same_seen w v _ h refl refl
+
+pub keeps_seen : (w v : Work) (call : IsCall w None v) → KeepsSeen w v None call
+keeps_seen w v (TurnsOf at t is h) = (let no : ⊥ = cc in absurd no)
+keeps_seen w v (RestsOf at is h) = (let same = (rest_steady w v at h).part in record { plan = same.plan; seen = same.seen })
+keeps_seen w v (FindsOf more is h) = same_seen w v _ (ap (λ (x : Work). x.part) h) refl refl
+keeps_seen w v (AsksOf number act until is h) = same_seen w v _ (ap (λ (x : Work). x.part) h) refl refl
+keeps_seen w v (EndsOf end is h) = same_seen w v _ (ap (λ (x : Work). x.part) h) refl refl
+keeps_seen w v (WantsOf i from is h) = same_seen w v _ (ap (λ (x : Work). x.part) h) refl refl
+keeps_seen w v (HearsOf words is h) = same_seen w v _ (ap (λ (x : Work). x.part) h) refl refl
+keeps_seen w v (FinishesOf i answer is running h rest) = same_seen w v _ h refl refl
+keeps_seen w v (ReadsOf entries notes is h rest) = tt
+keeps_seen w v (MisreadsOf now entries notes m is h rest) = tt
+keeps_seen w v (LandsOf is h) = tt
+keeps_seen w v (MeetsOf entries notes landed is h) = tt
+keeps_seen w v (MismeetsOf now entries notes m is h) = tt
+keeps_seen w v (WaitsOf now is h) = same_seen w v _ h.part refl refl
+keeps_seen w v (RefusesOf now is h) = refuses_seen _ w v now h.part
+keeps_seen w v (ClosesOf is_closed is h) = same_seen w v _ h.part refl refl
+keeps_seen w v (BreaksOf fault is h rest) = same_seen w v _ h refl refl

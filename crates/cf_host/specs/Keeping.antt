@@ -1,22 +1,24 @@
 -- What a process keeps of a request, whatever it is ordered, told and asked: what functions came to, whom it has to show a stage, and whom
 -- it has to tell what became of an act.
-use Rattle.std.specs.Prelude.{◌≡◌, ◌≢◌, ◌⊎◌, ℕ, ◌≤◌, Option, Some, None, List, [], ◌∷◌, ◌++◌, Contains, map}
+use Rattle.std.specs.Prelude.{◌≡◌, ◌⊎◌, ℕ, ◌≤◌, Option, Some, None, List, [], ◌∷◌, ◌++◌, Contains, map}
 use Rattle.cf_model.specs.States.{outcome_at}
 use Rattle.cf_notes.specs.declared.wants.EndsWith.{EndsWith}
 use Rattle.cf_row.specs.Grants.{IsGrantedTo}
+use Rattle.cf_part.specs.declared.question.Question.{Question}
+use Rattle.cf_part.specs.declared.question.Question.TheVariants.{Read, Put, Close}
 use Rattle.cf_part.specs.declared.step.Shown.{Shown}
-use Rattle.cf_part.specs.Parts.{session_of, state_in, wanted_in}
+use Rattle.cf_part.specs.Parts.{seen_by, session_of, state_in, wanted_in}
 use Rattle.cf_part.specs.Rows.{IsApart, IsOwed}
 use Rattle.cf_turn.specs.declared.wish.End.{End}
 use Rattle.cf_turn.specs.declared.wish.Told.{Told}
 use Rattle.cf_turn.specs.declared.wish.Wish.{Wish}
 use Rattle.cf_turn.specs.Works.{Work}
 use Rattle.cf_host.specs.declared.order.Order.{Order}
-use Rattle.cf_host.specs.declared.order.Order.TheVariants.{Show, Tell}
+use Rattle.cf_host.specs.declared.order.Order.TheVariants.{Row, Show, Tell}
 use Rattle.cf_host.specs.declared.ticket.Asked.TheVariants.{Row as OfRow}
 use Rattle.cf_host.specs.declared.ticket.Ticket.{Ticket}
 use Rattle.cf_host.specs.Asking.{Wanting}
-use Rattle.cf_host.specs.Hosts.{EndsCall, Host, OnRequest, Sleeps}
+use Rattle.cf_host.specs.Hosts.{EndsCall, Host, OnRequest, Orders, Sleeps}
 use Rattle.cf_host.specs.Laws.{ComesTo, IsCall}
 use Rattle.cf_host.specs.Requests.{IsAt}
 use Rattle.cf_host.specs.Tickets.{Shuts, ticket_of}
@@ -117,3 +119,41 @@ told_by (out ∷ outs) = told_in out ++ told_by outs
 -- NO USER IS TOLD TWICE of one act or end.
 abbrev pub TellsOnce : Type 0
 TellsOnce = (session : ℕ) (outs : List (Option Order)) (h : Host) → ComesTo session outs h → IsApart (told_by outs)
+
+-- ---- what is seen
+
+-- A call leaves the plan and what was seen of a request's row. Or it opens the request, of which nothing is seen yet; or it takes an answer
+-- about the row.
+pub data ComesToSee (request : ℕ) (old : Host) (out : Option Order) (new : Host) (w : Work) : Type 0 where
+  stays : (before : Work) → IsWorkIn old request before → w.part.row.replica.plan ≡ before.part.row.replica.plan →
+      w.part.row.replica.seen ≡ before.part.row.replica.seen → ComesToSee request old out new w
+  begins : w.part.row.replica.seen ≡ [] → ComesToSee request old out new w
+  answers : ClosesRow request old out new → ComesToSee request old out new w
+
+-- What is seen comes by answers alone.
+abbrev pub SeesByAnswers : Type 0
+SeesByAnswers =
+    (session : ℕ) (outs : List (Option Order)) (old : Host) (out : Option Order) (new : Host) (request : ℕ) (w : Work) → ComesTo session outs old →
+    IsCall old out new → IsWorkIn new request w → ComesToSee request old out new w
+
+-- the place of a question
+abbrev pub place_in : Question → ℕ
+place_in (Read at) = at
+place_in (Put at) = at
+place_in (Close at) = at
+
+-- the ticket is of this request's row, and the request's work asks this, behind all that was seen
+pub record IsAskedFor (h : Host) (request number : ℕ) (q : Question) : Type 0 where
+  pub work : Work
+  pub is : IsWorkIn h request work
+  pub asked : work.part.asked ≡ Some q
+  pub place : place_in q ≡ seen_by work.part
+  pub ticket : Ticket
+  pub found : ticket_of number h.tickets.waiting ≡ Some ticket
+  pub of : ticket.of ≡ OfRow request
+
+-- Each question about a row is asked so.
+abbrev pub AsksBehindSeen : Type 0
+AsksBehindSeen =
+    (session : ℕ) (outs : List (Option Order)) (old new : Host) (now request number : ℕ) (q : Question) → ComesTo session outs old →
+    Orders old now (Row number request q) new → IsAskedFor new request number q

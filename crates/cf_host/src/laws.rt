@@ -1,6 +1,6 @@
 //! Laws of a process: the contract of each function is the statement, and its body is empty.
 ghost use Rattle.cf_host.specs.Clocks.{LimitsComeInTime, TimersComeByThen, WhatComesHasCome};
-ghost use Rattle.cf_host.specs.Keeping.{NoValueIsLost, ShowsBeforeSleep, StaysAsked, StaysWanted, TellsOnce};
+ghost use Rattle.cf_host.specs.Keeping.{AsksBehindSeen, NoValueIsLost, SeesByAnswers, ShowsBeforeSleep, StaysAsked, StaysWanted, TellsOnce};
 ghost use Rattle.cf_host.specs.Laws.{CallsOnce, SleepsInTime};
 ghost use Rattle.cf_host.specs.News.{NothingIsMissed};
 ghost use Rattle.cf_host.specs.Processes.{AllCallOnce};
@@ -77,8 +77,8 @@ pub fn what_is_asked_stays_so()
     ensures { StaysAsked }
 {}
 
-/// What a function came to is owed while its claim is open, behind any calls and whatever a store answers: so a finish that
-/// says it is due, until the session has seen one.
+/// What a function came to is kept, behind any calls and whatever a store answers, and the claim of its stage is this
+/// session's. So its finish is due as long as that claim is open, as far as the session has seen.
 pub fn no_value_is_lost()
     ensures { NoValueIsLost }
 {
@@ -89,4 +89,15 @@ pub fn no_value_is_lost()
 /// No user is told twice what became of one act, or of the end of a request.
 pub fn each_user_is_told_once()
     ensures { TellsOnce }
+{}
+
+/// What a session has seen of a request's row stays as it was by each call but an answer to a question about that row. So
+/// whoever answers truly keeps the premise of `one_process_calls_each_function_of_a_request`.
+pub fn what_is_seen_comes_by_answers()
+    ensures { SeesByAnswers }
+{}
+
+/// A question about a row is asked behind all that the session has seen of it, and its ticket is of that request.
+pub fn questions_are_behind_all_that_is_seen()
+    ensures { AsksBehindSeen }
 {}
