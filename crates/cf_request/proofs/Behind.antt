@@ -36,7 +36,7 @@ flag_past (b ∷ flags) zero l = absurd (omega (arith, l))
 flag_past (b ∷ flags) (suc i) l = flag_past flags i (omega (arith, l))
 
 -- a flag that is set stays so where another one is set
-flag_stays : (flags : List Bool) (i j : ℕ) → i < length flags → get_or flags j false ≡ true → get_or (set flags i true) j false ≡ true
+pub flag_stays : (flags : List Bool) (i j : ℕ) → i < length flags → get_or flags j false ≡ true → get_or (set flags i true) j false ≡ true
 flag_stays flags i j l h = elim (cases_eq j i) [
   | inl same ↦ subst (λ (k : ℕ). get_or (set flags i true) k false ≡ true) (sym same) (get_or-set_same flags i true false l)
   | inr other ↦ get_or-set_other flags i j true false other ∙ h
@@ -93,7 +93,7 @@ stay_word old new word reply h i is =
 none_there : (i : ℕ) → Contains [] i → ⊥
 none_there i (k, l, e) = absurd (omega (arith, l))
 
-contains_or : (xs : List ℕ) (i : ℕ) → Contains xs i ⊎ (Contains xs i → ⊥)
+pub contains_or : (xs : List ℕ) (i : ℕ) → Contains xs i ⊎ (Contains xs i → ⊥)
 contains_or [] i = inr (none_there i)
 contains_or (x ∷ xs) i = elim (cases_eq x i) [
   | inl same ↦ inl (subst (λ (y : ℕ). Contains (x ∷ xs) y) same (contains_head x xs))

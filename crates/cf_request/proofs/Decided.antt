@@ -31,7 +31,7 @@ pub count_push : (p : ℕ → Bool) (xs : List ℕ) (x : ℕ) → count_by p (xs
 count_push p xs x = let all = sum_by-append (λ y. one_if (p y)) xs (x ∷ []) in omega (arith, all)
 
 -- where stages have the same outcomes
-count_same : (p : Option Outcome → Bool) (f g : ℕ → Option Outcome) (xs : List ℕ) → All (λ i. g i ≡ f i) xs → count_by (λ i. p (g i)) xs ≡ count_by (λ i. p (f i)) xs
+pub count_same : (p : Option Outcome → Bool) (f g : ℕ → Option Outcome) (xs : List ℕ) → All (λ i. g i ≡ f i) xs → count_by (λ i. p (g i)) xs ≡ count_by (λ i. p (f i)) xs
 count_same p f g [] h = refl
 count_same p f g (x ∷ xs) h =
     let one = ap (λ (o : Option Outcome). one_if (p o)) (h 0 0 (omega arith)) in
@@ -243,7 +243,7 @@ decided_one f n j o h none is undecided =
     let d = undecided.failures in
     absurd (omega (arith, v, w, size, one, a, b, c, d))
 
-at_there : (xs : List ℕ) (i : ℕ) (h : Contains xs i) → get_or xs h.0 0 ≡ i
+pub at_there : (xs : List ℕ) (i : ℕ) (h : Contains xs i) → get_or xs h.0 0 ≡ i
 at_there [] i (k, l, e) = absurd (omega (arith, l))
 at_there (x ∷ xs) i (zero, l, e) = e
 at_there (x ∷ xs) i (suc k, l, e) = at_there xs i (k, omega (arith, l), e)

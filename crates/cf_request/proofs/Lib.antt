@@ -6,6 +6,7 @@ pub mod Sets
 pub mod Claims
 pub mod Turns
 pub mod Behind
+pub mod Tallied
 pub mod Moments
 pub mod Memory
 pub mod Later
@@ -13,6 +14,7 @@ pub mod Restarts
 pub mod Rooms
 pub mod Rows
 pub mod Machines
+pub mod Fits
 pub mod Found
 pub mod Attached
 pub mod Gathered

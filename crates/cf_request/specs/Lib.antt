@@ -3,6 +3,7 @@ pub mod Telling
 pub mod Settling
 pub mod Joins
 pub mod Relays
+pub mod Tallies
 pub mod Deadlines
 pub mod Lanes
 pub mod Refusals

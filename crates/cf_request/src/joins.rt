@@ -6,10 +6,12 @@ ghost use Rattle.cf_model.specs.States.{outcome_in};
 ghost use Rattle.cf_request.specs.Joins.{AreAllThere, IsDecided, IsDueBy, IsJoin, IsQuorum, IsUndecided, MayNotJoin, ending_by, ending_of, failures_by, has_failed, has_value, sources_of, times_in, value_by, values_by};
 ghost use Rattle.cf_request.specs.Relays.{IsNotBehind};
 ghost use Rattle.cf_request.specs.Settling.{IsOpen};
+ghost use Rattle.cf_request.specs.Tallies.{MaySpare};
 ghost use Rattle.cf_request.specs.Telling.{order_in};
 
 use crate::faults::JoinFault;
 use crate::settling::Due;
+use crate::tallies::Spare;
 use crate::teller::Teller;
 use cf_outcome::{Cause, Outcome, Value};
 
@@ -131,6 +133,35 @@ fn tally_of(teller: &Teller, join: &Join) -> Tally
         tally = counted(tally, outcome);
     }
     tally
+}
+
+/// How many values and failures more a join can get until one of them may decide it, or none where it is decided.
+pub(crate) fn left_of(teller: &Teller, join: &Join) -> Spare
+    requires join { IsJoin (stages_of teller.now.ledger) join.now }
+    ensures first { result.first ≡ join.now.source }
+    ensures left { MaySpare (outcome_in (state_of teller.now.ledger).stages) join.now result }
+{
+    let tally = tally_of(teller, join);
+    if !is_undecided(join, tally) {
+        return Spare {
+            first: join.source,
+            values: 0,
+            failures: 0,
+        };
+    }
+    let wanted = join.wanted as usize;
+    Spare {
+        first: join.source,
+        values: at_most(wanted - tally.values),
+        failures: at_most(2 + join.others.len() - wanted - tally.failures),
+    }
+}
+
+/// So many, or as many as there can be.
+fn at_most(count: usize) -> u16
+    ensures { result ≤ count }
+{
+    count.min(65535) as u16
 }
 
 /// With one source more.

@@ -30,6 +30,7 @@ mod refusals;
 mod relays;
 mod scopes;
 mod settling;
+mod tallies;
 mod teller;
 
 pub use cf_ledger::{Event, Finish, Held, Ledger, LedgerFault, Reply, StepFault, Taken};

@@ -25,7 +25,8 @@ use crate::growing::room_for;
 use crate::joins::{Join, check_join, due_by};
 use crate::lanes::{check_held, finish, finish_held, is_idle, take};
 use crate::refusals::{Ending, end_all, open_stages};
-use crate::relays::{Relays, catch_up, catch_up_with, mark_sources};
+use crate::relays::{Relays, catch_up, catch_up_with};
+use crate::tallies::{Tallies, tally};
 use crate::teller::Teller;
 use cf_bits::BitSet;
 use cf_event::LAST_CALLER;
@@ -61,6 +62,7 @@ const STAGES: u16 = 4096;
 pub struct Machine {
     teller: Teller,
     relays: Relays,
+    tallies: Tallies,
     deadlines: VecDeque<Deadline>,
     moment: u64,
     own: u8,
@@ -76,6 +78,7 @@ impl Model for Machine {
     ghost use Rattle.cf_ledger.specs.Ledgers.{state_of};
     ghost use Rattle.cf_request.specs.Machines.{IsMachine};
     ghost use Rattle.cf_request.specs.Relays.{AreRelays, NoneBehind};
+    ghost use Rattle.cf_request.specs.Tallies.{TalliesFit};
 
     ghost view = { λ m. record {
       teller = m.teller;
@@ -89,7 +92,8 @@ impl Model for Machine {
 
     ghost invariant = { λ m. IsMachine m.teller m.relays.follows.items m.deadlines.items m.own
         × NoneBehind m.relays.follows.items (state_of m.teller.ledger).stages
-        × AreRelays (state_of m.teller.ledger).stages m.relays.follows.items m.relays.followed m.relays.waiting };
+        × AreRelays (state_of m.teller.ledger).stages m.relays.follows.items m.relays.followed m.relays.waiting
+        × TalliesFit m.relays.follows.items m.relays.followed m.tallies m.teller };
 }
 
 impl Machine {
@@ -128,6 +132,10 @@ impl Machine {
                 followed,
                 waiting: 0,
             },
+            tallies: Tallies {
+                spares: Vec::new(alloc),
+                noted: 0,
+            },
             deadlines: VecDeque::new(alloc),
             moment: 0,
             own,
@@ -158,7 +166,13 @@ impl Machine {
         self.teller.reserve(words_beside(self.relays.waiting))?;
         let seen = self.teller.told().len();
         let reply = self.teller.apply(word, lane)?;
-        self.relays.waiting = catch_up(&mut self.teller, &self.relays, seen, self.own);
+        self.relays.waiting = catch_up(
+            &mut self.teller,
+            &self.relays,
+            &mut self.tallies,
+            seen,
+            self.own,
+        );
         Ok(reply)
     }
 
@@ -201,7 +215,13 @@ impl Machine {
         self.teller.reserve(words_beside(self.relays.waiting))?;
         let seen = self.teller.told().len();
         let told = self.teller.finish_word(who, stage, answer, word)?;
-        self.relays.waiting = catch_up(&mut self.teller, &self.relays, seen, self.own);
+        self.relays.waiting = catch_up(
+            &mut self.teller,
+            &self.relays,
+            &mut self.tallies,
+            seen,
+            self.own,
+        );
         Ok(told)
     }
 
@@ -307,7 +327,13 @@ impl Machine {
             answer: Answer::Link(composed.relay),
         };
         let finish = finish(&mut self.teller, who, held);
-        self.relays.waiting = catch_up(&mut self.teller, &self.relays, seen, self.own);
+        self.relays.waiting = catch_up(
+            &mut self.teller,
+            &self.relays,
+            &mut self.tallies,
+            seen,
+            self.own,
+        );
         finish
     }
 
@@ -369,7 +395,13 @@ impl Machine {
         check_held(&self.teller, who, held)?;
         let seen = self.teller.told().len();
         let finish = finish_held(&mut self.teller, who, held);
-        self.relays.waiting = catch_up(&mut self.teller, &self.relays, seen, self.own);
+        self.relays.waiting = catch_up(
+            &mut self.teller,
+            &self.relays,
+            &mut self.tallies,
+            seen,
+            self.own,
+        );
         let taken = take(&mut self.teller, who, lane);
         Ok(Next { finish, taken })
     }
@@ -452,7 +484,12 @@ impl Machine {
         check_join(&self.teller, &join)?;
         self.relays.follows.reserve(1)?;
         let is_due = due_by(&self.teller, &join).is_some();
-        mark_sources(&mut self.relays.followed, &join);
+        tally(
+            &self.teller,
+            &mut self.relays.followed,
+            &mut self.tallies,
+            &join,
+        );
         self.relays.follows.push_reserved(join);
         self.relays.waiting += 1;
         self.relays.waiting = catch_up_with(&mut self.teller, &self.relays, is_due, self.own);
@@ -496,7 +533,7 @@ impl Machine {
         let _stages = self.teller.stages();
         let tie = self.join_of(stage, scope, true);
         let relays = &mut self.relays;
-        mark_sources(&mut relays.followed, &tie);
+        tally(&self.teller, &mut relays.followed, &mut self.tallies, &tie);
         relays.follows.push_reserved(tie);
         relays.waiting += 1;
     }
@@ -624,6 +661,8 @@ impl Machine {
         self.relays.follows.clear();
         self.relays.followed.reset(STAGES);
         self.relays.waiting = 0;
+        self.tallies.spares.clear();
+        self.tallies.noted = 0;
         self.deadlines.clear();
         self.moment = 0;
     }

@@ -1,20 +1,21 @@
 //! Stages that follow another stage of the same request.
-ghost use Rattle.std.specs.Prelude.{◌≡◌, ◌⊎◌, ◌+◌, ◌^◌, ◌≤◌, ◌<◌, All, IfNone, IfSome, length, take, true};
+ghost use Rattle.std.specs.Prelude.{◌≡◌, ◌⊎◌, ◌+◌, ◌^◌, ◌≤◌, ◌<◌, IfNone, IfSome, length, take, true};
 ghost use Rattle.cf_ledger.specs.Ledgers.{state_of};
-ghost use Rattle.cf_request.specs.Joins.{sources_of};
 ghost use Rattle.cf_request.specs.Machines.{CatchesUp};
-ghost use Rattle.cf_request.specs.Relays.{AreLookedAt, AreMarked, AreThere, IsBehindAt, IsRelayDue, MayCatchUp, MayCatchUpWith, MarksAll, MaySettle, NoneBehind, NoneFollowed, is_in_flags, open_relays};
+ghost use Rattle.cf_request.specs.Relays.{AreLookedAt, AreMarked, AreThere, IsBehindAt, IsRelayDue, MayCatchUp, MayCatchUpWith, MaySettle, NoneBehind, NoneFollowed, is_in_flags, open_relays};
 ghost use Rattle.cf_request.specs.Settling.{IsOpen};
+ghost use Rattle.cf_request.specs.Tallies.{TalliesFit};
 
 use crate::joins::{Join, due_by};
 use crate::settling::{Due, settle};
+use crate::tallies::{Tallies, note};
 use crate::teller::Teller;
 use cf_bits::BitSet;
 
 /// Which stages follow which: the joins.
 ///
-/// The set of the stages that are followed is kept beside them, so that a call that settles none of them looks at no
-/// join, and how many joins are open at most, for each of which a call finds memory.
+/// The set of the stages that are followed is kept beside them, so that a call that settles none of them notes none,
+/// and how many joins are open at most, for each of which a call finds memory.
 #[derive(Drop)]
 pub(crate) struct Relays {
     pub follows: Vec<Join>,
@@ -29,25 +30,36 @@ pub(crate) struct Behind {
     pub due: Due,
 }
 
-/// Settles all relays whose stages are settled, and those that follow these. It looks at relays only if a stage is
-/// followed that is told behind so many that were looked at. It takes no memory but that of a word for each relay that
-/// is open, and tells how many are open at most then.
+/// Settles all relays whose stages are settled, and those that follow these. It looks at relays only if a stage that
+/// wasn't noted before may decide one. It takes no memory but that of a word for each relay that is open, and tells how
+/// many are open at most then.
 #[inline(always)]
-pub(crate) fn catch_up(teller: &mut Teller, relays: &Relays, seen: usize, who: u8) -> usize
+pub(crate) fn catch_up(
+    teller: &mut Teller,
+    relays: &Relays,
+    tallies: &mut Tallies,
+    seen: usize,
+    who: u8,
+) -> usize
     requires caller { who ≤ 63 }
     requires may { MayCatchUp teller.old relays.now seen }
+    requires tallied { TalliesFit relays.now.follows.items relays.now.followed tallies.old teller.old }
+    requires noted { tallies.old.noted ≤ length teller.old.taken + seen }
     ensures settled { CatchesUp who relays.now.follows.items teller.old teller.new }
     ensures counted { open_relays teller.new relays.now ≤ result }
     ensures fewer { result ≤ relays.now.waiting }
     ensures memory { teller.old.ledger.free ≤ teller.new.ledger.free + open_relays teller.old relays.now }
+    ensures tallied { TalliesFit relays.now.follows.items relays.now.followed tallies.new teller.new }
 {
+    let _seen = seen;
     if relays.waiting == 0 {
         return relays.waiting;
     }
-    if none_followed(&relays.followed, &teller.told()[seen..]) {
-        return relays.waiting;
+    let is_due = note(teller, &relays.followed, tallies);
+    if is_due {
+        return settle_behind(teller, relays, who);
     }
-    settle_behind(teller, relays, who)
+    relays.waiting
 }
 
 /// The same where a join may be behind only if another is known to be.
@@ -132,7 +144,7 @@ fn none_followed(followed: &BitSet, stages: &[u16]) -> bool
 
 /// Whether a stage is followed.
 #[inline(always)]
-fn is_followed(followed: &BitSet, i: u16) -> bool
+pub(crate) fn is_followed(followed: &BitSet, i: u16) -> bool
     ensures { result ≡ is_in_flags followed.now i }
 {
     if i >= followed.bound() {
@@ -155,16 +167,4 @@ fn first_from(teller: &Teller, relays: &Relays, from: usize) -> Option<Behind>
         }
     }
     None
-}
-
-/// Notes that the sources of a join are followed.
-pub(crate) fn mark_sources(followed: &mut BitSet, join: &Join)
-    requires flags { length followed.old ≡ 4096 }
-    requires there { All (λ i. i < 4096) (sources_of join.now) }
-    ensures { MarksAll (sources_of join.now) followed.old followed.new }
-{
-    followed.insert(join.source);
-    for source in &join.others {
-        followed.insert(*source);
-    }
 }

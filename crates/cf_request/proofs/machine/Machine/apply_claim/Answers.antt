@@ -1,4 +1,4 @@
-use Rattle.std.proofs.Common.{◌-◌, ◌≤◌, ◌∙◌, ℕ, arith, refl, subst}
+use Rattle.std.proofs.Common.{◌-◌, ◌≤◌, ◌∙◌, arith, refl, subst}
 use Rattle.std.specs.Prelude.{vec_capacity}
 use Rattle.std.specs.VecDeque.{deque_capacity}
 use Rattle.cf_model.specs.declared.events.Reply.TheVariants.{Claim as Told}
@@ -6,6 +6,8 @@ use Rattle.cf_ledger.specs.Ledgers.{state_of}
 use Rattle.cf_request.specs.Machines.{AppliesWord, CatchesUp, Machine}
 use Rattle.cf_request.specs.Relays.{open_relays}
 use Rattle.cf_request.proofs.Machines.{kept_all, kept_found, kept_word, still_word}
+use Rattle.cf_request.proofs.Fits.{fit_found, four, kept_same, three}
+use Rattle.cf_request.proofs.Tallied.{stays_memory, stays_then, stays_word, tallied_later}
 use Rattle.cf_request.proofs.machine.Machine.apply_claim.Goals as goal
 
 still : (c : goal.In_ok-told) → CatchesUp c.self.inside.own c.self.inside.relays.follows.items c.claim_word.new.self c.claim_word.new.self × (open_relays c.claim_word.new.self c.self.inside.relays ≤ c.self.inside.relays.waiting)
@@ -18,15 +20,17 @@ still c =
 pub invariant_of-self-in_err-told : goal.invariant_of-self-in_err-told
 invariant_of-self-in_err-told c =
     let m = c.self.inside in
-    kept_found _ m.teller c.claim_word.new.self m.relays m.deadlines.items m.own (c.in_err-told.ensures.refused ∙ c.in_ok-reserve.ensures.found) c.self.invariant
+    four (kept_found _ m.teller c.claim_word.new.self m.relays m.deadlines.items m.own (c.in_err-told.ensures.refused ∙ c.in_ok-reserve.ensures.found) (three c.self.invariant))
+    (fit_found _ m.teller c.claim_word.new.self m.relays.follows.items m.relays.followed m.tallies (c.in_err-told.ensures.refused ∙ c.in_ok-reserve.ensures.found) c.self.invariant.3)
 
 pub invariant_of-self-2 : goal.invariant_of-self-2
 invariant_of-self-2 c =
     let m = c.self.inside in
     let b = c.claim_word.new.self in
-    kept_all m.own b b m.relays m.deadlines.items m.relays.waiting (state_of m.teller.ledger).stages (still c).0
+    four (kept_all m.own b b m.relays m.deadlines.items m.relays.waiting (state_of m.teller.ledger).stages (still c).0
     (kept_word _ m.teller c.reserve.new.self b c.args.word (Told c.in_ok-told.told) m.relays.follows.items m.deadlines.items m.own c.self.invariant.0 c.in_ok-reserve.ensures.found (c.in_ok-told.ensures.done 0).tells)
-    c.self.invariant.2 (still c).1 (omega arith)
+    c.self.invariant.2 (still c).1 (omega arith))
+    (tallied_later m.relays.follows.items m.relays.followed m.tallies m.teller b (stays_then m.teller c.reserve.new.self b (stays_memory _ m.teller c.reserve.new.self c.in_ok-reserve.ensures.found) (stays_word c.reserve.new.self b c.args.word (Told c.in_ok-told.told) (c.in_ok-told.ensures.done 0).tells)) c.self.invariant.3)
 
 pub returns-clause-done : goal.returns-clause-done
 returns-clause-done c lane =
@@ -44,3 +48,6 @@ returns-clause-done c lane =
       catches_up = (still c).0;
       same = refl;
     })
+
+pub invariant_of-self : goal.invariant_of-self
+invariant_of-self c = let m = c.self.inside in kept_same m.teller c.reserve.new.self m.relays m.tallies m.deadlines.items m.own c.in_err-reserve.ensures.refused c.self.invariant

@@ -9,6 +9,8 @@ use Rattle.cf_request.specs.Rows.{AreCalls, nothing}
 use Rattle.cf_request.specs.Telling.{Teller}
 use Rattle.cf_request.proofs.Attached.{AttachesRow, calls_attach, kept_attach}
 use Rattle.cf_request.proofs.Composes.{composes_are, row_composes}
+use Rattle.cf_request.proofs.Fits.{four, kept_same}
+use Rattle.cf_request.proofs.Tallied.{stays_attaches, stays_memory, stays_then, tallied_later}
 use Rattle.cf_request.proofs.machine.Machine.compose.Goals as goal
 
 -- what is attached, and nothing else is done
@@ -21,7 +23,9 @@ row c =
 pub invariant_of-self-2 : goal.invariant_of-self-2
 invariant_of-self-2 c =
     let m = c.self.inside in
-    kept_attach _ m.teller c.reserve.new.self c.compose.new.teller _ m.relays.follows.items m.deadlines.items m.own m.relays.followed m.relays.waiting c.in_ok-reserve.ensures.found (row c) c.self.invariant.0 c.self.invariant.1 c.self.invariant.2
+    four (kept_attach _ m.teller c.reserve.new.self c.compose.new.teller _ m.relays.follows.items m.deadlines.items m.own m.relays.followed m.relays.waiting c.in_ok-reserve.ensures.found (row c) c.self.invariant.0 c.self.invariant.1 c.self.invariant.2)
+    (tallied_later m.relays.follows.items m.relays.followed m.tallies m.teller c.compose.new.teller (stays_then m.teller c.reserve.new.self c.compose.new.teller (stays_memory _ m.teller c.reserve.new.self c.in_ok-reserve.ensures.found)
+    (stays_attaches c.args.lane (composes c.args.who c.args.how c.args.source c.args.function) c.reserve.new.self c.compose.new.teller c.compose.ensures.tells)) c.self.invariant.3)
 
 pub returns-clause-done : goal.returns-clause-done
 returns-clause-done c =
@@ -57,3 +61,6 @@ returns-clause-calls c =
     (calls_attach c.args.lane (composes c.args.who c.args.how c.args.source c.args.function) first c.reserve.new.self c.compose.new.teller (2 + m.relays.waiting)
     (composes_are c.args.who c.args.how c.args.source c.args.function) c.in_ok-reserve.ensures.found (omega (arith, most, enough)) c.in_ok-check_composing.ensures.may.room
     c.self.invariant.0.relays c.self.invariant.1 c.compose.ensures.tells)
+
+pub invariant_of-self : goal.invariant_of-self
+invariant_of-self c = let m = c.self.inside in kept_same m.teller c.reserve.new.self m.relays m.tallies m.deadlines.items m.own c.in_err-reserve.ensures.refused c.self.invariant

@@ -8,4 +8,5 @@ invariant_of-self-2 c =
       kept_set m.teller m.relays.follows.items m.deadlines.items c.set.new.deadlines.items m.own c.args.deadline c.self.invariant.0 (omega (arith, c.stages.ensures.count, c.if-deadline-stages.false)) c.in_ok-set.ensures.set,
       c.self.invariant.1,
       c.self.invariant.2,
+      c.self.invariant.3,
     )

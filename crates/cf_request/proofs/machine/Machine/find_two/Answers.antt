@@ -3,6 +3,7 @@ use Rattle.cf_ledger.specs.Ledgers.{state_of}
 use Rattle.cf_request.specs.Machines.{FindsFor, Machine}
 use Rattle.cf_request.specs.Relays.{waiting_of}
 use Rattle.cf_request.specs.Telling.{Teller}
+use Rattle.cf_request.proofs.Fits.{kept_memory_found, kept_same}
 use Rattle.cf_request.proofs.machine.Machine.find_two.Goals as goal
 
 pub returns-clause-finds : goal.returns-clause-finds
@@ -19,3 +20,9 @@ returns-clause-enough c =
     let most = c.self.invariant.2.most in
     let waits = ap (λ (t : Teller). length (waiting_of (state_of t.ledger).stages m.relays.follows.items)) c.in_ok-reserve.ensures.found in
     omega (arith, most, waits, c.in_ok-reserve.ensures.enough)
+
+pub invariant_of-self : goal.invariant_of-self
+invariant_of-self c = let m = c.self.inside in kept_same m.teller c.reserve.new.self m.relays m.tallies m.deadlines.items m.own c.in_err-reserve.ensures.refused c.self.invariant
+
+pub invariant_of-self-2 : goal.invariant_of-self-2
+invariant_of-self-2 c = let m = c.self.inside in kept_memory_found _ m.teller c.reserve.new.self m.relays m.tallies m.deadlines.items m.own c.in_ok-reserve.ensures.found c.self.invariant

@@ -10,6 +10,8 @@ use Rattle.cf_request.specs.Rows.{AreCalls, nothing}
 use Rattle.cf_request.specs.Telling.{Teller}
 use Rattle.cf_request.proofs.Attached.{AttachesRow, kept_attach}
 use Rattle.cf_request.proofs.Gathered.{calls_gather, row_gathers}
+use Rattle.cf_request.proofs.Fits.{four, kept_same}
+use Rattle.cf_request.proofs.Tallied.{stays_attaches, stays_memory, stays_then, tallied_later}
 use Rattle.cf_request.proofs.machine.Machine.gather.Goals as goal
 
 -- what is attached, and nothing else is done
@@ -22,7 +24,9 @@ row c =
 pub invariant_of-self-2 : goal.invariant_of-self-2
 invariant_of-self-2 c =
     let m = c.self.inside in
-    kept_attach _ m.teller c.reserve.new.self c.gather.new.teller _ m.relays.follows.items m.deadlines.items m.own m.relays.followed m.relays.waiting c.in_ok-reserve.ensures.found (row c) c.self.invariant.0 c.self.invariant.1 c.self.invariant.2
+    four (kept_attach _ m.teller c.reserve.new.self c.gather.new.teller _ m.relays.follows.items m.deadlines.items m.own m.relays.followed m.relays.waiting c.in_ok-reserve.ensures.found (row c) c.self.invariant.0 c.self.invariant.1 c.self.invariant.2)
+    (tallied_later m.relays.follows.items m.relays.followed m.tallies m.teller c.gather.new.teller (stays_then m.teller c.reserve.new.self c.gather.new.teller (stays_memory _ m.teller c.reserve.new.self c.in_ok-reserve.ensures.found)
+    (stays_attaches 0 (gathers c.args.who c.args.how (stages_of c.reserve.new.self.ledger) c.args.sources.now) c.reserve.new.self c.gather.new.teller c.gather.ensures.tells)) c.self.invariant.3)
 
 pub returns-clause-done : goal.returns-clause-done
 returns-clause-done c =
@@ -62,3 +66,6 @@ returns-clause-calls c =
     subst (λ (old : Machine). AreCalls old (nothing ∷ replicate (stages_for c.args.sources.now) nothing) (record first { teller = c.gather.new.teller })) c.self.view_is
     (calls_gather c.args.who c.args.how c.args.sources.now first c.reserve.new.self c.gather.new.teller (c.in_ok-count.count + m.relays.waiting) c.in_ok-reserve.ensures.found (omega (arith, most, count, enough)) c.in_ok-count.ensures.may.room
     c.self.invariant.0.relays c.self.invariant.1 (subst (λ (n : ℕ). TellsAttaches 0 (gathers c.args.who c.args.how n c.args.sources.now) c.reserve.new.self c.gather.new.teller) same c.gather.ensures.tells))
+
+pub invariant_of-self : goal.invariant_of-self
+invariant_of-self c = let m = c.self.inside in kept_same m.teller c.reserve.new.self m.relays m.tallies m.deadlines.items m.own c.in_err-reserve.ensures.refused c.self.invariant

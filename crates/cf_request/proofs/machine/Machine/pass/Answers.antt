@@ -8,6 +8,8 @@ use Rattle.cf_request.specs.Relays.{IsRelayOr}
 use Rattle.cf_request.proofs.Machines.{kept_left, kept_rest, none_found, relays_later}
 use Rattle.cf_request.proofs.Memory.{few_limits}
 use Rattle.cf_request.proofs.Turns.{keeps_memory}
+use Rattle.cf_request.proofs.Tallied.{stays_dues, stays_memory, stays_then, tallied_later}
+use Rattle.cf_request.proofs.Fits.{kept_memory_found, kept_same}
 use Rattle.cf_request.proofs.machine.Machine.pass.Goals as goal
 
 pub pass-requires-clause-marked : goal.pass-requires-clause-marked
@@ -38,6 +40,8 @@ invariant_of-self-2 c =
       kept_left c.pass.new.teller m.relays.follows.items m.deadlines.items c.pass.new.deadlines.items m.own kept.0 c.pass.ensures.forgets,
       kept.1,
       kept.2,
+      tallied_later m.relays.follows.items m.relays.followed m.tallies m.teller c.pass.new.teller (stays_then m.teller c.reserve.new.self c.pass.new.teller (stays_memory _ m.teller c.reserve.new.self c.in_ok-reserve.ensures.found)
+          (stays_dues (IsRelayOr m.relays.follows.items (IsOverdue c.args.moment m.deadlines.items)) m.own c.reserve.new.self c.pass.new.teller c.pass.ensures.settles)) c.self.invariant.3,
     )
 
 pub returns-clause-passes : goal.returns-clause-passes
@@ -74,3 +78,9 @@ returns-then-moment-self-clause-found c is =
     let new : Machine = record { teller = r; follows = m.relays.follows.items; deadlines = m.deadlines.items; moment = m.moment; own = m.own; relay_places = vec_capacity m.relays.follows; deadline_places = deque_capacity m.deadlines } in
     subst (λ (old : Machine). FindsToPass c.args.moment old new) c.self.view_is
     (record { come = c.come_by-come.result; are_come = c.come_by-come.ensures; enough = omega (arith, most, limits, size, enough) })
+
+pub invariant_of-self : goal.invariant_of-self
+invariant_of-self c = let m = c.self.inside in kept_same m.teller c.reserve.new.self m.relays m.tallies m.deadlines.items m.own c.in_err-reserve.ensures.refused c.self.invariant
+
+pub invariant_of-self-then-moment-self : goal.invariant_of-self-then-moment-self
+invariant_of-self-then-moment-self c = let m = c.self.inside in kept_memory_found _ m.teller c.reserve.new.self m.relays m.tallies m.deadlines.items m.own c.in_ok-reserve.ensures.found c.self.invariant

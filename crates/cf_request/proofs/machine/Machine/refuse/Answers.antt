@@ -5,6 +5,8 @@ use Rattle.cf_request.specs.Machines.{Machine, Refuses}
 use Rattle.cf_request.specs.Refusals.{IsRefused}
 use Rattle.cf_request.specs.Relays.{IsRelayOr}
 use Rattle.cf_request.proofs.Machines.{kept_rest, none_found, refuses_is}
+use Rattle.cf_request.proofs.Fits.{four, kept_same}
+use Rattle.cf_request.proofs.Tallied.{stays_dues, stays_memory, stays_then, tallied_later}
 use Rattle.cf_request.proofs.machine.Machine.refuse.Goals as goal
 
 pub end_all-requires-clause-marked : goal.end_all-requires-clause-marked
@@ -17,7 +19,9 @@ pub invariant_of-self-2 : goal.invariant_of-self-2
 invariant_of-self-2 c =
     let m = c.self.inside in
     let r = c.reserve.new.self in
-    kept_rest (IsRelayOr m.relays.follows.items (IsRefused r.lanes.of c.args.lane c.args.code)) m.own _ m.teller r c.end_all.new.teller m.relays m.deadlines.items m.own c.in_ok-reserve.ensures.found c.end_all.ensures.settles c.self.invariant.0 c.self.invariant.2 c.end_all.ensures.behind
+    four (kept_rest (IsRelayOr m.relays.follows.items (IsRefused r.lanes.of c.args.lane c.args.code)) m.own _ m.teller r c.end_all.new.teller m.relays m.deadlines.items m.own c.in_ok-reserve.ensures.found c.end_all.ensures.settles c.self.invariant.0 c.self.invariant.2 c.end_all.ensures.behind)
+    (tallied_later m.relays.follows.items m.relays.followed m.tallies m.teller c.end_all.new.teller (stays_then m.teller r c.end_all.new.teller (stays_memory _ m.teller r c.in_ok-reserve.ensures.found)
+    (stays_dues (IsRelayOr m.relays.follows.items (IsRefused r.lanes.of c.args.lane c.args.code)) m.own r c.end_all.new.teller c.end_all.ensures.settles)) c.self.invariant.3)
 
 pub returns-clause-refuses : goal.returns-clause-refuses
 returns-clause-refuses c =
@@ -26,3 +30,6 @@ returns-clause-refuses c =
     subst (λ (x : Machine). Refuses c.args.lane c.args.code x (record old { teller = c.end_all.new.teller })) c.self.view_is
     (refuses_is old c.reserve.new.self c.end_all.new.teller c.args.lane c.args.code c.open_stages.result c.open_stages.ensures c.in_ok-reserve.ensures.found
     c.end_all.ensures.behind c.end_all.ensures.none c.end_all.ensures.settles)
+
+pub invariant_of-self : goal.invariant_of-self
+invariant_of-self c = let m = c.self.inside in kept_same m.teller c.reserve.new.self m.relays m.tallies m.deadlines.items m.own c.in_err-reserve.ensures.refused c.self.invariant

@@ -1,4 +1,4 @@
-use Rattle.std.proofs.Common.{◌≡◌, ◌+◌, ◌<◌, ◌≤◌, ℕ, true, false, All, arith, length, refl, subst, sym}
+use Rattle.std.proofs.Common.{◌≡◌, ◌+◌, ◌<◌, ◌≤◌, ◌∷◌, ◌++◌, [], true, false, arith, subst, sym}
 use Rattle.std.specs.Prelude.{vec_capacity}
 use Rattle.std.specs.VecDeque.{deque_capacity}
 use Rattle.cf_ledger.specs.Ledgers.{stages_of, state_of}
@@ -8,7 +8,24 @@ use Rattle.cf_request.specs.Scopes.{PutsIn}
 use Rattle.cf_request.specs.Telling.{is_settled_in}
 use Rattle.cf_request.specs.declared.joins.Join.{Join}
 use Rattle.cf_request.proofs.Ends.{not_behind, puts_tie, tie_is, tied}
+use Rattle.cf_request.proofs.Fits.{fit_rows, four, three}
 use Rattle.cf_request.proofs.machine.Machine.tie.Goals as goal
+
+pub tally-requires-clause-join : goal.tally-requires-clause-join
+tally-requires-clause-join c =
+    let m = c.self.inside in
+    let stage = subst (λ (x : Machine). c.args.stage < stages_in x) (sym c.self.view_is) c.requires.stage in
+    let scope = subst (λ (x : Machine). c.args.scope < stages_in x) (sym c.self.view_is) c.requires.scope in
+    tie_is (stages_of m.teller.ledger) c.args.scope c.args.stage c.join_of-tie.result c.join_of-tie.ensures stage scope
+
+pub tally-requires-clause-flags : goal.tally-requires-clause-flags
+tally-requires-clause-flags c = c.self.invariant.2.flags
+
+pub tally-requires-clause-within : goal.tally-requires-clause-within
+tally-requires-clause-within c = c.self.invariant.3.within
+
+pub tally-requires-clause-led : goal.tally-requires-clause-led
+tally-requires-clause-led c = c.self.invariant.3.led
 
 pub invariant_of-self : goal.invariant_of-self
 invariant_of-self c =
@@ -21,8 +38,10 @@ invariant_of-self c =
     let scope = subst (λ (x : Machine). c.args.scope < stages_in x) (sym c.self.view_is) c.requires.scope in
     let still = subst (λ (x : Machine). is_settled_in (state_in x).stages c.args.scope ≡ false) (sym c.self.view_is) c.requires.open_still in
     let join = tie_is n c.args.scope c.args.stage j is stage scope in
-    tied m.teller m.relays c.push_reserved.new.self.items c.mark_sources.new.followed m.deadlines.items m.own j c.push_reserved.ensures.items c.mark_sources.ensures join
-    (not_behind stages n c.args.scope c.args.stage j is join still) c.self.invariant
+    let fit = c.tally.ensures.tallied m.relays.follows.items c.self.invariant.2.marked c.self.invariant.3 in
+    four (tied m.teller m.relays c.push_reserved.new.self.items c.tally.new.followed m.deadlines.items m.own j c.push_reserved.ensures.items c.tally.ensures.marks join
+    (not_behind stages n c.args.scope c.args.stage j is join still) (three c.self.invariant))
+    (fit_rows m.teller (m.relays.follows.items ++ j ∷ []) c.push_reserved.new.self.items c.tally.new.followed c.tally.new.tallies c.push_reserved.ensures.items fit)
 
 pub returns : goal.returns
 returns c =
