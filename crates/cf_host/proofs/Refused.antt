@@ -1,9 +1,11 @@
 -- Why a user's call is refused.
 use Rattle.std.proofs.Common.{◌≡◌, ℕ, ◌∙◌, ap, get_or, subst}
 use Rattle.cf_host.specs.declared.request.Request.{Request}
+use Rattle.cf_host.specs.Asking.{IsFull, IsShort}
+use Rattle.cf_host.specs.Asking.IsShort.{of_users}
 use Rattle.cf_host.specs.Hosts.{Host}
 use Rattle.cf_host.specs.Requests.{HasPlace, IsAt, IsOpenAt, LacksStage}
-use Rattle.cf_host.proofs.Placed.{same_at}
+use Rattle.cf_host.proofs.Placed.{ready, same_at}
 
 -- what an index gives has no place for a stage
 pub lacks_stage : (request stage place : ℕ) (old view : Host) (x : Request) → view ≡ old → IsAt request place old.requests → IsOpenAt place old.requests →
@@ -16,3 +18,10 @@ lacks_stage request stage place old view x is at opened value lacks =
       opened = opened;
       lacks = subst (λ (r : Request). ¬ HasPlace r.work stage) (same_at request place old.requests x at there) lacks;
     }
+
+-- what an index gives has no memory for a further user
+pub full_in : (request place : ℕ) (old mid view : Host) (x : Request) → mid ≡ ready old → view ≡ mid → IsAt request place old.requests → x ≡ get_or view.requests place x →
+    IsFull x.work → IsShort request old.tickets old.requests
+full_in request place old mid view x from_old from_mid at value full =
+    let there : x ≡ get_or old.requests place x = value ∙ ap (λ (h : Host). get_or h.requests place x) (from_mid ∙ from_old) in
+    of_users place at (subst (λ (r : Request). IsFull r.work) (same_at request place old.requests x at there) full)

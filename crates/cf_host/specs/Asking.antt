@@ -1,11 +1,12 @@
 -- What users call.
-use Rattle.std.specs.Prelude.{◌≡◌, ℕ, ◌-◌, ◌<◌, Option, List, [], ◌∷◌, ◌++◌, length, slice_set}
+use Rattle.std.specs.Prelude.{◌≡◌, ℕ, ◌-◌, ◌<◌, Option, None, Some, List, [], ◌∷◌, ◌++◌, length, slice_set}
 use Rattle.cf_due.specs.Acts.{IsFitting}
 use Rattle.cf_due.specs.declared.acts.Act.{Act}
 use Rattle.cf_notes.specs.declared.wants.EndsWith.{EndsWith}
 use Rattle.cf_part.specs.Answers.{Ends, IsRunning}
 use Rattle.cf_turn.specs.Works.{Work, wish_of}
-use Rattle.cf_host.specs.Requests.{IsOpenIn, LacksStage}
+use Rattle.cf_host.specs.Requests.{IsAt, IsOpenIn, LacksStage}
+use Rattle.cf_host.specs.Tickets.{IsReady, Tickets}
 use Rattle.cf_host.specs.declared.order.NoCall.{NoCall}
 use Rattle.cf_host.specs.declared.order.NoCall.TheVariants.{NotOpen, Unfit, NoMemory}
 use Rattle.cf_host.specs.declared.request.Request.{Request}
@@ -30,6 +31,16 @@ pub record CallEnding (stage : ℕ) (answer : EndsWith) (old new : Work) : Type 
   pub rest : new ≡ record old { part = new.part }
 
 -- ---- why a call is refused
+
+-- memory was found for no further user of it
+abbrev pub IsFull : Option Work → Type 0
+IsFull None = ⊥
+IsFull (Some w) = w.free ≡ 0
+
+-- memory was found for no further ticket, or for no further user of this request
+pub data IsShort (request : ℕ) (tickets : Tickets) (requests : List Request) : Type 0 where
+  of_tickets : ¬ IsReady tickets → IsShort request tickets requests
+  of_users : (place : ℕ) (at : IsAt request place requests) → IsFull at.request.work → IsShort request tickets requests
 
 -- an act: whether it fits is seen first
 abbrev pub IsNoAsking : Act → ℕ → List Request → NoCall → Type 0

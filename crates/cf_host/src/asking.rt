@@ -3,7 +3,7 @@ ghost use Rattle.std.specs.Prelude.{◌≡◌, ◌≢◌, ◌<◌, None, OnErr, 
 ghost use Rattle.std.specs.Bool.{OnFalse, OnTrue};
 ghost use Rattle.cf_due.specs.Acts.{IsFitting};
 ghost use Rattle.cf_host.specs.Requests.{HasPlace, IsCalledIn, OnWork};
-ghost use Rattle.cf_host.specs.Asking.{Asking, CallEnding, Ending, Wanting};
+ghost use Rattle.cf_host.specs.Asking.{Asking, CallEnding, Ending, IsFull, Wanting};
 
 use crate::request::Request;
 use cf_due::Act;
@@ -17,6 +17,7 @@ impl Request {
         requires opened { self.old.work ≢ None }
         requires fits { IsFitting act }
         ensures ok { OnOk result (OnWork (Asking number act until) self.old self.new) }
+        ensures short { OnErr result (IsFull self.old.work) }
         ensures err { OnErr result (self.new ≡ self.old) }
     {
         match &mut self.work {
@@ -29,6 +30,7 @@ impl Request {
     pub(crate) fn ends(&mut self, number: u64, until: u64) -> Result<(), AllocError>
         requires { self.old.work ≢ None }
         ensures ok { OnOk result (OnWork (Ending number until) self.old self.new) }
+        ensures short { OnErr result (IsFull self.old.work) }
         ensures err { OnErr result (self.new ≡ self.old) }
     {
         match &mut self.work {

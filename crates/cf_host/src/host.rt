@@ -1,7 +1,7 @@
 //! A process at work on the requests of a store.
 ghost use Rattle.std.specs.Prelude.{◌≡◌, ◌<◌, IfErr, IfNone, IfOk, IfSome, None, OnErr, OnOk, Some, length, max, min, true};
 ghost use Rattle.cf_due.specs.Acts.{IsFitting};
-ghost use Rattle.cf_host.specs.Asking.{Asking, Ending, IsNoAsking, IsNoEnding, IsNoWanting, Wanting};
+ghost use Rattle.cf_host.specs.Asking.{Asking, Ending, IsNoAsking, IsNoEnding, IsNoWanting, IsShort, Wanting};
 ghost use Rattle.cf_host.specs.Hosts.{FollowsIn, IsShownPart, Keeps, OnRequest, OnRequestFor, new_host};
 ghost use Rattle.cf_host.specs.Pulses.{later_by};
 ghost use Rattle.cf_host.specs.declared.order.NoCall.TheVariants.{NoMemory, NotOpen};
@@ -108,6 +108,8 @@ impl Host {
             OnRequestFor (λ n. Asking n act (later_by 60000 now)) request now number self.old self.new) }
         ensures err { OnErr result (Keeps self.old self.new) }
         ensures why { IfErr result (λ why. IsNoAsking act request self.old.requests why) }
+        ensures short { IfErr result (λ why.
+            why ≡ NoMemory → IsShort request self.old.tickets self.old.requests) }
     {
         if !act.fits() {
             return Err(NoCall::Unfit);
@@ -130,6 +132,8 @@ impl Host {
             OnRequestFor (λ n. Ending n (later_by 60000 now)) request now number self.old self.new) }
         ensures err { OnErr result (Keeps self.old self.new) }
         ensures why { IfErr result (λ why. IsNoEnding request self.old.requests why) }
+        ensures short { IfErr result (λ why.
+            why ≡ NoMemory → IsShort request self.old.tickets self.old.requests) }
     {
         let place = self.opened_at(request)?;
         self.reserve()?;

@@ -3,6 +3,7 @@ use Rattle.cf_host.specs.Asking.{Asking}
 use Rattle.cf_host.specs.Pulses.{later_by}
 use Rattle.cf_host.specs.Requests.{OnWork}
 use Rattle.cf_host.proofs.Placed.{on_request_for}
+use Rattle.cf_host.proofs.Refused.{full_in}
 use Rattle.cf_host.proofs.host.Host.act.Goals as goal
 
 pub returns-clause-ok : goal.returns-clause-ok
@@ -11,3 +12,8 @@ returns-clause-ok c =
     let calls = subst (λ (t : ℕ). OnWork (Asking number c.args.act t) c.index_mut.result.now c.asks.new.self) c.saturating_add-until.ensures c.in-Ok.ensures.ok in
     on_request_for (λ n. Asking n c.args.act (later_by 60000 c.args.now)) c.args.request c.args.now number c.in_ok-place.place c.args.self.now c.reserve.new.self _ _ c.index_mut.result.now c.asks.new.self
     c.open-ticket.result c.in_ok-reserve.ensures.ok c.self.view_is c.in_ok-place.ensures.at c.index_mut.ensures.value c.next-number.ensures calls c.open-ticket.ensures.opens c.open-ticket.ensures.of c.open-ticket.ensures.asked refl
+
+pub returns-in-Err-clause-short : goal.returns-in-Err-clause-short
+returns-in-Err-clause-short c =
+    λ e. full_in c.args.request c.in_ok-place.place c.args.self.now c.reserve.new.self _ c.index_mut.result.now c.in_ok-reserve.ensures.ok c.self.view_is c.in_ok-place.ensures.at
+    c.index_mut.ensures.value c.in-Err.ensures.short
