@@ -2,6 +2,7 @@
 ghost use Rattle.std.specs.Prelude.{◌≡◌, ◌≢◌, ◌<◌, None, OnErr, OnOk, Some};
 ghost use Rattle.std.specs.Bool.{OnFalse, OnTrue};
 ghost use Rattle.cf_due.specs.Acts.{IsFitting};
+ghost use Rattle.cf_part.specs.Parts.{later};
 ghost use Rattle.cf_host.specs.Requests.{HasPlace, IsCalledIn, OnWork};
 ghost use Rattle.cf_host.specs.Asking.{Asking, CallEnding, Ending, IsFull, Wanting};
 
@@ -56,6 +57,16 @@ impl Request {
     {
         if let Some(work) = &mut self.work {
             work.lets_go(stage);
+        }
+    }
+
+    /// The payload of a stage that was to be shown couldn't be read.
+    pub(crate) fn unread(&mut self, now: u64, stage: u16)
+        requires { HasPlace self.old.work stage }
+        ensures { OnWork (Wanting stage (Some (later now))) self.old self.new }
+    {
+        if let Some(work) = &mut self.work {
+            work.unread(now, stage);
         }
     }
 

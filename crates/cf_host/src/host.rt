@@ -1,6 +1,7 @@
 //! A process at work on the requests of a store.
 ghost use Rattle.std.specs.Prelude.{◌≡◌, ◌<◌, IfErr, IfNone, IfOk, IfSome, None, OnErr, OnOk, Some, length, max, min, true};
 ghost use Rattle.cf_due.specs.Acts.{IsFitting};
+ghost use Rattle.cf_part.specs.Parts.{later};
 ghost use Rattle.cf_host.specs.Asking.{Asking, Ending, IsNoAsking, IsNoEnding, IsNoWanting, IsShort, Wanting};
 ghost use Rattle.cf_host.specs.Hosts.{FollowsIn, IsShownPart, Keeps, OnRequest, OnRequestFor, new_host};
 ghost use Rattle.cf_host.specs.Pulses.{later_by};
@@ -172,6 +173,21 @@ impl Host {
             return Err(NoCall::Unfit);
         }
         self.requests[place].lets_go(stage);
+        Ok(())
+    }
+
+    /// The payload of a stage that was to be shown couldn't be read: the stage is shown again, but not at once.
+    pub fn unread(&mut self, now: u64, request: u64, stage: u16) -> Result<(), NoCall>
+        ensures ok { OnOk result
+            (OnRequest (Wanting stage (Some (later now))) request self.old self.new) }
+        ensures err { OnErr result (self.new ≡ self.old) }
+        ensures why { IfErr result (λ why. IsNoWanting stage request self.old.requests why) }
+    {
+        let place = self.opened_at(request)?;
+        if !self.requests[place].has_place(stage) {
+            return Err(NoCall::Unfit);
+        }
+        self.requests[place].unread(now, stage);
         Ok(())
     }
 

@@ -27,6 +27,7 @@ enum Move {
     Ends(u64),
     Unfit(u64, NoAnswer),
     Wants(u64),
+    Unread(u64, u64),
     Limits(u64, u64),
     NotOpen(u64),
     Stirs(u64),
@@ -97,8 +98,9 @@ const CLOSE: Order = Order::Row {
     question: Question::Close { at: 2 },
 };
 
-/// A request of which a look tells is opened, read, claimed, called, finished and closed.
-const WORKS: [Move; 25] = [
+/// A request of which a look tells is opened, read, claimed, called, finished and closed. Its value is shown again, since
+/// it couldn't be read.
+const WORKS: [Move; 28] = [
     NotOpen(9),
     Tells(0, BEATS),
     Tells(0, NEWS),
@@ -121,8 +123,11 @@ const WORKS: [Move; 25] = [
     Tells(0, FINISH),
     Stands(7),
     Tells(0, SHOW),
+    Unread(0, 9),
     Tells(0, CLOSE),
     Closes(8),
+    Tells(19, Order::Sleep { until: 200 }),
+    Tells(20, SHOW),
     Tells(0, Order::Sleep { until: 200 }),
 ];
 
@@ -304,6 +309,7 @@ fn limits(host: &mut Host, now: u64, ticket: u64) -> bool {
 fn is_asked(host: &mut Host, call: Move) -> bool {
     match call {
         Wants(request) => host.wants(request, 0).is_ok(),
+        Unread(now, request) => host.unread(now, request, 0).is_ok(),
         NotOpen(request) => host.wants(request, 0) == Err(NoCall::NotOpen),
         Limits(now, ticket) => limits(host, now, ticket),
         Stirs(now) => {
