@@ -51,13 +51,15 @@ def proved(header):
 
 
 def tests(parameters):
-    """What is true where a pointer is null that may not be."""
-    said = []
+    """What is true where a pointer is null that may not be. Those with counts come last: then no other is tested in two places."""
+    alone, counted = [], []
     for at, (_, _, is_pointer, name) in enumerate(parameters):
         follows = parameters[at + 1] if at + 1 < len(parameters) else None
-        if is_pointer:
-            said.append(f"(__builtin_expect(!{name}, 0) && {follows[3]})" if follows and follows[1:] in COUNTS else f"!{name}")
-    return " || ".join(said)
+        if is_pointer and follows and follows[1:] in COUNTS:
+            counted.append(f"(__builtin_expect(!{name}, 0) && {follows[3]})")
+        elif is_pointer:
+            alone.append(f"!{name}")
+    return " || ".join(alone + counted)
 
 
 def guard(gives, name, parameters):
