@@ -10,6 +10,7 @@ ghost use Rattle.cf_c_handles.specs.Requests.{RequestOf};
 
 use crate::handle::{ask, code_of, tell};
 use cf_c_handles::code::Code;
+use cf_c_handles::handle::raw_box::{BoxParts, RawBox};
 use cf_c_handles::handle::{CfHandle, fill};
 use cf_c_handles::plan::kind_of;
 use cf_c_handles::request::{asking, composing, doing, gathering, joining, request_of, row};
@@ -22,6 +23,7 @@ use cf_c_handles::values::task::CfTask;
 use cf_c_handles::values::{CfReply, CfValue};
 use cf_request::Deadline;
 use std::alloc::Global;
+use std::mem;
 
 /// Opens a request of the plan behind one handle, and puts it behind another, which is empty.
 #[unsafe(no_mangle)]
@@ -108,8 +110,9 @@ pub extern "C" fn cf_request_link(
 }
 
 /// Finishes what a task holds with the answer in it. Then claims the next ready stage of the lane, gives it to the task, and tells the
-/// stages that are settled. Where there is nothing to do it is done in line.
+/// stages that are settled. Where there is nothing to do it is done here, with few registers.
 #[unsafe(no_mangle)]
+#[inline(never)]
 pub extern "C" fn cf_request_next(
     alloc: Global,
     h: &mut CfHandle,
@@ -122,15 +125,15 @@ pub extern "C" fn cf_request_next(
     ensures { HandleWrites (GoesOnIn who lane) h.old h.new result (task.old, told.old, todo.old)
         (task.new, told.new, todo.new) }
 {
-    if task.held == 0 {
-        if let Some(held) = h.take(alloc) {
-            if doing::rests(&held, who, lane, task) {
-                let done = doing::rest(&held, who, lane, task, told, todo);
-                h.put(held);
-                return code_of(done);
-            }
-            h.put(held);
+    if task.held == 0 && h.is_full() {
+        let inner = mem::replace(&mut h.inner, RawBox::empty(alloc));
+        let held = inner.into_parts().into_box();
+        if doing::rests(&held, who, lane, task) {
+            let done = doing::rest(&held, who, lane, task, told, todo);
+            h.inner = RawBox::of_parts(BoxParts::of(held));
+            return code_of(done);
         }
+        h.inner = RawBox::of_parts(BoxParts::of(held));
     }
     next_apart(alloc, h, who, lane, task, told, todo)
 }

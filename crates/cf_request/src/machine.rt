@@ -1,5 +1,5 @@
 //! The machine.
-ghost use Rattle.std.specs.Prelude.{◌≡◌, ◌≢◌, ◌⊎◌, ℕ, ◌+◌, ◌-◌, ◌^◌, ◌<◌, ◌≤◌, ◌++◌, ◌∷◌, [], All, IfErr, IfNone, IfOk, IfSome, None, OnErr, OnOk, Some, drop, false, length, replicate, take, true};
+ghost use Rattle.std.specs.Prelude.{◌≡◌, ◌↔◌, ◌≢◌, ◌⊎◌, ℕ, ◌+◌, ◌-◌, ◌^◌, ◌<◌, ◌≤◌, ◌++◌, ◌∷◌, [], All, IfErr, IfNone, IfOk, IfSome, IsTrue, None, OnErr, OnOk, Some, drop, false, length, replicate, take, true};
 ghost use Rattle.cf_event.specs.Decoding.{event_of};
 ghost use Rattle.cf_event.specs.Words.{word_of};
 ghost use Rattle.cf_forms.specs.Plans.{has_place, with_room};
@@ -413,6 +413,14 @@ impl Machine {
         ensures few { IsLaneCount result }
     {
         self.teller.lanes()
+    }
+
+    /// Whether there is such a lane.
+    #[inline(always)]
+    pub fn has_lane(&self, lane: u8) -> bool
+        ensures { IsTrue result ↔ lane < self.now.teller.lanes.count }
+    {
+        self.teller.has_lane(lane)
     }
 
     /// How many stages of a lane are ready. It looks at no stage.

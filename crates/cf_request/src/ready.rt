@@ -1,5 +1,5 @@
 //! The ready stages of each lane.
-ghost use Rattle.std.specs.Prelude.{◌≡◌, ◌+◌, ◌<◌, ◌≤◌, [], All, IfOk, cond, false, length, position, replicate, slice_index_or, slice_set, take, vec_capacity};
+ghost use Rattle.std.specs.Prelude.{◌≡◌, ◌↔◌, ◌+◌, ◌<◌, ◌≤◌, [], All, IfOk, IsTrue, cond, false, length, position, replicate, slice_index_or, slice_set, take, vec_capacity};
 ghost use Rattle.cf_request.specs.Ready.{AreSets, IsLane, IsLaneCount, and_lane, count_of, lane_of, none_ready};
 
 use cf_bits::BitSet;
@@ -150,6 +150,14 @@ impl ReadySets {
         ensures sets { AreSets self.now }
     {
         self.sets.len() as u8
+    }
+
+    /// Whether there is such a lane.
+    #[inline(always)]
+    pub(crate) fn has(&self, lane: u8) -> bool
+        ensures { IsTrue result ↔ lane < length self.now.sets }
+    {
+        (lane as usize) < self.sets.len()
     }
 
     /// Writes whether a stage is ready.

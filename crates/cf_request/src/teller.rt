@@ -1,5 +1,5 @@
 //! A ledger that keeps which stages were settled and not yet taken.
-ghost use Rattle.std.specs.Prelude.{◌≡◌, ℕ, ◌+◌, ◌≤◌, ◌<◌, ◌∷◌, ◌++◌, [], All, Contains, cond, IfErr, IfNone, IfOk, IfSome, OnErr, OnOk, drop, false, length, take, true, vec_capacity};
+ghost use Rattle.std.specs.Prelude.{◌≡◌, ◌↔◌, ℕ, ◌+◌, ◌≤◌, ◌<◌, ◌∷◌, ◌++◌, [], All, Contains, cond, IfErr, IfNone, IfOk, IfSome, IsTrue, OnErr, OnOk, drop, false, length, take, true, vec_capacity};
 ghost use Rattle.std.specs.List.{filter};
 ghost use Rattle.cf_forms.specs.Plans.{has_place, with_room};
 ghost use Rattle.cf_model.specs.Calls.{is_attach};
@@ -253,6 +253,14 @@ impl Teller {
         ensures all { HasLanes (state_of self.now.ledger) self.now.lanes.of }
     {
         self.lanes.lanes()
+    }
+
+    /// Whether there is such a lane.
+    #[inline(always)]
+    pub fn has_lane(&self, lane: u8) -> bool
+        ensures { IsTrue result ↔ lane < self.now.lanes.count }
+    {
+        self.lanes.has(lane)
     }
 
     /// The lowest ready stage of a lane, if there is one. It looks at no stage.

@@ -142,7 +142,7 @@ fn rests_in(machine: &Machine, who: u8, lane: u8, task: &CfTask) -> bool
     ensures { IsTrue result ↔ Rests who lane machine.now task.now }
 {
     who <= LAST_CALLER
-        && lane < machine.lanes()
+        && machine.has_lane(lane)
         && machine.ready(lane) == 0
         && machine.told().is_empty()
 }
@@ -181,7 +181,13 @@ fn rest_in(
     let next = machine.rest(who, lane);
     todo.told = 0;
     todo.news = 0;
-    give(task, next)
+    let late = late_number(next.finish);
+    task.finished = late;
+    // The task holds nothing already, so this isn't written once more.
+    match next.taken {
+        None => Err(Code::Nothing),
+        Some(_) => take(task, next.taken),
+    }
 }
 
 /// From now on a stage ends as another does.
