@@ -1486,6 +1486,11 @@ uint32_t cf_host_end(cf_handle *host, uint64_t now, uint64_t request, uint64_t *
 uint32_t cf_host_wants(cf_handle *host, uint64_t request, uint16_t stage);
 uint32_t cf_host_lets_go(cf_handle *host, uint64_t request, uint16_t stage);
 
+/* The payload of a stage that a CF_ORDER_SHOW told couldn't be read: the stage is told again a while later.
+ *
+ * Codes: CF_NOT_OPEN, and CF_NO_STAGE if there can't be such a stage. */
+uint32_t cf_host_unread(cf_handle *host, uint64_t now, uint64_t request, uint16_t stage);
+
 /* The store says that something is new: what is new is asked for next. */
 uint32_t cf_host_stirred(cf_handle *host, uint64_t now);
 

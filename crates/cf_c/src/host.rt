@@ -1,5 +1,6 @@
 //! All requests of a store that a process works on.
 ghost use Rattle.std.specs.Prelude.{None, Some};
+ghost use Rattle.cf_part.specs.Parts.{later};
 ghost use Rattle.cf_c_handles.specs.Handles.{HandleDoes, HandleTells, HandleWrites};
 ghost use Rattle.cf_c_handles.specs.HostAnswers.{OpensBehind, TakesBeats, TakesEnd, TakesNews, TakesPlain, TakesRows, plain_numbered};
 ghost use Rattle.cf_c_handles.specs.HostValues.{act_of, ends_of};
@@ -74,6 +75,20 @@ pub extern "C" fn cf_host_lets_go(alloc: Global, h: &mut CfHandle, request: u64,
     ensures { HandleDoes (OfHost (Wants None request stage)) h.old h.new result }
 {
     ask!(alloc, h, held => calling::let_go(&mut held, request, stage))
+}
+
+/// The payload of a stage that was shown couldn't be read.
+#[unsafe(no_mangle)]
+pub extern "C" fn cf_host_unread(
+    alloc: Global,
+    h: &mut CfHandle,
+    now: u64,
+    request: u64,
+    stage: u16,
+) -> u32
+    ensures { HandleDoes (OfHost (Wants (Some (later now)) request stage)) h.old h.new result }
+{
+    ask!(alloc, h, held => calling::unread(&mut held, now, request, stage))
 }
 
 /// The store says that something is new.

@@ -6,6 +6,7 @@ use Rattle.cf_due.specs.declared.acts.Act.{Act}
 use Rattle.cf_host.specs.Asking.{Asking, Ending, IsNoAsking, IsNoEnding, IsNoWanting, Wanting}
 use Rattle.cf_host.specs.Hosts.{FollowsIn, Host as Host', Keeps, OnRequest, OnRequestFor, Orders, new_host}
 use Rattle.cf_host.specs.Pulses.{later_by}
+use Rattle.cf_host.specs.Tickets.{IsReady}
 use Rattle.cf_host.specs.declared.order.NoAnswer.{NoAnswer}
 use Rattle.cf_host.specs.declared.order.NoAnswer.TheVariants as answers
 use Rattle.cf_host.specs.declared.order.NoCall.{NoCall}
@@ -117,4 +118,4 @@ pub record HasOrder (now : ℕ) (h : Host') (told : CfHostOrder) (new : Host') :
 
 abbrev pub TurnsTo : ℕ → Host' → Result CfHostOrder Code → Host' → Type 0
 TurnsTo now h (Ok told) new = HasOrder now h told new
-TurnsTo now h (Err code) new = (code ≡ NoMemory) × (new ≡ h)
+TurnsTo now h (Err code) new = (code ≡ NoMemory) × (¬ IsReady h.tickets) × (new ≡ h)

@@ -1,5 +1,6 @@
 //! What users and the store's notices call of a host, and what it has to do next.
 ghost use Rattle.std.specs.Prelude.{None, Some};
+ghost use Rattle.cf_part.specs.Parts.{later};
 ghost use Rattle.cf_c_handles.specs.HostValues.{act_of};
 ghost use Rattle.cf_c_handles.specs.Hosts.{Acts, EndsRequest, Follows, IsStirred, OfHost, Stops, TurnsTo, Wants};
 
@@ -100,6 +101,22 @@ fn let_go_in(host: &mut Host, request: u64, stage: u16) -> Result<(), Code>
     ensures { Wants None request stage host.old result host.new }
 {
     match host.lets_go(request, stage) {
+        Ok(()) => Ok(()),
+        Err(why) => Err(call_code(why)),
+    }
+}
+
+/// The payload of a stage that was shown couldn't be read: the stage is shown again later.
+pub fn unread(held: &mut Object, now: u64, request: u64, stage: u16) -> Result<(), Code>
+    ensures { OfHost (Wants (Some (later now)) request stage) held.old result held.new }
+{
+    of_host!(held, host => unread_in(host, now, request, stage))
+}
+
+fn unread_in(host: &mut Host, now: u64, request: u64, stage: u16) -> Result<(), Code>
+    ensures { Wants (Some (later now)) request stage host.old result host.new }
+{
+    match host.unread(now, request, stage) {
         Ok(()) => Ok(()),
         Err(why) => Err(call_code(why)),
     }
