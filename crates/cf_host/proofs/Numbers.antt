@@ -23,7 +23,8 @@ pub data Goes (old new : Tickets) : Type 0 where
 kept_by : (old new rest : Host) → new ≡ rest → rest.tickets ≡ old.tickets → Goes old.tickets new.tickets
 kept_by old new rest is same =
     let tickets = ap (λ (h : Host). h.tickets) is ∙ same in
-    keeps (record { last = ap (λ (w : Tickets). w.last) tickets; waiting = ap (λ (w : Tickets). w.waiting) tickets })
+    let free = ap (λ (w : Tickets). w.free) tickets in
+    keeps (record { last = ap (λ (w : Tickets). w.last) tickets; waiting = ap (λ (w : Tickets). w.waiting) tickets; free = omega (arith, free) })
 
 turn_goes : (now request : ℕ) (t : Turn) (order : Order) (old new : Tickets) → OrdersTurn now request t order old new → Goes old new
 turn_goes now request (TellTurn number told) order old new o = drops number o.1
