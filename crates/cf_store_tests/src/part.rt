@@ -325,7 +325,7 @@ fn tell(part: &mut Part, call: Move) -> bool {
         Hears(words) => part.told_length(words),
         Waits(now) => part.unknown(now),
         Breaks => part.breaks(Fault::Dropped),
-        Unreads(now) => part.unread(now, 0),
+        Unreads(now) if part.has_place(0) => part.unread(now, 0),
         _ => return false,
     }
     true
@@ -342,7 +342,7 @@ fn is_answered(part: &mut Part, call: Move) -> bool {
         Ends => ends(part),
         Tells(wanted) => part.next(0) == wanted,
         TellsAt(now, wanted) => part.next(now) == wanted,
-        Owes(wanted) => part.owed()[0] == wanted,
+        Owes(wanted) => part.owed().first() == Some(&wanted),
         Faults(wanted) => part.fault() == wanted,
         Calls(stage, wanted) => function_of(part.notes(), stage) == wanted,
         Times(stage, moment, place) => is_timed(part, stage, moment, place),
