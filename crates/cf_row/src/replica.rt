@@ -254,6 +254,7 @@ impl Replica {
     }
 
     /// Replays one entry, for which memory was found. Where the graph doesn't take it, all stays as it was.
+    #[inline(always)]
     pub(crate) fn take(&mut self, entry: Entry) -> Result<Reply, LedgerFault>
         requires memory { 0 < self.old.free }
         ensures done { IfOk result (λ reply. Takes self.old entry reply self.new) }

@@ -97,6 +97,7 @@ impl Row {
 
     /// Finds memory for so many entries more. It fails only where there is no memory, and then changes nothing. While
     /// some is left, nothing is refused for want of memory.
+    #[inline(always)]
     pub fn reserve(&mut self, more: usize) -> Result<(), AllocError>
         ensures found { OnOk result (self.new ≡ record self.old { replica = with_memory self.old.replica more }) }
         ensures refused { OnErr result (self.new ≡ self.old) }
