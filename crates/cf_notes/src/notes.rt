@@ -122,4 +122,12 @@ impl Notes {
         self.room = room;
         Ok(())
     }
+
+    /// Takes back so many of the places for stages to come.
+    pub fn shrink(&mut self, less: u16)
+        requires { less ≤ self.old.room }
+        ensures { self.new ≡ record self.old { room = self.old.room - less } }
+    {
+        self.room -= less;
+    }
 }

@@ -81,7 +81,7 @@ claim_count (Some i) claims claims2 session is =
 
 -- ---- more room
 
-granted_more : (more : ℕ) (s : State) (row : List Entry) (es : List Event) → AreTaken s es → granted_from (roomier more s) row es ≡ granted_from s row es
+pub granted_more : (more : ℕ) (s : State) (row : List Entry) (es : List Event) → AreTaken s es → granted_from (roomier more s) row es ≡ granted_from s row es
 granted_more more s [] es h = refl
 granted_more more s (x ∷ row) [] h = refl
 granted_more more s (x ∷ row) (e ∷ es) h =

@@ -19,3 +19,4 @@ pub mod Claiming
 pub mod Attaching
 pub mod Finishing
 pub mod Granting
+pub mod Roomier

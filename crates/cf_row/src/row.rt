@@ -190,9 +190,9 @@ impl Row {
         self.replica.replay(entries)
     }
 
-    /// Makes room for so many stages more. It fails only where there is no memory, and then all is as it was.
+    /// Makes room for so many stages more, also while a put is under way. It fails only where there is no memory, and then
+    /// all is as it was.
     pub fn grow(&mut self, alloc: Global, more: u16) -> Result<(), LedgerFault>
-        requires none { self.old.put ≡ [] }
         requires place { has_place self.old.replica.plan.stages (self.old.replica.plan.room + more) ≡ true }
         ensures grown { OnOk result (self.new ≡ record self.old { replica = with_more self.old.replica more }) }
         ensures unchanged { OnErr result (self.new ≡ self.old) }
