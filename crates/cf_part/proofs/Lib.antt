@@ -7,3 +7,4 @@ pub mod Meeting
 pub mod Recorded
 pub mod Rows
 pub mod Works
+pub mod Roomier

@@ -1,5 +1,5 @@
 -- Lists in which no number stands twice, and places in lists.
-use Rattle.std.proofs.Common.{◌≢◌, ℕ, ◌<◌, inl, inr, List, [], ◌∷◌, ◌++◌, All, Contains, get_or, length, refl, sym, subst, arith}
+use Rattle.std.proofs.Common.{◌≡◌, ◌≢◌, ℕ, zero, suc, ◌<◌, inl, inr, List, [], ◌∷◌, ◌++◌, All, Contains, get_or, length, replicate, refl, sym, subst, arith}
 use Rattle.std.proofs.lemmas.Bool.{cases_lt}
 use Rattle.std.proofs.lemmas.List.{get_or_past}
 use Rattle.std.proofs.lemmas.List.Elements.{All-append, All-cons, All-nil, Contains-append_right}
@@ -26,3 +26,21 @@ there_by xs i d ne = elim (cases_lt i (length xs)) [
   | inl lt ↦ lt
   | inr le ↦ absurd (ne (get_or_past xs i d le))
 ]
+
+-- ---- values behind a list
+
+pub get_front : {A : Type 0} (xs ys : List A) (i : ℕ) (d : A) → i < length xs → get_or (xs ++ ys) i d ≡ get_or xs i d
+get_front [] ys i d there = absurd (omega (arith, there))
+get_front (x ∷ xs) ys zero d there = refl
+get_front (x ∷ xs) ys (suc i) d there = get_front xs ys i d (omega (arith, there))
+
+-- the default behind it changes nothing
+default_at : {A : Type 0} (d : A) (more i : ℕ) → get_or (replicate more d) i d ≡ d
+default_at d zero i = refl
+default_at d (suc more) zero = refl
+default_at d (suc more) (suc i) = default_at d more i
+
+pub get_more : {A : Type 0} (xs : List A) (d : A) (more i : ℕ) → get_or (xs ++ replicate more d) i d ≡ get_or xs i d
+get_more [] d more i = default_at d more i
+get_more (x ∷ xs) d more zero = refl
+get_more (x ∷ xs) d more (suc i) = get_more xs d more i

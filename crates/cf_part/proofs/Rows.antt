@@ -1,8 +1,9 @@
 -- Rows of a part's calls.
-use Rattle.std.proofs.Common.{◌≡◌, ◌≢◌, ℕ, ◌+◌, ◌<◌, ◌≤◌, ◌⊎◌, inl, inr, Option, Some, None, List, [], ◌∷◌, ◌++◌, All, Contains, length, set, take, refl, ap, sym, ◌∙◌, subst, append-nil, append_assoc, arith}
+use Rattle.std.proofs.Common.{◌≡◌, ◌≢◌, ℕ, ◌+◌, ◌<◌, ◌≤◌, ◌⊎◌, inl, inr, Option, Some, None, List, [], ◌∷◌, ◌++◌, All, Contains, length, replicate, set, take, refl, ap, sym, ◌∙◌, subst, append-nil, append_assoc, arith}
 use Rattle.std.proofs.lemmas.Bool.{cases_lt}
 use Rattle.std.proofs.lemmas.List.{get_or-set_other, get_or-set_same}
 use Rattle.std.proofs.lemmas.List.Elements.{All-append, All-cons, All-contains, All-nil, All-weaker, Contains-append_left, Contains-append_right}
+use Rattle.cf_forms.specs.Plans.{Planned, with_room}
 use Rattle.cf_ledger.specs.declared.faults.LedgerFault.{LedgerFault}
 use Rattle.cf_ledger.specs.declared.faults.LedgerFault.TheVariants.{NoMemory, NoEvent, NoStage, NoRoom}
 use Rattle.cf_row.specs.declared.entry.Entry.{Entry}
@@ -10,6 +11,7 @@ use Rattle.cf_row.specs.declared.grants.Claim.{Claim}
 use Rattle.cf_row.specs.Rows.{BeginsWith, Replays, Replica}
 use Rattle.cf_row.specs.Puts.{Plans, Row}
 use Rattle.cf_row.specs.Grants.{IsGrantedTo, granted_in}
+use Rattle.cf_row.proofs.Roomier.{granted_roomier}
 use Rattle.cf_notes.specs.declared.note.Note.{Note}
 use Rattle.cf_notes.specs.declared.wants.EndsWith.{EndsWith}
 use Rattle.cf_notes.specs.declared.wants.Owed.{Owed}
@@ -19,13 +21,13 @@ use Rattle.cf_part.specs.declared.question.PutOf.{PutOf}
 use Rattle.cf_part.specs.declared.question.PutOf.TheVariants.{Act, Finish, Rest}
 use Rattle.cf_part.specs.declared.step.Step.{Step}
 use Rattle.cf_part.specs.declared.step.Step.TheVariants.{Show, Stop, Call}
-use Rattle.cf_part.specs.Parts.{Part, call_in, owed_in, session_of}
+use Rattle.cf_part.specs.Parts.{Part, call_in, no_value, owed_in, session_of}
 use Rattle.cf_part.specs.Steps.{Tells}
-use Rattle.cf_part.specs.Answers.{BreaksOff, Ends, IsRunning, MismeetsBy, owed_after, owed_refused}
+use Rattle.cf_part.specs.Answers.{BreaksOff, Ends, Grows as GetsRoom, IsRunning, MismeetsBy, owed_after, owed_refused}
 use Rattle.cf_part.specs.Rows.{AreCalls, CallsOnce, IsApart, IsCall, IsFresh, IsOwed, KeepsOwed, Out, StopsOnce, all_calls, all_stops, nothing, out_of}
-use Rattle.cf_part.specs.Rows.IsCall.{tells, plans, asks, reads, misreads, lands, meets, mismeets, waits, refuses, closes, breaks, ends, wants, hears}
+use Rattle.cf_part.specs.Rows.IsCall.{tells, plans, asks, reads, misreads, lands, meets, mismeets, waits, refuses, closes, breaks, ends, wants, hears, grows as gets_room}
 use Rattle.cf_part.proofs.Granted.{granted_stays}
-use Rattle.cf_part.proofs.Lists.{apart_append, contains_head, there_by}
+use Rattle.cf_part.proofs.Lists.{apart_append, contains_head, get_front, get_more, there_by}
 
 -- ---- how far calls have come
 
@@ -122,40 +124,72 @@ begun_told calls i v there j h = by_place (call_set calls i j v there)
     by_place (inl e) = inr (subst (λ (k : ℕ). Contains (i ∷ []) k) (sym e.0) (contains_head i []))
     by_place (inr e) = inl (let now : rank (call_in (set calls i v) j) ≡ rank (call_in calls j) = ap rank e in omega (arith, h, now))
 
+-- where each call is as it was
+moves_like : (t : ℕ) (old new : List Progress) → ((i : ℕ) → call_in new i ≡ call_in old i) → Moves t old new []
+moves_like t old new same = record {
+  onward = λ i h. subst (λ (p : Progress). t ≤ rank p) (sym (same i)) h;
+  before = All-nil (λ i. rank (call_in old i) < t);
+  behind = All-nil (λ i. t ≤ rank (call_in new i));
+  apart = tt;
+}
+
+begun_like : (old new : List Progress) → ((i : ℕ) → call_in new i ≡ call_in old i) → Begun old new []
+begun_like old new same i h = inl (subst (λ (p : Progress). 1 ≤ rank p) (same i) h)
+
 -- a stage whose call has begun has a place
 called_there : (calls : List Progress) (i : ℕ) (u : Progress) → call_in calls i ≡ u → 0 < rank u → i < length calls
 called_there calls i u is some = there_by calls i NotCalled (λ none. let low = ap rank (sym is ∙ none) in omega (arith, low, some))
 
 -- ---- what a call does
 
--- the session stays, and what it has seen stands at the front of what it sees
+-- the session stays, and the plan but for its room; what it has seen stands at the front of what it sees; and what was granted is so still
 pub record Grows (old new : Replica) : Type 0 where
-  pub plan : new.plan ≡ old.plan
+  pub plan : new.plan ≡ with_room old.plan new.plan.room
   pub session : new.session ≡ old.session
   pub begins : BeginsWith new.seen old.seen
+  pub granted : (c : Claim) → Contains (granted_in old.plan old.seen) c → Contains (granted_in new.plan new.seen) c
 
 grows_same : (r : Replica) → Grows r r
-grows_same r = record { plan = refl; session = refl; begins = record { rest = []; is = sym (append-nil r.seen) } }
+grows_same r = record { plan = refl; session = refl; begins = record { rest = []; is = sym (append-nil r.seen) }; granted = λ c h. h }
 
 grows_is : (old new : Replica) → new ≡ old → Grows old new
 grows_is old new same = subst (Grows old) (sym same) (grows_same old)
 
 pub grows_then : (a b c : Replica) → Grows a b → Grows b c → Grows a c
 grows_then a b c h k = record {
-  plan = k.plan ∙ h.plan;
+  plan = k.plan ∙ ap (λ (p : Planned). with_room p c.plan.room) h.plan;
   session = k.session ∙ h.session;
+  granted = λ d e. k.granted d (h.granted d e);
   begins = record { rest = h.begins.rest ++ k.begins.rest; is = k.begins.is ∙ ap (λ (l : List Entry). l ++ k.begins.rest) h.begins.is ∙ append_assoc a.seen h.begins.rest k.begins.rest };
 }
 
+-- where the plan stays, too
+grows_in : (old new : Replica) → new.plan ≡ old.plan → new.session ≡ old.session → BeginsWith new.seen old.seen → Grows old new
+grows_in old new plan session front = record {
+  plan = plan ∙ ap (λ (n : ℕ). with_room old.plan n) (sym (ap (λ (p : Planned). p.room) plan));
+  session = session;
+  begins = front;
+  granted = λ c h. granted_stays new.plan new.seen old.seen c front (subst (λ (p : Planned). Contains (granted_in p old.seen) c) (sym plan) h);
+}
+
 grows_by : (old new : Replica) (entries : List Entry) → Replays old entries new → Grows old new
-grows_by old new entries h = record { plan = h.plan; session = h.session; begins = record { rest = entries; is = h.seen } }
+grows_by old new entries h = grows_in old new h.plan h.session (record { rest = entries; is = h.seen })
 
 grows_planned : (old new : Row) (words : List ℕ) → Plans old words new → Grows old.replica new.replica
-grows_planned old new words h = record {
-  plan = ap (λ (r : Replica). r.plan) h.replica;
-  session = ap (λ (r : Replica). r.session) h.replica;
-  begins = record { rest = []; is = ap (λ (r : Replica). r.seen) h.replica ∙ sym (append-nil old.replica.seen) };
-}
+grows_planned old new words h =
+    grows_in old.replica new.replica (ap (λ (r : Replica). r.plan) h.replica) (ap (λ (r : Replica). r.session) h.replica)
+    (record { rest = []; is = ap (λ (r : Replica). r.seen) h.replica ∙ sym (append-nil old.replica.seen) })
+
+-- where there is more room
+grows_roomier : (old new : Part) (more : ℕ) → GetsRoom old more new → Grows old.row.replica new.row.replica
+grows_roomier old new more h =
+    let r = old.row.replica in
+    subst (Grows r) (sym (ap (λ (p : Part). p.row.replica) h.rest)) (record {
+      plan = refl;
+      session = refl;
+      begins = record { rest = []; is = sym (append-nil r.seen) };
+      granted = λ c e. granted_roomier r more c h.taken e;
+    })
 
 -- of each call: what it sees, how calls go on, and what it tells
 pub record Effect (old : Part) (out : Out) (new : Part) : Type 0 where
@@ -167,8 +201,8 @@ pub record Effect (old : Part) (out : Out) (new : Part) : Type 0 where
   pub stopped : All (λ i. 1 ≤ rank (call_in old.calls i)) out.stops
 
 effect_quiet : (old : Part) (out : Out) (new : Part) → out ≡ nothing → Grows old.row.replica new.row.replica → new.calls ≡ old.calls → Effect old out new
-effect_quiet old out new none grows same = subst (λ (o : Out). Effect old o new) (sym none) (record {
-  grows = grows;
+effect_quiet old out new none seen same = subst (λ (o : Out). Effect old o new) (sym none) (record {
+  grows = seen;
   calls = moves_is 1 old.calls new.calls same;
   stops = moves_is 2 old.calls new.calls same;
   granted = All-nil (IsGrantedTo old.row.replica (session_of old));
@@ -231,6 +265,19 @@ effect_mismeets NoRoom old now entries said place new h = effect_breaks_off old 
 effect_still : (old : Part) (out : Out) (new : Part) → out ≡ nothing → new.row.replica ≡ old.row.replica → new.calls ≡ old.calls → Effect old out new
 effect_still old out new none row calls = effect_quiet old out new none (grows_is old.row.replica new.row.replica row) calls
 
+calls_roomier : (old new : Part) (more : ℕ) → GetsRoom old more new → (i : ℕ) → call_in new.calls i ≡ call_in old.calls i
+calls_roomier old new more h i = ap (λ (p : Part). call_in p.calls i) h.rest ∙ get_more old.calls NotCalled more i
+
+effect_roomier : (old : Part) (out : Out) (new : Part) (more : ℕ) → out ≡ nothing → GetsRoom old more new → Effect old out new
+effect_roomier old out new more none h = subst (λ (o : Out). Effect old o new) (sym none) (record {
+  grows = grows_roomier old new more h;
+  calls = moves_like 1 old.calls new.calls (calls_roomier old new more h);
+  stops = moves_like 2 old.calls new.calls (calls_roomier old new more h);
+  granted = All-nil (IsGrantedTo old.row.replica (session_of old));
+  begun = begun_like old.calls new.calls (calls_roomier old new more h);
+  stopped = All-nil (λ i. 1 ≤ rank (call_in old.calls i));
+})
+
 pub effect : (old : Part) (out : Out) (new : Part) → IsCall old out new → Effect old out new
 effect old out new (tells now step is h) = subst (λ (o : Out). Effect old o new) (sym is) (effect_step old now step new h)
 effect old out new (plans ws of is h) = effect_quiet old out new is (grows_planned old.row new.row _ h.row) (ap (λ (p : Part). p.calls) h.rest)
@@ -247,15 +294,14 @@ effect old out new (breaks fault is h) = effect_still old out new is (ap (λ (p 
 effect old out new (ends i answer is running h) = subst (λ (o : Out). Effect old o new) (sym is) (effect_ends old new i answer running h)
 effect old out new (wants i from is h) = effect_still old out new is (ap (λ (p : Part). p.row.replica) h) (ap (λ (p : Part). p.calls) h)
 effect old out new (hears words is h) = effect_still old out new is (ap (λ (p : Part). p.row.replica) h) (ap (λ (p : Part). p.calls) h)
+effect old out new (gets_room more is h) = effect_roomier old out new more is h
 
 -- ---- rows of calls
 
-granted_later : (old new : Replica) → Grows old new → (i : ℕ) → IsGrantedTo old old.session i → IsGrantedTo new new.session i
+pub granted_later : (old new : Replica) → Grows old new → (i : ℕ) → IsGrantedTo old old.session i → IsGrantedTo new new.session i
 granted_later old new g i h =
-    let c : Claim = record { stage = i; session = new.session } in
-    granted_stays new.plan new.seen old.seen c g.begins
-    (subst (λ (s : ℕ). Contains (granted_in new.plan old.seen) (record { stage = i; session = s })) (sym g.session)
-    (subst (λ p. Contains (granted_in p old.seen) (record { stage = i; session = old.session })) (sym g.plan) h))
+    let c : Claim = record { stage = i; session = old.session } in
+    subst (λ (s : ℕ). Contains (granted_in new.plan new.seen) (record { stage = i; session = s })) (sym g.session) (g.granted c h)
 
 pub record Effects (old : Part) (outs : List Out) (new : Part) : Type 0 where
   pub grows : Grows old.row.replica new.row.replica
@@ -436,6 +482,14 @@ owed_mismeets NoEvent old now entries said place new i answer h o = owed_same ol
 owed_mismeets NoStage old now entries said place new i answer h o = owed_same old new i answer (ap (λ (p : Part). p.calls) h.rest) (ap (λ (p : Part). p.owed) h.rest) o
 owed_mismeets NoRoom old now entries said place new i answer h o = owed_same old new i answer (ap (λ (p : Part). p.calls) h.rest) (ap (λ (p : Part). p.owed) h.rest) o
 
+owed_roomier : (old new : Part) (more i : ℕ) (answer : EndsWith) → GetsRoom old more new → IsOwed old i answer → IsOwed new i answer
+owed_roomier old new more i answer h o = record {
+  ended = calls_roomier old new more h i ∙ o.ended;
+  owed = o.owed;
+  is = ap (λ (p : Part). owed_in p.owed i) h.rest ∙ get_front old.owed (replicate more (Some no_value)) i None (there_by old.owed i None (some_is o.owed (owed_in old.owed i) o.is)) ∙ o.is;
+  answers = o.answers;
+}
+
 owed_call : (old : Part) (out : Out) (new : Part) (i : ℕ) (answer : EndsWith) → IsCall old out new → IsOwed old i answer → IsOwed new i answer
 owed_call old out new i answer (tells now step is h) o = owed_step old now step new i answer h o
 owed_call old out new i answer (plans ws of is h) o = owed_same old new i answer (ap (λ (p : Part). p.calls) h.rest) (ap (λ (p : Part). p.owed) h.rest) o
@@ -452,6 +506,7 @@ owed_call old out new i answer (breaks fault is h) o = owed_same old new i answe
 owed_call old out new i answer (ends j other is running h) o = owed_ends old new i j answer other running h o
 owed_call old out new i answer (wants j from is h) o = owed_same old new i answer (ap (λ (p : Part). p.calls) h) (ap (λ (p : Part). p.owed) h) o
 owed_call old out new i answer (hears words is h) o = owed_same old new i answer (ap (λ (p : Part). p.calls) h) (ap (λ (p : Part). p.owed) h) o
+owed_call old out new i answer (gets_room more is h) o = owed_roomier old new more i answer h o
 
 pub keeps_owed : KeepsOwed
 keeps_owed old new [] i answer o same = subst (λ (p : Part). IsOwed p i answer) (sym same) o

@@ -1,9 +1,11 @@
 -- What a put, a question, an answer and the end of a function do to a part.
 use Rattle.std.specs.Prelude.{◌≡◌, ◌⊎◌, ℕ, Bool, cond, true, false, not, ◌+◌, Option, Some, None, List, [], length, slice_get, slice_set, take}
 use Rattle.cf_model.specs.declared.events.Event.{Event}
+use Rattle.cf_model.specs.States.{start}
 use Rattle.cf_model.specs.Events.{answered}
 use Rattle.cf_event.specs.Words.{word_of}
 use Rattle.cf_event.specs.Decoding.{event_of}
+use Rattle.cf_ledger.specs.Ledgers.{AreTaken}
 use Rattle.cf_ledger.specs.declared.faults.LedgerFault.{LedgerFault}
 use Rattle.cf_ledger.specs.declared.faults.LedgerFault.TheVariants.{NoMemory}
 use Rattle.cf_ledger.specs.declared.faults.Misfit.{Misfit}
@@ -23,7 +25,7 @@ use Rattle.cf_notes.specs.declared.wants.EndsWith.{EndsWith}
 use Rattle.cf_notes.specs.declared.wants.EndsWith.TheVariants.{Gives, NoValue, Throws, Passes, Links}
 use Rattle.cf_notes.specs.declared.wants.Owed.{Owed}
 use Rattle.cf_notes.specs.declared.wants.Want.{Want}
-use Rattle.cf_part.specs.Parts.{Part, call_in, later, notes_wanted, owed_in, words_wanted}
+use Rattle.cf_part.specs.Parts.{Part, call_in, later, notes_wanted, owed_in, roomier, words_wanted}
 
 -- a put of these words is planned, and what is known of it is kept
 pub record PlansWords (old : Part) (wants : List Want) (of : PutOf) (new : Part) : Type 0 where
@@ -161,6 +163,13 @@ Closes old is_closed new = new ≡ record old { asked = None; is_closed = is_clo
 -- nothing goes on any more
 abbrev pub Breaks : Part → Fault → Part → Type 0
 Breaks old fault new = new ≡ record old { row = record old.row { put = [] }; wants = []; asked = None; fault = Some fault }
+
+-- ---- room
+
+-- there is room for so many stages more, and nothing else changes: the graph, which took all that was seen, is the same with more room
+pub record Grows (old : Part) (more : ℕ) (new : Part) : Type 0 where
+  pub taken : AreTaken (start old.row.replica.plan) (history_of old.row.replica.seen)
+  pub rest : new ≡ roomier old more
 
 -- ---- calls of functions
 

@@ -1,10 +1,10 @@
 -- One process's part in one request.
-use Rattle.std.specs.Prelude.{◌≡◌, ℕ, ◌+◌, ◌*◌, ◌<◌, ◌≤◌, ◌||◌, Bool, true, false, cond, min, Option, Some, None, List, [], is_some, length, map, nat_lt, replicate, slice_index_or}
+use Rattle.std.specs.Prelude.{◌≡◌, ℕ, ◌+◌, ◌*◌, ◌<◌, ◌≤◌, ◌||◌, ◌++◌, Bool, true, false, cond, min, Option, Some, None, List, [], is_some, length, map, nat_lt, replicate, slice_index_or}
 use Rattle.std.specs.declared.vec.Vec.{Vec}
 use Rattle.std.specs.Vec.{vec_capacity}
 use Rattle.cf_forms.specs.Plans.{Planned, with_room}
 use Rattle.cf_model.specs.States.{State}
-use Rattle.cf_row.specs.Rows.{Replica, stages_of, state_of, words_in}
+use Rattle.cf_row.specs.Rows.{Replica, stages_of, state_of, with_more, words_in}
 use Rattle.cf_row.specs.Puts.{Row}
 use Rattle.cf_row.specs.declared.entry.Entry.{Entry}
 use Rattle.cf_notes.specs.Noting.{noted_plan}
@@ -137,6 +137,17 @@ opened plan notes room session first is_flow =
       fault = None;
       is_flow = is_flow;
       is_closed = false;
+    }
+
+-- with room for so many stages more: none of their functions was called, and nobody waits for them
+abbrev pub roomier : Part → ℕ → Part
+roomier p more =
+    record p {
+      row = record p.row { replica = with_more p.row.replica more };
+      notes = record p.notes { room = p.notes.room + more };
+      calls = p.calls ++ replicate more NotCalled;
+      owed = p.owed ++ replicate more (Some no_value);
+      wanted = p.wanted ++ replicate more None;
     }
 
 -- ---- questions

@@ -1,9 +1,11 @@
 -- Rows of a part's calls, and what may be concluded from any of them.
 use Rattle.std.specs.Prelude.{◌≡◌, ◌≢◌, ℕ, Bool, max, Option, Some, List, [], ◌∷◌, ◌++◌, All, Contains, slice_set}
-use Rattle.cf_forms.specs.Plans.{Planned}
+use Rattle.cf_forms.specs.Plans.{Planned, with_room}
+use Rattle.cf_model.specs.States.{start}
+use Rattle.cf_ledger.specs.Ledgers.{AreTaken}
 use Rattle.cf_ledger.specs.declared.faults.Misfit.{Misfit}
 use Rattle.cf_row.specs.declared.entry.Entry.{Entry}
-use Rattle.cf_row.specs.Rows.{BeginsWith}
+use Rattle.cf_row.specs.Rows.{BeginsWith, history_of}
 use Rattle.cf_row.specs.Grants.{IsGrantedTo}
 use Rattle.cf_part.specs.declared.progress.Progress.TheVariants.{NotCalled, Ended}
 use Rattle.cf_part.specs.declared.question.Fault.{Fault}
@@ -17,7 +19,7 @@ use Rattle.cf_notes.specs.declared.wants.Owed.{Owed}
 use Rattle.cf_notes.specs.declared.wants.Want.{Want}
 use Rattle.cf_part.specs.Parts.{Part, call_in, owed_in, session_of}
 use Rattle.cf_part.specs.Steps.{Tells}
-use Rattle.cf_part.specs.Answers.{Breaks, Closes, Ends, IsRunning, Lands, Meets, Mismeets, Misreads, PlansWords, Reads, Refuses, Waits}
+use Rattle.cf_part.specs.Answers.{Breaks, Closes, Ends, Grows, IsRunning, Lands, Meets, Mismeets, Misreads, PlansWords, Reads, Refuses, Waits}
 
 -- what a call hands out: the stages whose functions are to be called, and those whose functions may end
 pub record Out : Type 0 where
@@ -49,6 +51,7 @@ pub data IsCall (old : Part) (out : Out) (new : Part) : Type 0 where
   ends : (i : ℕ) (answer : EndsWith) → out ≡ nothing → IsRunning old i → Ends old i answer new → IsCall old out new
   wants : (i : ℕ) (from : Option ℕ) → out ≡ nothing → new ≡ record old { wanted = slice_set old.wanted i from } → IsCall old out new
   hears : (words : ℕ) → out ≡ nothing → new ≡ record old { words = max old.words words } → IsCall old out new
+  grows : (more : ℕ) → out ≡ nothing → Grows old more new → IsCall old out new
 
 -- a row of them
 abbrev pub AreCalls : Part → List Out → Part → Type 0
@@ -112,11 +115,13 @@ pub record Work : Type 0 where
   pub last : Part
   pub outs : List Out
 
--- It is of this plan and made of these calls. Whatever the session was told of the row is true.
+-- It is of this plan, with whatever room, and made of these calls. Whatever the session was told of the row is true, and its graph took it,
+-- as `Replica::ledger` ensures.
 pub record IsWork (plan : Planned) (row : List Entry) (w : Work) : Type 0 where
-  pub plan_is : w.first.row.replica.plan ≡ plan
+  pub plan_is : w.first.row.replica.plan ≡ with_room plan w.first.row.replica.plan.room
   pub calls : AreCalls w.first w.outs w.last
   pub true_seen : BeginsWith row w.last.row.replica.seen
+  pub taken : AreTaken (start w.last.row.replica.plan) (history_of w.last.row.replica.seen)
 
 -- no two are one session's
 abbrev pub AreOfOneEach : List Work → Type 0

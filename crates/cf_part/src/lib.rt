@@ -10,6 +10,7 @@
 #![tactic(auto)]
 
 mod finding;
+mod growing;
 pub mod laws;
 mod part;
 mod progress;

@@ -1,5 +1,5 @@
 //! A process's part in a request.
-ghost use Rattle.std.specs.Prelude.{◌≡◌, ◌<◌, ◌≤◌, [], IfErr, IfNone, IfOk, IfSome, None, OnErr, OnOk, Some, false, length, max, slice_set, true};
+ghost use Rattle.std.specs.Prelude.{◌≡◌, ◌+◌, ◌<◌, ◌≤◌, [], IfErr, IfNone, IfOk, IfSome, None, OnErr, OnOk, Some, false, length, max, slice_set, true};
 ghost use Rattle.std.specs.Bool.{OnFalse, OnTrue};
 ghost use Rattle.cf_forms.specs.Plans.{has_place};
 ghost use Rattle.cf_row.specs.Puts.{IsNoPut};
@@ -7,9 +7,10 @@ ghost use Rattle.cf_row.specs.Rows.{stages_of};
 ghost use Rattle.cf_notes.specs.Noting.{AreNotes};
 ghost use Rattle.cf_part.specs.Parts.{IsClose, IsPut, IsRead, MayPlan, later, most_wants, opened, question_of, seen_by, words_wanted};
 ghost use Rattle.cf_part.specs.Steps.{ComesFirst, NothingToTell, Tells};
-ghost use Rattle.cf_part.specs.Answers.{Breaks, Closes, Ends, IsRunning, Lands, Meets, Mismeets, Misreads, PlansWords, Reads, Refuses, Waits};
+ghost use Rattle.cf_part.specs.Answers.{Breaks, Closes, Ends, Grows, IsRunning, Lands, Meets, Mismeets, Misreads, PlansWords, Reads, Refuses, Waits};
 
 use crate::finding::{args_for, is_running, shown, to_call, to_show, to_stop};
+use crate::growing::{add_more, find_places, grow_seen};
 use crate::progress::Progress;
 use crate::putting::{fault_after, refuse, write_entries, write_notes, write_wants, write_words};
 use crate::question::{Fault, PutOf, Question, later};
@@ -265,6 +266,21 @@ impl Part {
         ensures { self.new ≡ record self.old { wanted = slice_set self.old.wanted stage (Some (later now)) } }
     {
         self.wanted[stage as usize] = Some(later(now));
+    }
+
+    /// Makes room for so many stages more, also while a put is under way or a question is open. It fails only where there
+    /// is no memory, and then changes nothing.
+    pub fn grow(&mut self, alloc: Global, more: u16) -> Result<(), AllocError>
+        requires place { has_place self.old.row.replica.plan.stages (self.old.row.replica.plan.room + more) ≡ true }
+        ensures grown { OnOk result (Grows self.old more self.new) }
+        ensures unchanged { OnErr result (self.new ≡ self.old) }
+    {
+        find_places(&mut self.calls, &mut self.owed, &mut self.wanted, more)?;
+        grow_seen(&mut self.row, &mut self.notes, alloc, more)?;
+        add_more(&mut self.calls, Progress::NotCalled, more);
+        add_more(&mut self.owed, NO_VALUE, more);
+        add_more(&mut self.wanted, None, more);
+        Ok(())
     }
 
     /// Whether a put may be planned by now, or the close be asked for.
