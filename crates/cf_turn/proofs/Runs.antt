@@ -25,7 +25,7 @@ parts_of plan row (run ∷ runs) h =
     let w : PartWork = record { first = run.first.part; last = run.last.part; outs = p.parts } in
     record {
       works = w ∷ more.works;
-      are = All-cons (IsWork plan row) w more.works (record { plan_is = own.plan_is; calls = p.are; true_seen = own.true_seen }) more.are;
+      are = All-cons (IsWork plan row) w more.works (record { plan_is = own.plan_is; calls = p.are; true_seen = own.true_seen; taken = own.taken }) more.are;
       called = ap (λ (l : List ℕ). l ++ called_by_parts more.works) p.calls ∙ ap (λ (l : List ℕ). all_of called_by run.outs ++ l) more.called;
       others = λ s a. All-cons (λ (v : PartWork). session_of v.first ≢ s) w more.works (All-head (λ (r : Run). session_of r.first.part ≢ s) run runs a)
           (more.others s (All-tail (λ (r : Run). session_of r.first.part ≢ s) run runs a));

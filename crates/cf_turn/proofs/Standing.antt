@@ -3,7 +3,6 @@ use Rattle.std.proofs.Common.{◌≡◌, ℕ, zero, suc, ◌<◌, Option, Some, 
 use Rattle.std.specs.Prelude.{slice_get}
 use Rattle.std.specs.List.{remove}
 use Rattle.std.proofs.Math.Seq.{drop-append_seam}
-use Rattle.cf_forms.specs.Plans.{Planned}
 use Rattle.cf_row.specs.declared.entry.Entry.{Entry}
 use Rattle.cf_row.specs.Rows.{BeginsWith, Replica, StandsAt, stages_of}
 use Rattle.cf_row.specs.Puts.{Row, StandsOnce, stamped}
@@ -71,7 +70,7 @@ pub record ActsFirst (wishes : List Wish) (r : Row) : Type 0 where
   pub does : IsActing view notes wish.act acting
   pub put : r.put ≡ stamped token (words_wanted (wants_with acting.first acting.second))
   pub seen : r.replica.seen ≡ view.seen
-  pub plan : r.replica.plan ≡ view.plan
+  pub stages : stages_of r.replica ≡ stages_of view
 
 some_words : (token : ℕ) (first : Want) (second : Option Want) → 0 < length (stamped token (words_wanted (wants_with first second)))
 some_words token first None = omega arith
@@ -98,10 +97,6 @@ stands_once row put place h =
 pub begins_front : (row seen more : List Entry) → BeginsWith row (seen ++ more) → BeginsWith row seen
 begins_front row seen more h = record { rest = more ++ h.rest; is = h.is ∙ append_assoc seen more h.rest }
 
-same_stages : (r view : Replica) → r.seen ≡ view.seen → r.plan ≡ view.plan → stages_of r ≡ stages_of view
-same_stages r view seen plan =
-    ap (λ (l : List Entry). stages_of (record r { seen = l })) seen ∙ ap (λ (p : Planned). stages_of (record r { seen = view.seen; plan = p })) plan
-
 -- the first one is told so
 pub so_standing : (row : List Entry) (wishes : List Wish) (r : Row) → AreSo row wishes → (h : ActsFirst wishes r) → BeginsWith row r.replica.seen →
     StandsAt row (length r.replica.seen) r.put → AreSo row (wishes_standing (stages_of r.replica) wishes)
@@ -116,7 +111,7 @@ so_standing row wishes r so h begins stands =
         does = h.does;
         stand = subst (λ (l : List Entry). StandsAt row (length l) (stamped h.token (words_wanted (wants_with h.acting.first h.acting.second)))) h.seen
             (subst (λ (l : List Entry). StandsAt row (length r.replica.seen) l) h.put stands);
-        stage = ap (λ (n : ℕ). stage_of n h.wish.act) (same_stages r.replica h.view h.seen h.plan);
+        stage = ap (λ (n : ℕ). stage_of n h.wish.act) h.stages;
       },
       (subst (λ (l : List Wish). AreSo row l) h.are so).1,
     )

@@ -2,12 +2,15 @@
 use Rattle.std.proofs.Common.{◌≡◌, ℕ, zero, suc, ◌-◌, ◌<◌, ◌⊎◌, inl, inr, Bool, true, false, cond, nat_lt, Option, Some, None, List, [], ◌∷◌, ◌++◌, Contains, length, refl, ap, sym, ◌∙◌, subst, append_assoc, arith}
 use Rattle.std.specs.Prelude.{◌&&◌, slice_get}
 use Rattle.std.specs.List.{remove}
+use Rattle.cf_model.specs.States.{start}
+use Rattle.cf_ledger.specs.Ledgers.{AreTaken}
 use Rattle.cf_ledger.specs.declared.faults.LedgerFault.{LedgerFault}
 use Rattle.cf_ledger.specs.declared.faults.LedgerFault.TheVariants.{NoMemory, NoEvent, NoStage, NoRoom}
 use Rattle.cf_notes.specs.declared.note.Note.{Note}
 use Rattle.cf_row.specs.declared.entry.Entry.{Entry}
-use Rattle.cf_row.specs.Rows.{BeginsWith, Replica, StandsAt, stages_of}
+use Rattle.cf_row.specs.Rows.{BeginsWith, Replica, StandsAt, history_of, stages_of, with_more}
 use Rattle.cf_row.specs.Puts.{Row}
+use Rattle.cf_row.proofs.Roomier.{stages_more}
 use Rattle.std.proofs.lemmas.List.Elements.{Contains-append_right}
 use Rattle.cf_due.specs.declared.acts.Act.{Act}
 use Rattle.cf_due.specs.declared.acts.Acting.{Acting}
@@ -19,7 +22,7 @@ use Rattle.cf_part.specs.declared.step.Step.{Step}
 use Rattle.cf_part.specs.declared.step.Step.TheVariants.{Show as StepShow, Stop as StepStop, Call as StepCall}
 use Rattle.cf_part.specs.Parts.{Part}
 use Rattle.cf_part.specs.Steps.{Tells}
-use Rattle.cf_part.specs.Answers.{MismeetsBy}
+use Rattle.cf_part.specs.Answers.{Grows, MismeetsBy}
 use Rattle.cf_part.proofs.Rows.{effects}
 use Rattle.cf_turn.specs.declared.planning.Putting.{Putting}
 use Rattle.cf_turn.specs.declared.turn.Turn.{Turn}
@@ -31,7 +34,7 @@ use Rattle.cf_turn.specs.Works.{Work, ended_by, is_closed_in, new_work, told_by,
 use Rattle.cf_turn.specs.Turns.{Decides, DoesAct, Goes, IsPutOff, Moment, Puts, Rests, RestsBy, RestsWith, TakesStep, Turns, is_of_act, putting_for, putting_of}
 use Rattle.cf_turn.specs.Answers.{LandsWork, MeetsWork, RefusesPart, refused, wishes_standing}
 use Rattle.cf_turn.specs.Rows.{AreCalls, IsCall}
-use Rattle.cf_turn.specs.Rows.IsCall.{turns, rests, finds, asks, ends, wants, hears, finishes, reads, misreads, lands, meets, mismeets, waits, refuses, closes, breaks}
+use Rattle.cf_turn.specs.Rows.IsCall.{turns, rests, finds, asks, ends, wants, hears, grows as gets_room, finishes, reads, misreads, lands, meets, mismeets, waits, refuses, closes, breaks}
 use Rattle.cf_turn.specs.Truth.{ActsAreToldTruly, AreCallsWhile, IsSo, IsSoOfEnd, IsSoOfWish, KeepsPut}
 use Rattle.cf_turn.proofs.PartCalls.{works_are_parts}
 use Rattle.cf_turn.proofs.Standing.{ActsFirst, AreSo, IsSoKept, begins_front, has_put, so_append, so_at, so_refused, so_remove, so_standing, stands_behind, stands_once}
@@ -57,6 +60,33 @@ keeps_row row old new wishes acting same h = record {
   so = subst (λ (l : List Wish). AreSo row l) (sym wishes) h.so;
   first = λ is. acts_of old.wishes new.wishes new.part.row wishes (acts_in old.wishes old.part.row new.part.row same (h.first (sym acting ∙ is)));
 }
+
+-- ---- where there is more room
+
+acts_roomier : (wishes : List Wish) (old new : Row) (more : ℕ) → AreTaken (start old.replica.plan) (history_of old.replica.seen) → new ≡ (record old { replica = with_more old.replica more }) → ActsFirst wishes old → ActsFirst wishes new
+acts_roomier wishes old new more taken is h = subst (λ (r : Row). ActsFirst wishes r) (sym is) (record {
+  wish = h.wish;
+  rest = h.rest;
+  are = h.are;
+  view = h.view;
+  notes = h.notes;
+  acting = h.acting;
+  token = h.token;
+  does = h.does;
+  put = h.put;
+  seen = h.seen;
+  stages = stages_more old.replica more taken ∙ h.stages;
+})
+
+keeps_roomier : (row : List Entry) (old new : Work) (more : ℕ) → Grows old.part more new.part → new ≡ (record old { part = new.part }) → Keeps row old → Keeps row new
+keeps_roomier row old new more h rest k =
+    let wishes = ap (λ (w : Work). w.wishes) rest in
+    let acting = ap (λ (w : Work). w.is_acting) rest in
+    record {
+      so = subst (λ (l : List Wish). AreSo row l) (sym wishes) k.so;
+      first = λ on. acts_of old.wishes new.wishes new.part.row wishes
+          (acts_roomier old.wishes old.part.row new.part.row more h.taken (ap (λ (p : Part). p.row) h.rest) (k.first (sym acting ∙ on)));
+    }
 
 -- ---- where no act's put is under way behind it
 
@@ -84,7 +114,7 @@ first_kept wishes (suc k) true r on h =
       does = old.does;
       put = old.put;
       seen = old.seen;
-      plan = old.plan;
+      stages = old.stages;
     }
 
 no_put : (wishes : List Wish) (r : Row) → r.put ≡ [] → ActsFirst wishes r → ⊥
@@ -139,7 +169,7 @@ keeps_act row old new wish a q first k does h =
         does = does;
         put = planned.put;
         seen = ap (λ (r : Replica). r.seen) planned.replica;
-        plan = ap (λ (r : Replica). r.plan) planned.replica;
+        stages = ap stages_of planned.replica;
       };
     })
 
@@ -209,7 +239,7 @@ keeps_asks row old new w none is k = subst (λ (v : Work). Keeps row v) (sym is)
     does = h.does;
     put = h.put;
     seen = h.seen;
-    plan = h.plan;
+    stages = h.stages;
   };
 })
 
@@ -325,6 +355,7 @@ keeps row old new out k put begins (asks number act until is h) = keeps_asks row
 keeps row old new out k put begins (ends end is h) = keeps_row row old new (ap (λ (w : Work). w.wishes) h) (ap (λ (w : Work). w.is_acting) h) (ap (λ (w : Work). w.part.row) h) k
 keeps row old new out k put begins (wants i from is h) = keeps_row row old new (ap (λ (w : Work). w.wishes) h) (ap (λ (w : Work). w.is_acting) h) (ap (λ (w : Work). w.part.row) h) k
 keeps row old new out k put begins (hears words is h) = keeps_row row old new (ap (λ (w : Work). w.wishes) h) (ap (λ (w : Work). w.is_acting) h) (ap (λ (w : Work). w.part.row) h) k
+keeps row old new out k put begins (gets_room more is h rest) = keeps_roomier row old new more h rest k
 keeps row old new out k put begins (finishes i answer is running h rest) = keeps_row row old new (ap (λ (w : Work). w.wishes) rest) (ap (λ (w : Work). w.is_acting) rest) (ap (λ (p : Part). p.row) h) k
 keeps row old new out k put begins (reads entries notes is h rest) = keeps_free row old new rest k
 keeps row old new out k put begins (misreads now entries notes m is h rest) = keeps_free row old new rest k

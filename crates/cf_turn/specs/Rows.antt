@@ -1,15 +1,17 @@
 -- Rows of a work's calls, and what may be concluded from any of them.
 use Rattle.std.specs.Prelude.{◌≡◌, ◌≢◌, ℕ, ◌-◌, Bool, false, max, Option, Some, None, List, [], ◌∷◌, ◌++◌, All, slice_set}
-use Rattle.cf_forms.specs.Plans.{Planned}
+use Rattle.cf_forms.specs.Plans.{Planned, with_room}
+use Rattle.cf_model.specs.States.{start}
+use Rattle.cf_ledger.specs.Ledgers.{AreTaken}
 use Rattle.cf_ledger.specs.declared.faults.Misfit.{Misfit}
 use Rattle.cf_row.specs.declared.entry.Entry.{Entry}
-use Rattle.cf_row.specs.Rows.{BeginsWith}
+use Rattle.cf_row.specs.Rows.{BeginsWith, history_of}
 use Rattle.cf_notes.specs.declared.note.Note.{Note}
 use Rattle.cf_notes.specs.declared.wants.EndsWith.{EndsWith}
 use Rattle.cf_due.specs.declared.acts.Act.{Act}
 use Rattle.cf_part.specs.declared.question.Fault.{Fault}
 use Rattle.cf_part.specs.Parts.{Part, session_of}
-use Rattle.cf_part.specs.Answers.{Breaks, Ends, IsRunning, Misreads, Reads}
+use Rattle.cf_part.specs.Answers.{Breaks, Ends, Grows, IsRunning, Misreads, Reads}
 use Rattle.cf_part.specs.Rows.{AreCalls as AreCallsOfPart, IsApart, Out, all_calls, all_stops}
 use Rattle.cf_turn.specs.declared.turn.Turn.{Turn}
 use Rattle.cf_turn.specs.declared.turn.Turn.TheVariants.{Stop, Call}
@@ -31,6 +33,7 @@ pub data IsCall (old : Work) (out : Option Turn) (new : Work) : Type 0 where
   ends : (end : End) → out ≡ None → new ≡ record old { ends = old.ends ++ end ∷ []; free = old.free - 1 } → IsCall old out new
   wants : (i : ℕ) (from : Option ℕ) → out ≡ None → new ≡ record old { part = record old.part { wanted = slice_set old.part.wanted i from } } → IsCall old out new
   hears : (words : ℕ) → out ≡ None → new ≡ record old { part = record old.part { words = max old.part.words words } } → IsCall old out new
+  grows : (more : ℕ) → out ≡ None → Grows old.part more new.part → (new ≡ record old { part = new.part }) → IsCall old out new
   finishes : (i : ℕ) (answer : EndsWith) → out ≡ None → IsRunning old.part i → Ends old.part i answer new.part → (new ≡ record old { part = new.part }) → IsCall old out new
   reads : (entries : List Entry) (notes : List Note) → out ≡ None → Reads old.part entries notes new.part → IsFreed old new → IsCall old out new
   misreads : (now : ℕ) (entries : List Entry) (notes : List Note) (m : Misfit) → out ≡ None → Misreads old.part now entries notes m new.part → IsFreed old new → IsCall old out new
@@ -80,11 +83,12 @@ pub record Run : Type 0 where
   pub last : Work
   pub outs : List (Option Turn)
 
--- It is of this plan and made of these calls. Whatever the session was told of the row is true.
+-- It is of this plan, with whatever room, and made of these calls. Whatever the session was told of the row is true, and its graph took it.
 pub record IsRun (plan : Planned) (row : List Entry) (run : Run) : Type 0 where
-  pub plan_is : run.first.part.row.replica.plan ≡ plan
+  pub plan_is : run.first.part.row.replica.plan ≡ with_room plan run.first.part.row.replica.plan.room
   pub calls : AreCalls run.first run.outs run.last
   pub true_seen : BeginsWith row run.last.part.row.replica.seen
+  pub taken : AreTaken (start run.last.part.row.replica.plan) (history_of run.last.part.row.replica.seen)
 
 -- no two are one session's
 abbrev pub AreOfOneEach : List Run → Type 0

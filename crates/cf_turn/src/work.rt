@@ -1,8 +1,9 @@
 //! What a process has to do in one request.
-ghost use Rattle.std.specs.Prelude.{◌≡◌, ◌-◌, ◌<◌, ◌≤◌, ◌&&◌, [], ◌∷◌, ◌++◌, IfErr, IfNone, IfOk, IfSome, None, OnErr, OnOk, Some, false, length, max, nat_lt, slice_get, slice_set, true};
+ghost use Rattle.std.specs.Prelude.{◌≡◌, ◌+◌, ◌-◌, ◌<◌, ◌≤◌, ◌&&◌, [], ◌∷◌, ◌++◌, IfErr, IfNone, IfOk, IfSome, None, OnErr, OnOk, Some, false, length, max, nat_lt, slice_get, slice_set, true};
 ghost use Rattle.std.specs.Bool.{OnFalse, OnTrue};
 ghost use Rattle.cf_due.specs.Acts.{IsFitting};
-ghost use Rattle.cf_part.specs.Answers.{Breaks, Ends, IsRunning, Misreads, PlansWords, Reads};
+ghost use Rattle.cf_forms.specs.Plans.{has_place};
+ghost use Rattle.cf_part.specs.Answers.{Breaks, Ends, Grows, IsRunning, Misreads, PlansWords, Reads};
 ghost use Rattle.cf_part.specs.Parts.{IsClose, IsPut, IsRead, MayPlan, later, words_wanted};
 ghost use Rattle.cf_part.specs.Steps.{NothingToTell};
 ghost use Rattle.cf_row.specs.Puts.{IsNoPut};
@@ -141,6 +142,17 @@ impl Work {
         } }
     {
         self.part.unread(now, stage);
+    }
+
+    /// Makes room for so many stages more, also while a put is under way. It fails only where there is no memory, and then
+    /// changes nothing.
+    pub fn grow(&mut self, alloc: Global, more: u16) -> Result<(), AllocError>
+        requires place { has_place self.old.part.row.replica.plan.stages (self.old.part.row.replica.plan.room + more) ≡ true }
+        ensures grown { OnOk result (Grows self.old.part more self.new.part) }
+        ensures rest { self.new ≡ record self.old { part = self.new.part } }
+        ensures unchanged { OnErr result (self.new ≡ self.old) }
+    {
+        self.part.grow(alloc, more)
     }
 
     /// The store tells that so many words stand in the row.
