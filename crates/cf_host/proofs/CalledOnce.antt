@@ -8,7 +8,7 @@ use Rattle.cf_part.specs.Rows.{CallsOnce as PartCallsOnce, IsApart}
 use Rattle.cf_turn.specs.declared.turn.Turn.{Turn}
 use Rattle.cf_turn.specs.declared.turn.Turn.TheVariants.{Tell as TellTurn, Show as ShowTurn, Stop as StopTurn, Call as CallTurn, Ask as AskTurn}
 use Rattle.cf_turn.specs.Rows.{AreCalls as AreCallsOfWork, IsCall as IsCallOfWork, WorksArePartsCalls, all_of, called_by}
-use Rattle.cf_turn.specs.Rows.IsCall.{turns as TurnsOf, hears as HearsOf}
+use Rattle.cf_turn.specs.Rows.IsCall.{turns as TurnsOf}
 use Rattle.cf_turn.specs.Works.{Work}
 use Rattle.cf_host.specs.declared.order.Order.{Order}
 use Rattle.cf_host.specs.declared.order.Order.TheVariants.{Beats, News as LooksFor, Open, Row, Call, Stop, Show, Tell, Sleep}
@@ -145,8 +145,8 @@ heard_more session calls n before after h (stays is still) = subst (Worked sessi
 heard_more session calls n before after h (begins w was is begun still) =
     let none : calls ≡ [] = subst (Worked session calls) was h in
     subst (Worked session calls) (sym is) (record { first = w; begun = begun; turns = []; are = refl; told = sym none })
-heard_more session calls n before after h (goes w v was is (words, heard)) =
-    subst (Worked session calls) (sym is) (subst (λ (l : List ℕ). IsWorked session l v) (append-nil calls) (worked_on calls [] w v None (subst (Worked session calls) was h) (HearsOf words refl heard) refl))
+heard_more session calls n before after h (goes w v was is heard) =
+    subst (Worked session calls) (sym is) (subst (λ (l : List ℕ). IsWorked session l v) (append-nil calls) (worked_on calls [] w v None (subst (Worked session calls) was h) heard.call refl))
 
 words : (session : ℕ) (outs : List (Option Order)) → CarriesWords session (Holds session outs) (HasNone outs)
 words session outs = record { moves = λ n before after h m. heard_more session (calls_of n outs) n before after h m; begun = λ n absent still. absent; missing = λ n absent still. absent }

@@ -1,18 +1,21 @@
 -- What each call of a process does to all requests.
-use Rattle.std.proofs.Common.{◌≡◌, ◌≢◌, ℕ, zero, suc, ◌<◌, ◌≤◌, inl, inr, Bool, Option, Some, None, List, [], ◌∷◌, ◌++◌, refl, ap, sym, ◌∙◌, subst, arith, length, length-append, set}
-use Rattle.std.specs.Prelude.{slice_get}
+use Rattle.std.proofs.Common.{◌≡◌, ◌≢◌, ℕ, zero, suc, ◌<◌, ◌≤◌, inl, inr, Bool, true, false, cond, not, max, Option, Some, None, List, [], ◌∷◌, ◌++◌, map, refl, ap, sym, ◌∙◌, subst, arith, length, length-append, set}
+use Rattle.std.specs.Prelude.{◌||◌, slice_get}
 use Rattle.std.proofs.lemmas.Bool.{cases_lt}
 use Rattle.std.proofs.lemmas.Bool.Decides.{eqb_tells}
 use Rattle.std.proofs.lemmas.Option.{slice_get_within}
 use Rattle.cf_model.proofs.StateLemmas.{slice_get-set_other}
 use Rattle.cf_forms.proofs.ListLemmas.{slice_get-front, slice_get-seam}
+use Rattle.cf_part.specs.Parts.{is_waited}
 use Rattle.cf_turn.specs.declared.turn.Turn.{Turn}
+use Rattle.cf_turn.specs.Rows.{IsCall as IsCallOfWork}
+use Rattle.cf_turn.specs.Rows.IsCall.{hears as HearsOf, reads_again as ReadsAgainOf}
 use Rattle.cf_turn.specs.Turns.{Moment, Rests, Turns}
 use Rattle.cf_turn.specs.Works.{Work}
 use Rattle.cf_host.specs.declared.request.Request.{Request}
 use Rattle.cf_host.specs.declared.requests.Length.{Length}
 use Rattle.cf_host.specs.Hosts.{AllRest, FirstTurns, RestsIn}
-use Rattle.cf_host.specs.Requests.{Follows, Hears, HearsAll, NoneAt, fresh, hears, hears_in, told_length}
+use Rattle.cf_host.specs.Requests.{Follows, Hears, HearsAll, NoneAt, fresh, hears, hears_in, is_told, looked_for, missed, missed_in, read_again, told_length}
 use Rattle.cf_host.specs.Requests.Follows.{known as FollowsKnown, added as FollowsAdded}
 use Rattle.cf_host.specs.Requests.Hears.{known as HearsKnown, added as HearsAdded, passed as HearsPassed}
 use Rattle.cf_host.proofs.Worked.{AreApart, Carries, Comes, Effect, Kept, Moves, from, goes, kept_more, stays, taken}
@@ -97,16 +100,19 @@ follows_effect {session} {still} {does} number old after quiet (FollowsAdded non
 
 -- ---- words
 
--- nothing is said of a request whose work isn't changed; and else it was told of so many words
+-- nothing is said of a request whose work isn't changed; and else it was told of so many words, or is to be read
 abbrev pub Anyhow : ℕ → Type 0
 Anyhow n = Unit {0}
 
-abbrev pub Heard : ℕ → Work → Work → Type 0
-Heard n w v = (words : ℕ) × (v ≡ told_length words w)
+pub record Heard (n : ℕ) (w v : Work) : Type 0 where
+  pub call : IsCallOfWork w None v
+  pub words : ℕ
+  pub is_stale : Bool
+  pub is : v ≡ record w { part = record w.part { words = words; is_stale = is_stale } }
 
 moves_hears : {session : ℕ} → (n words : ℕ) (work : Option Work) → Moves session (Anyhow n) (Heard n) work (hears_in words work)
 moves_hears n words None = stays refl tt
-moves_hears n words (Some w) = goes w (told_length words w) refl refl (words, refl)
+moves_hears n words (Some w) = goes w (told_length words w) refl refl (record { call = HearsOf words refl refl; words = max w.part.words words; is_stale = w.part.is_stale; is = refl })
 
 hears_effect : {session : ℕ} → (takes_all : Bool) (told : Length) (old after : List Request) → Hears takes_all told old after → Effect session Anyhow Heard old after
 hears_effect {session} takes_all told old after (HearsKnown place at is) =
@@ -119,6 +125,39 @@ pub hears_all_kept : {session : ℕ} {holds : ℕ → Option Work → Type 0} {a
 hears_all_kept {session} {holds} {absent} takes_all [] old after c k is = subst (Kept holds absent) (sym is) k
 hears_all_kept takes_all (told ∷ lengths) old after c k (between, one, rest) =
     hears_all_kept takes_all lengths between after c (kept_more old between c k (hears_effect takes_all told old between one)) rest
+
+-- ---- looks at all
+
+moves_missed : {session : ℕ} → (lengths : List Length) (n : ℕ) (work : Option Work) → Moves session (Anyhow n) (Heard n) work (missed_in lengths n work)
+moves_missed lengths n None = stays refl tt
+moves_missed {session} lengths n (Some w) = by_told (is_told lengths n || not (is_waited w.part.wanted))
+  where
+    by_told : (b : Bool) → Moves session (Anyhow n) (Heard n) (Some w) (Some (cond b w (read_again w)))
+    by_told true = stays refl tt
+    by_told false = goes w (read_again w) refl refl (record { call = ReadsAgainOf refl refl; words = w.part.words; is_stale = true; is = refl })
+
+got_map : (lengths : List Length) (xs : List Request) (k : ℕ) (r : Request) → slice_get (map (missed lengths) xs) k ≡ Some r → (b : Request) × (slice_get xs k ≡ Some b) × (missed lengths b ≡ r)
+got_map lengths [] k r at = (let low = slice_get_within [] k r at in absurd (omega (arith, low)))
+got_map lengths (x ∷ xs) zero r at = (x, refl, same_some (missed lengths x) r at)
+got_map lengths (x ∷ xs) (suc k) r at = got_map lengths xs k r at
+
+length_missed : (lengths : List Length) (xs : List Request) → length (map (missed lengths) xs) ≡ length xs
+length_missed lengths [] = refl
+length_missed lengths (x ∷ xs) = ap suc (length_missed lengths xs)
+
+missed_effect : {session : ℕ} → (lengths : List Length) (old : List Request) → Effect session Anyhow Heard old (map (missed lengths) old)
+missed_effect {session} lengths old =
+    let comes : (k : ℕ) (r : Request) → slice_get (map (missed lengths) old) k ≡ Some r → Comes session Anyhow Heard old k r =
+    (λ k r there.
+    let b = got_map lengths old k r there in
+    subst (λ (x : Request). Comes session Anyhow Heard old k x) b.2 (from b.0 b.1 refl (moves_missed lengths b.0.number b.0.work))) in
+    let same = length_missed lengths old in
+    record { comes = comes; keeps = keeps_from old (map (missed lengths) old) (omega (arith, same)) comes; absent = λ n h. tt }
+
+pub looked_kept : {session : ℕ} {holds : ℕ → Option Work → Type 0} {absent : ℕ → Type 0} → (whole : Bool) (lengths : List Length) (old : List Request) →
+    Carries session Anyhow Heard holds absent holds absent → Kept holds absent old → Kept holds absent (looked_for whole lengths old)
+looked_kept true lengths old c k = kept_more old (map (missed lengths) old) c k (missed_effect lengths old)
+looked_kept false lengths old c k = k
 
 -- ---- turns of works
 

@@ -6,7 +6,7 @@ use Rattle.cf_part.specs.declared.question.Fault.TheVariants.{Dropped}
 use Rattle.cf_part.specs.Parts.{opened}
 use Rattle.cf_turn.specs.declared.turn.Turn.{Turn}
 use Rattle.cf_turn.specs.Rows.{IsCall as IsCallOfWork}
-use Rattle.cf_turn.specs.Rows.IsCall.{turns as TurnsOf, rests as RestsOf, finds as FindsOf, asks as AsksOf, ends as EndsOf, wants as WantsOf, hears as HearsOf, finishes as FinishesOf, reads as ReadsOf, misreads as MisreadsOf, lands as LandsOf, meets as MeetsOf, mismeets as MismeetsOf, waits as WaitsOf, refuses as RefusesOf, closes as ClosesOf, breaks as BreaksOf}
+use Rattle.cf_turn.specs.Rows.IsCall.{turns as TurnsOf, rests as RestsOf, finds as FindsOf, asks as AsksOf, ends as EndsOf, wants as WantsOf, hears as HearsOf, reads_again as ReadsAgainOf, finishes as FinishesOf, reads as ReadsOf, misreads as MisreadsOf, lands as LandsOf, meets as MeetsOf, mismeets as MismeetsOf, waits as WaitsOf, refuses as RefusesOf, closes as ClosesOf, breaks as BreaksOf}
 use Rattle.cf_turn.specs.Turns.{Moment, Turns}
 use Rattle.cf_turn.specs.Works.{Work, new_work}
 use Rattle.cf_host.specs.declared.order.Order.{Order}
@@ -22,10 +22,11 @@ use Rattle.cf_host.specs.Hosts.{Answers, AnswersRow, Host, IsDropped, IsOpened, 
 use Rattle.cf_host.specs.Keeping.{ClosesRow}
 use Rattle.cf_host.specs.Laws.{IsCall}
 use Rattle.cf_host.specs.Laws.IsCall.{turns, follows, acts, ends, wants, stirs, stops, opens, hears, lands, refuses, closes, beats, news, lacks, loses, finishes}
+use Rattle.cf_host.specs.News.{is_whole}
 use Rattle.cf_host.specs.Requests.{OnWork, told_length}
 use Rattle.cf_host.specs.Tickets.{Opens, Tickets}
 use Rattle.cf_host.proofs.Worked.{Carries, Effect, Kept, Moves, begins, goes, kept_more, stays}
-use Rattle.cf_host.proofs.Effects.{Anyhow, Heard, TurnDoes, follows_effect, hears_all_kept, rest_effect, same_effect, set_effect, turn_effect}
+use Rattle.cf_host.proofs.Effects.{Anyhow, Heard, TurnDoes, follows_effect, hears_all_kept, looked_kept, rest_effect, same_effect, set_effect, turn_effect}
 
 -- ---- what a call does
 
@@ -64,6 +65,7 @@ IsMeant old out new n w v o (AsksOf number act until is h) = OpensAct n number o
 IsMeant old out new n w v o (EndsOf end is h) = OpensAct n end.number old.tickets new.tickets
 IsMeant old out new n w v o (WantsOf i from is h) = OnRequest (Wanting i from) n old new
 IsMeant old out new n w v o (HearsOf words is h) = Unit {0}
+IsMeant old out new n w v o (ReadsAgainOf is h) = Unit {0}
 IsMeant old out new n w v o (FinishesOf i answer is running h rest) = Unit {0}
 IsMeant old out new n w v o (ReadsOf entries notes is h rest) = ClosesRow n old out new
 IsMeant old out new n w v o (MisreadsOf now entries notes m is h rest) = ClosesRow n old out new
@@ -284,7 +286,8 @@ call_kept old out new own c words k (closes number is_closed is a) =
 call_kept old out new own c words k (beats now number clock beats' is b) = same_kept old out new c (else_none out is) (ap (λ (h : Host). h.requests) b.rest) k
 call_kept {session} {holds} {absent} {holds'} {absent'} old out new own c words k (news now number mark lengths is b) =
     let effect : Effect session (Still holds old out new) (Does holds old out new) new.requests new.requests = same_effect new.requests (λ n. unordered (else_none out is)) in
-    kept_more new.requests new.requests c (hears_all_kept old.takes_all lengths old.requests new.requests words k b.hears) effect
+    let heard = hears_all_kept old.takes_all lengths old.requests b.heard words k b.hears in
+    kept_more new.requests new.requests c (subst (Kept holds absent) (sym b.looked) (looked_kept (is_whole old.news.asked) lengths b.heard words heard)) effect
 call_kept old out new own c words k (lacks now number is b) = lacks_kept b.ticket.of old now number out new c (else_none out is) k b.lacks
 call_kept old out new own c words k (loses number is b) = loses_kept b.ticket.of old number out new c (else_none out is) k b.loses
 call_kept old out new own c words k (finishes number answer is b) =

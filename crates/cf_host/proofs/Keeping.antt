@@ -82,7 +82,7 @@ wanted_does request stage old out new w v h (went still call meant) = wanted_cal
 pub stays_wanted : StaysWanted
 stays_wanted session outs old out new request stage comes call it =
     let carries : CarriesOne request (Wants stage) (EndsWanting old out new request stage) old out new =
-    record { does = λ w v h does. wanted_does request stage old out new w v h does; words = λ w v h heard. wanted_same stage w v (ap (λ (x : Work). x.part.wanted) heard.1) h } in
+    record { does = λ w v h does. wanted_does request stage old out new w v h does; words = λ w v h heard. wanted_same stage w v (ap (λ (x : Work). x.part.wanted) heard.is) h } in
     by_case (one_call session outs request (Wants stage) (EndsWanting old out new request stage) old out new comes carries call (record { work = it.work; at = it.is; so = (it.from, it.wanted) }))
   where
     by_case : Has (Wants stage) new request ⊎ EndsWanting old out new request stage → IsWantedIn new request stage ⊎ EndsWanting old out new request stage
@@ -251,7 +251,7 @@ asked_does request number old out new w v h (went still call meant) = inl (asked
 pub stays_asked : StaysAsked
 stays_asked session outs old out new request number comes call it =
     let carries : CarriesOne request (Asks number) (IsToldBy out number) old out new =
-    record { does = λ w v h does. asked_does request number old out new w v h does; words = λ w v h heard. subst (λ (x : Work). Asks number x) (sym heard.1) h } in
+    record { does = λ w v h does. asked_does request number old out new w v h does; words = λ w v h heard. subst (λ (x : Work). Asks number x) (sym heard.is) h } in
     by_case (one_call session outs request (Asks number) (IsToldBy out number) old out new comes carries call (record { work = it.work; at = it.is; so = it.asked }))
   where
     by_case : Has (Asks number) new request ⊎ IsToldBy out number → IsAskedIn new request number ⊎ IsToldBy out number

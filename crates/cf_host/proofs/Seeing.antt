@@ -63,9 +63,9 @@ words_see : (session request : ℕ) (old : Host) (out : Option Order) (new : Hos
     Holds request old out new n after
 words_see session request old out new n before after see (stays same still) = subst (Holds request old out new n) (sym same) see
 words_see session request old out new n before after see (begins w was is begun still) = subst (Holds request old out new n) (sym is) (λ named. begun_sees session request old out new w begun)
-words_see session request old out new n before after see (goes w v was is (words, heard)) =
+words_see session request old out new n before after see (goes w v was is heard) =
     let its : n ≡ request → ComesToSee request old out new w = subst (Holds request old out new n) was see in
-    let same : SeesSame w v = record { plan = ap (λ (x : Work). x.part.row.replica.plan) heard; seen = ap (λ (x : Work). x.part.row.replica.seen) heard } in
+    let same : SeesSame w v = record { plan = ap (λ (x : Work). x.part.row.replica.plan) heard.is; seen = ap (λ (x : Work). x.part.row.replica.seen) heard.is } in
     subst (Holds request old out new n) (sym is) (λ named. see_on request old out new w v same (its named))
 
 -- before the call all is as it was

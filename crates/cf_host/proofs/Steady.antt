@@ -19,7 +19,7 @@ use Rattle.cf_turn.specs.declared.wish.Told.{Told}
 use Rattle.cf_turn.specs.declared.wish.Wish.{Wish}
 use Rattle.cf_turn.specs.Answers.{RefusesPart, refused, settled, wishes_standing}
 use Rattle.cf_turn.specs.Rows.{IsCall}
-use Rattle.cf_turn.specs.Rows.IsCall.{turns as TurnsOf, rests as RestsOf, finds as FindsOf, asks as AsksOf, ends as EndsOf, wants as WantsOf, hears as HearsOf, finishes as FinishesOf, reads as ReadsOf, misreads as MisreadsOf, lands as LandsOf, meets as MeetsOf, mismeets as MismeetsOf, waits as WaitsOf, refuses as RefusesOf, closes as ClosesOf, breaks as BreaksOf}
+use Rattle.cf_turn.specs.Rows.IsCall.{turns as TurnsOf, rests as RestsOf, finds as FindsOf, asks as AsksOf, ends as EndsOf, wants as WantsOf, hears as HearsOf, reads_again as ReadsAgainOf, finishes as FinishesOf, reads as ReadsOf, misreads as MisreadsOf, lands as LandsOf, meets as MeetsOf, mismeets as MismeetsOf, waits as WaitsOf, refuses as RefusesOf, closes as ClosesOf, breaks as BreaksOf}
 use Rattle.cf_turn.specs.Turns.{Decides, Goes, Moment, Rests, RestsBy, RestsWith, Turns}
 use Rattle.cf_turn.specs.Works.{Work, answered_first}
 use Rattle.cf_host.specs.Keeping.{asked_by}
@@ -229,6 +229,7 @@ keeps_wanted w v (AsksOf number act until is h) = ap (λ (x : Work). x.part.want
 keeps_wanted w v (EndsOf end is h) = ap (λ (x : Work). x.part.wanted) h
 keeps_wanted w v (WantsOf i is_wanted is h) = ap (λ (x : Work). x.part.wanted) h
 keeps_wanted w v (HearsOf words is h) = ap (λ (x : Work). x.part.wanted) h
+keeps_wanted w v (ReadsAgainOf is h) = ap (λ (x : Work). x.part.wanted) h
 keeps_wanted w v (FinishesOf i answer is running h rest) = ap (λ (p : Part). p.wanted) h
 keeps_wanted w v (ReadsOf entries notes is h rest) = ap (λ (p : Part). p.wanted) h.rest
 keeps_wanted w v (MisreadsOf now entries notes m is h rest) = ap (λ (p : Part). p.wanted) h.rest
@@ -262,6 +263,7 @@ keeps_asked w v (AsksOf number act until is h) = (ap (λ (x : Work). wish_number
 keeps_asked w v (EndsOf end is h) = (ap (λ (x : Work). end_numbers x.ends) h ∙ end_more w.ends end, ap (λ (x : Work). x.wishes) h)
 keeps_asked w v (WantsOf i is_wanted is h) = asks_as w v (ap (λ (x : Work). x.wishes) h) (ap (λ (x : Work). x.ends) h)
 keeps_asked w v (HearsOf words is h) = asks_as w v (ap (λ (x : Work). x.wishes) h) (ap (λ (x : Work). x.ends) h)
+keeps_asked w v (ReadsAgainOf is h) = asks_as w v (ap (λ (x : Work). x.wishes) h) (ap (λ (x : Work). x.ends) h)
 keeps_asked w v (FinishesOf i answer is running h rest) = asks_as w v (ap (λ (x : Work). x.wishes) rest) (ap (λ (x : Work). x.ends) rest)
 keeps_asked w v (ReadsOf entries notes is h rest) = asks_as w v (ap (λ (x : Work). x.wishes) rest) (ap (λ (x : Work). x.ends) rest)
 keeps_asked w v (MisreadsOf now entries notes m is h rest) = asks_as w v (ap (λ (x : Work). x.wishes) rest) (ap (λ (x : Work). x.ends) rest)
@@ -301,6 +303,7 @@ keeps_seen w v (AsksOf number act until is h) = same_seen w v _ (ap (λ (x : Wor
 keeps_seen w v (EndsOf end is h) = same_seen w v _ (ap (λ (x : Work). x.part) h) refl refl
 keeps_seen w v (WantsOf i from is h) = same_seen w v _ (ap (λ (x : Work). x.part) h) refl refl
 keeps_seen w v (HearsOf words is h) = same_seen w v _ (ap (λ (x : Work). x.part) h) refl refl
+keeps_seen w v (ReadsAgainOf is h) = same_seen w v _ (ap (λ (x : Work). x.part) h) refl refl
 keeps_seen w v (FinishesOf i answer is running h rest) = same_seen w v _ h refl refl
 keeps_seen w v (ReadsOf entries notes is h rest) = tt
 keeps_seen w v (MisreadsOf now entries notes m is h rest) = tt

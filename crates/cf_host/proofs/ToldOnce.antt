@@ -380,9 +380,9 @@ moves_on session owner old out new told d n before after p (goes w v was is does
 moves_words : (session : ℕ) (owner : ℕ → ℕ) (last : ℕ) (told : List ℕ) (n : ℕ) (before after : Option Work) → Holds owner last told n before → Moves session (Anyhow n) (Heard n) before after → Holds owner last told n after
 moves_words session owner last told n before after p (stays same still) = subst (Holds owner last told n) (sym same) p
 moves_words session owner last told n before after p (begins w was is begun still) = subst (Holds owner last told n) (sym is) (fresh_pending owner last told n session w begun)
-moves_words session owner last told n before after p (goes w v was is (words, heard)) =
+moves_words session owner last told n before after p (goes w v was is heard) =
     let q = subst (Holds owner last told n) was p in
-    let same : asked_by v ≡ asked_by w = ap asked_by heard in
+    let same : asked_by v ≡ asked_by w = ap asked_by heard.is in
     let its : (k : ℕ) → Contains (asked_by v) k → Contains (asked_by w) k = λ k c. subst (λ (xs : List ℕ). Contains xs k) same c in
     let r : Pending owner last told n v =
     record { apart = subst IsApart (sym same) q.apart; low = λ k c. q.low k (its k c); own = λ k c. q.own k (its k c); untold = λ k c. q.untold k (its k c) } in

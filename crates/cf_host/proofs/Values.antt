@@ -24,13 +24,13 @@ use Rattle.cf_part.specs.declared.step.Step.TheVariants.{Show as StepShow, Stop 
 use Rattle.cf_part.specs.Answers.{Ends, IsRunning, MismeetsBy, owed_refused}
 use Rattle.cf_part.specs.Parts.{Part, call_in, no_value, owed_in, session_of}
 use Rattle.cf_part.specs.Rows.{AreCalls as AreCallsOfPart, IsCall as IsCallOfPart, IsOwed, KeepsOwed, Out}
-use Rattle.cf_part.specs.Rows.IsCall.{tells as TellsOf, plans as PlansOf, asks as AsksOf, reads as ReadsOf, misreads as MisreadsOf, lands as LandsOf, meets as MeetsOf, mismeets as MismeetsOf, waits as WaitsOf, refuses as RefusesOf, closes as ClosesOf, breaks as BreaksOf, ends as EndsOf, wants as WantsOf, hears as HearsOf}
+use Rattle.cf_part.specs.Rows.IsCall.{tells as TellsOf, plans as PlansOf, asks as AsksOf, reads as ReadsOf, misreads as MisreadsOf, lands as LandsOf, meets as MeetsOf, mismeets as MismeetsOf, waits as WaitsOf, refuses as RefusesOf, closes as ClosesOf, breaks as BreaksOf, ends as EndsOf, wants as WantsOf, hears as HearsOf, reads_again as ReadsAgainOf}
 use Rattle.cf_part.specs.Steps.{Tells}
 use Rattle.cf_part.proofs.Granted.{granted_stays}
 use Rattle.cf_part.proofs.Lists.{there_by}
 use Rattle.cf_part.proofs.Rows.{Grows, effect, rank}
 use Rattle.cf_turn.specs.Rows.{IsCall as IsCallOfWork, WorksArePartsCalls}
-use Rattle.cf_turn.specs.Rows.IsCall.{turns as TurnsOfWork, hears as HearsOfWork, finishes as FinishesOfWork}
+use Rattle.cf_turn.specs.Rows.IsCall.{turns as TurnsOfWork, finishes as FinishesOfWork}
 use Rattle.cf_turn.specs.declared.turn.Turn.{Turn}
 use Rattle.cf_turn.specs.Works.{Work}
 use Rattle.cf_host.specs.declared.order.Order.{Order}
@@ -96,6 +96,7 @@ counts_call old out new (EndsOf j answer is running h) same =
     ap (λ (p : Part). length p.owed) h ∙ length-set old.owed j _ ∙ same ∙ sym (ap (λ (p : Part). length p.calls) h ∙ length-set old.calls j Ended)
 counts_call old out new (WantsOf j is_wanted is h) same = counts_same old new (ap (λ (p : Part). p.calls) h) (ap (λ (p : Part). p.owed) h) same
 counts_call old out new (HearsOf words is h) same = counts_same old new (ap (λ (p : Part). p.calls) h) (ap (λ (p : Part). p.owed) h) same
+counts_call old out new (ReadsAgainOf is h) same = counts_same old new (ap (λ (p : Part). p.calls) h) (ap (λ (p : Part). p.owed) h) same
 
 granted_later : (old new : Replica) → Grows old new → (i : ℕ) → IsGrantedTo old old.session i → IsGrantedTo new new.session i
 granted_later old new g i h =
@@ -162,7 +163,7 @@ does_call is keeps old out new n w v so (turned t order at told orders turn) = k
 does_call is keeps old out new n w v so (went still call meant) = keeps w v None call so
 
 hears_call : (is : Work → Type 0) → IsKept is → (n : ℕ) (w v : Work) → is w → Heard n w v → is v
-hears_call is keeps n w v so (words, heard) = keeps w v None (HearsOfWork words refl heard) so
+hears_call is keeps n w v so heard = keeps w v None heard.call so
 
 each_moves : (session : ℕ) (is : Work → Type 0) (still : Type 0) (does : Work → Work → Type 0) → ((w : Work) → Begun session w → is w) → ((w v : Work) → is w → does w v → is v) →
     (n : ℕ) (before after : Option Work) → Each is n before → Moves session still does before after → Each is n after

@@ -25,9 +25,9 @@ use Rattle.cf_host.specs.declared.ticket.Ticket.{Ticket}
 use Rattle.cf_host.specs.Answering.{Breaking, Waiting}
 use Rattle.cf_host.specs.Asking.{CallEnding}
 use Rattle.cf_host.specs.Busy.{AreBusy}
-use Rattle.cf_host.specs.News.{News, answered_by, asked_by, look_of, no_news, unanswered_by}
+use Rattle.cf_host.specs.News.{News, answered_by, asked_by, is_whole, look_of, no_news, unanswered_by}
 use Rattle.cf_host.specs.Pulses.{beats_answered, beats_asked, beats_at, beats_silent, clock_of, later_by}
-use Rattle.cf_host.specs.Requests.{Begins, Follows, HearsAll, IsAt, IsPartOf, OnWork}
+use Rattle.cf_host.specs.Requests.{Begins, Follows, HearsAll, IsAt, IsPartOf, OnWork, looked_for}
 use Rattle.cf_host.specs.Tickets.{AreSame, Opens, Shuts, Tickets, call_in, no_tickets, ticket_of}
 use Rattle.cf_host.specs.Waking.{first_moment, first_patience, first_wake, never}
 
@@ -179,10 +179,15 @@ pub record WorksNothing (old : Host) (now : ℕ) (new : Host) : Type 0 where
 
 -- ---- a turn
 
+-- the next look is to be at all
 pub record AsksBeats (old : Host) (now number : ℕ) (new : Host) : Type 0 where
   pub due : BeatsAreDue old now
   pub opens : OpensOf OfBeats now number old.tickets new.tickets
-  pub rest : new ≡ record old { tickets = new.tickets; pulse = beats_asked now old.lease old.pulse }
+  pub rest : new ≡ record old {
+    tickets = new.tickets;
+    pulse = beats_asked now old.lease old.pulse;
+    news = record old.news { is_whole_due = true };
+  }
 
 -- no beats are due, but a look is
 pub record AsksNews (old : Host) (now number : ℕ) (look : Look) (new : Host) : Type 0 where
@@ -291,7 +296,9 @@ pub record HearsNews (old : Host) (now number : ℕ) (lengths : List Length) (ma
   pub ticket : Ticket
   pub is : ticket_of number old.tickets.waiting ≡ Some ticket
   pub of : ticket.of ≡ OfNews
-  pub hears : HearsAll old.takes_all lengths old.requests new.requests
+  pub heard : List Request
+  pub hears : HearsAll old.takes_all lengths old.requests heard
+  pub looked : new.requests ≡ looked_for (is_whole old.news.asked) lengths heard
   pub shuts : Shuts number old.tickets new.tickets
   pub rest : new ≡ record old { tickets = new.tickets; requests = new.requests; news = answered_by mark (later_by 200 now) old.news }
 

@@ -1,7 +1,7 @@
 -- The requests of a process.
-use Rattle.std.specs.Prelude.{◌≡◌, ◌≢◌, ℕ, ◌<◌, Bool, true, false, max, Option, Some, None, List, [], ◌∷◌, ◌++◌, length, slice_get, slice_set}
+use Rattle.std.specs.Prelude.{◌≡◌, ◌≢◌, ℕ, ◌<◌, ◌||◌, Bool, true, false, cond, eqb, max, not, Option, Some, None, List, [], ◌∷◌, ◌++◌, length, map, slice_get, slice_set}
 use Rattle.cf_part.specs.declared.question.Question.{Question}
-use Rattle.cf_part.specs.Parts.{Part}
+use Rattle.cf_part.specs.Parts.{Part, is_waited}
 use Rattle.cf_part.specs.Answers.{IsRunning}
 use Rattle.cf_turn.specs.Works.{Work}
 use Rattle.cf_host.specs.declared.request.Request.{Request}
@@ -49,6 +49,29 @@ hears_in words (Some w) = Some (told_length words w)
 -- the store told of so many words
 abbrev pub hears : ℕ → Request → Request
 hears words r = record r { words = max r.words words; work = hears_in words r.work }
+
+-- the row is to be read
+abbrev pub read_again : Work → Work
+read_again w = record w { part = record w.part { is_stale = true } }
+
+-- an answer tells of this number
+abbrev pub is_told : List Length → ℕ → Bool
+is_told [] number = false
+is_told (told ∷ lengths) number = eqb told.request number || is_told lengths number
+
+-- A look at all doesn't tell of a request that is closed, or isn't there any more. So the row of one of which it doesn't tell is read, but only
+-- while somebody waits for a stage of it. Where nobody waits it rests, however many looks come: whatever is put there later is answered.
+abbrev pub missed_in : List Length → ℕ → Option Work → Option Work
+missed_in lengths number None = None
+missed_in lengths number (Some w) = Some (cond (is_told lengths number || not (is_waited w.part.wanted)) w (read_again w))
+
+abbrev pub missed : List Length → Request → Request
+missed lengths r = record r { work = missed_in lengths r.number r.work }
+
+-- a look at all was answered, or one at what changed
+abbrev pub looked_for : Bool → List Length → List Request → List Request
+looked_for true lengths requests = map (missed lengths) requests
+looked_for false lengths requests = requests
 
 -- it is opened: this is to be done in it
 abbrev pub Begins : Work → Request → Request → Type 0

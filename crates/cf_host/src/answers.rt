@@ -12,7 +12,7 @@ use crate::answering::{is_close, is_put, is_read};
 use crate::clock::Reading;
 use crate::host::Host;
 use crate::order::NoAnswer;
-use crate::requests::{Length, hear_news, place_of};
+use crate::requests::{Length, hear_news, miss_all, place_of};
 use crate::ticket::{Asked, Ticket};
 use cf_notes::Note;
 use cf_part::{EndsWith, Entry, Part};
@@ -154,7 +154,8 @@ impl Host {
         Ok(())
     }
 
-    /// How many words stand in the requests that are new or have more, up to a mark of the store.
+    /// How many words stand in the requests that are new or have more, up to a mark of the store. Where all were looked at,
+    /// those that somebody waits for and that aren't among them are read.
     pub fn news(
         &mut self,
         now: u64,
@@ -173,6 +174,9 @@ impl Host {
         }
         if hear_news(&mut self.requests, lengths, self.takes_all).is_err() {
             return Err(NoAnswer::NoMemory);
+        }
+        if self.news.is_whole() {
+            miss_all(&mut self.requests, lengths);
         }
         self.news.take_answer(now, mark);
         self.tickets.close(ticket);

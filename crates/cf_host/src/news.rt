@@ -1,6 +1,6 @@
 //! When a process looks at what is new, and at what.
 ghost use Rattle.std.specs.Prelude.{◌≡◌, ◌≢◌, ◌⊎◌, ◌+◌, ◌<◌, ◌≤◌, IfNone, IfSome, None, Some, is_some, min, true};
-ghost use Rattle.cf_host.specs.News.{answered_by, asked_by, look_of, no_news, unanswered_by};
+ghost use Rattle.cf_host.specs.News.{answered_by, asked_by, is_whole, look_of, no_news, unanswered_by};
 
 use std::marker::Model;
 
@@ -55,6 +55,16 @@ impl News {
         self.asked.is_some()
     }
 
+    /// Whether a look at all is open.
+    pub fn is_whole(&self) -> bool
+        ensures { result ≡ is_whole self.now.asked }
+    {
+        match self.asked {
+            Some(Look::Whole) => true,
+            _ => false,
+        }
+    }
+
     /// When the next look is due, unless one is open.
     pub fn due(&self) -> u64
         ensures { result ≡ self.now.due }
@@ -98,7 +108,7 @@ impl News {
     pub fn take_silence(&mut self, now: u64)
         ensures { self.new ≡ unanswered_by (min (now + 20) u64.MAX) self.old }
     {
-        if let Some(Look::Whole) = self.asked {
+        if self.is_whole() {
             self.is_whole_due = true;
         }
         self.asked = None;

@@ -1,6 +1,6 @@
 //! The requests of a process.
-ghost use Rattle.std.specs.Prelude.{◌≡◌, ◌+◌, ◌<◌, ◌≤◌, IfNone, IfSome, OnErr, OnOk, length, vec_capacity};
-ghost use Rattle.cf_host.specs.Requests.{Follows, Hears, HearsAll, IsAt, NoneAt};
+ghost use Rattle.std.specs.Prelude.{◌≡◌, ◌+◌, ◌<◌, ◌≤◌, IfNone, IfSome, OnErr, OnOk, length, map, vec_capacity};
+ghost use Rattle.cf_host.specs.Requests.{Follows, Hears, HearsAll, IsAt, NoneAt, is_told, missed};
 
 use crate::request::Request;
 use std::alloc::AllocError;
@@ -76,4 +76,38 @@ fn hear(requests: &mut Vec<Request>, told: Length, takes_all: bool)
         None if takes_all => requests.push_reserved(Request::new(told.request, told.words)),
         None => {}
     }
+}
+
+/// Of these requests a look at all has told. Those of which it hasn't are to be read, where somebody waits for a stage.
+pub(crate) fn miss_all(requests: &mut [Request], lengths: &[Length])
+    ensures { requests.new ≡ map (missed lengths.now) requests.old }
+{
+    for request in requests.iter_mut() {
+        request.miss(lengths);
+    }
+}
+
+impl Request {
+    /// A look at all has told of these.
+    fn miss(&mut self, lengths: &[Length])
+        ensures { self.new ≡ missed lengths.now self.old }
+    {
+        if let Some(work) = &mut self.work {
+            if work.part().is_waited() && !is_told(lengths, self.number) {
+                work.reads_again();
+            }
+        }
+    }
+}
+
+/// Whether an answer tells of a request.
+fn is_told(lengths: &[Length], number: u64) -> bool
+    ensures { result ≡ is_told lengths.now number }
+{
+    for told in lengths {
+        if told.request == number {
+            return true;
+        }
+    }
+    false
 }

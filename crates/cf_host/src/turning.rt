@@ -59,7 +59,7 @@ impl Host {
         }
     }
 
-    /// Asks for the beats, where that is due.
+    /// Asks for the beats, where that is due. The next look is at all.
     fn beat(&mut self, now: u64) -> Option<Order>
         requires { IsReady self.old.tickets }
         ensures orders { IfSome result (λ order. Orders self.old now order self.new) }
@@ -70,6 +70,7 @@ impl Host {
             return None;
         }
         self.pulse = self.pulse.asked(now, self.lease);
+        self.news.want_all();
         let ticket = self.tickets.open(Asked::Beats, now);
         Some(Order::Beats {
             ticket: ticket.number,

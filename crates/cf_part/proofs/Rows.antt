@@ -25,7 +25,7 @@ use Rattle.cf_part.specs.Parts.{Part, call_in, no_value, owed_in, session_of}
 use Rattle.cf_part.specs.Steps.{Tells}
 use Rattle.cf_part.specs.Answers.{BreaksOff, Ends, Grows as GetsRoom, IsRunning, MismeetsBy, owed_after, owed_refused}
 use Rattle.cf_part.specs.Rows.{AreCalls, CallsOnce, IsApart, IsCall, IsFresh, IsOwed, KeepsOwed, Out, StopsOnce, all_calls, all_stops, nothing, out_of}
-use Rattle.cf_part.specs.Rows.IsCall.{tells, plans, asks, reads, misreads, lands, meets, mismeets, waits, refuses, closes, breaks, ends, wants, hears, grows as gets_room}
+use Rattle.cf_part.specs.Rows.IsCall.{tells, plans, asks, reads, misreads, lands, meets, mismeets, waits, refuses, closes, breaks, ends, wants, hears, grows as gets_room, reads_again}
 use Rattle.cf_part.proofs.Granted.{granted_stays}
 use Rattle.cf_part.proofs.Lists.{apart_append, contains_head, get_front, get_more, there_by}
 
@@ -295,6 +295,7 @@ effect old out new (ends i answer is running h) = subst (λ (o : Out). Effect ol
 effect old out new (wants i from is h) = effect_still old out new is (ap (λ (p : Part). p.row.replica) h) (ap (λ (p : Part). p.calls) h)
 effect old out new (hears words is h) = effect_still old out new is (ap (λ (p : Part). p.row.replica) h) (ap (λ (p : Part). p.calls) h)
 effect old out new (gets_room more is h) = effect_roomier old out new more is h
+effect old out new (reads_again is h) = effect_still old out new is (ap (λ (p : Part). p.row.replica) h) (ap (λ (p : Part). p.calls) h)
 
 -- ---- rows of calls
 
@@ -507,6 +508,7 @@ owed_call old out new i answer (ends j other is running h) o = owed_ends old new
 owed_call old out new i answer (wants j from is h) o = owed_same old new i answer (ap (λ (p : Part). p.calls) h) (ap (λ (p : Part). p.owed) h) o
 owed_call old out new i answer (hears words is h) o = owed_same old new i answer (ap (λ (p : Part). p.calls) h) (ap (λ (p : Part). p.owed) h) o
 owed_call old out new i answer (gets_room more is h) o = owed_roomier old new more i answer h o
+owed_call old out new i answer (reads_again is h) o = owed_same old new i answer (ap (λ (p : Part). p.calls) h) (ap (λ (p : Part). p.owed) h) o
 
 pub keeps_owed : KeepsOwed
 keeps_owed old new [] i answer o same = subst (λ (p : Part). IsOwed p i answer) (sym same) o

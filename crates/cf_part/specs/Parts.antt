@@ -1,5 +1,5 @@
 -- One process's part in one request.
-use Rattle.std.specs.Prelude.{◌≡◌, ℕ, ◌+◌, ◌*◌, ◌<◌, ◌≤◌, ◌||◌, ◌++◌, Bool, true, false, cond, min, Option, Some, None, List, [], is_some, length, map, nat_lt, replicate, slice_index_or}
+use Rattle.std.specs.Prelude.{◌≡◌, ℕ, ◌+◌, ◌*◌, ◌<◌, ◌≤◌, ◌||◌, ◌++◌, Bool, true, false, cond, min, Option, Some, None, List, [], is_some, length, map, nat_lt, replicate, slice_index_or, ◌∷◌}
 use Rattle.std.specs.declared.vec.Vec.{Vec}
 use Rattle.std.specs.Vec.{vec_capacity}
 use Rattle.cf_forms.specs.Plans.{Planned, with_room}
@@ -58,6 +58,11 @@ owed_in owed i = slice_index_or owed i None
 
 abbrev pub wanted_in : List (Option ℕ) → ℕ → Option ℕ
 wanted_in wanted i = slice_index_or wanted i None
+
+-- somebody waits for a stage
+abbrev pub is_waited : List (Option ℕ) → Bool
+is_waited [] = false
+is_waited (from ∷ wanted) = is_some from || is_waited wanted
 
 -- ---- what is kept
 

@@ -1,5 +1,5 @@
 -- Rows of a part's calls, and what may be concluded from any of them.
-use Rattle.std.specs.Prelude.{◌≡◌, ◌≢◌, ℕ, Bool, max, Option, Some, List, [], ◌∷◌, ◌++◌, All, Contains, slice_set}
+use Rattle.std.specs.Prelude.{◌≡◌, ◌≢◌, ℕ, Bool, max, Option, Some, List, [], ◌∷◌, ◌++◌, All, Contains, slice_set, true}
 use Rattle.cf_forms.specs.Plans.{Planned, with_room}
 use Rattle.cf_model.specs.States.{start}
 use Rattle.cf_ledger.specs.Ledgers.{AreTaken}
@@ -52,6 +52,7 @@ pub data IsCall (old : Part) (out : Out) (new : Part) : Type 0 where
   wants : (i : ℕ) (from : Option ℕ) → out ≡ nothing → new ≡ record old { wanted = slice_set old.wanted i from } → IsCall old out new
   hears : (words : ℕ) → out ≡ nothing → new ≡ record old { words = max old.words words } → IsCall old out new
   grows : (more : ℕ) → out ≡ nothing → Grows old more new → IsCall old out new
+  reads_again : out ≡ nothing → new ≡ record old { is_stale = true } → IsCall old out new
 
 -- a row of them
 abbrev pub AreCalls : Part → List Out → Part → Type 0

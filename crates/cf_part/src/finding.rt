@@ -6,6 +6,7 @@ ghost use Rattle.cf_ledger.specs.Ledgers.{stages_of as ledger_stages, state_of a
 ghost use Rattle.cf_row.specs.Grants.{IsGrantedTo};
 ghost use Rattle.cf_row.specs.Rows.{stages_of};
 ghost use Rattle.cf_part.specs.Answers.{IsRunningIn};
+ghost use Rattle.cf_part.specs.Parts.{is_waited};
 ghost use Rattle.cf_part.specs.Steps.{IsGrantedWith, IsToCall, IsToShow, IsToStop, NoneToCall, NoneToShow, NoneToStop, ShowsIn, grant_of, is_time};
 
 use crate::progress::Progress;
@@ -73,6 +74,18 @@ fn is_settled(ledger: &Ledger, stage: u16) -> bool
     ensures open { OnFalse result (outcome_at (ledger_state ledger.now) stage ≡ None) }
 {
     stage < ledger.stages() && ledger.outcome(stage).is_some()
+}
+
+/// Whether somebody waits for a stage.
+pub(crate) fn is_waited(wanted: &[Option<u64>]) -> bool
+    ensures { result ≡ is_waited wanted.now }
+{
+    for from in wanted {
+        if from.is_some() {
+            return true;
+        }
+    }
+    false
 }
 
 /// The lowest stage whose function runs and that is settled.

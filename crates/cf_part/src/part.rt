@@ -5,11 +5,11 @@ ghost use Rattle.cf_forms.specs.Plans.{has_place};
 ghost use Rattle.cf_row.specs.Puts.{IsNoPut};
 ghost use Rattle.cf_row.specs.Rows.{stages_of};
 ghost use Rattle.cf_notes.specs.Noting.{AreNotes};
-ghost use Rattle.cf_part.specs.Parts.{IsClose, IsPut, IsRead, MayPlan, later, most_wants, opened, question_of, seen_by, words_wanted};
+ghost use Rattle.cf_part.specs.Parts.{IsClose, IsPut, IsRead, MayPlan, is_waited, later, most_wants, opened, question_of, seen_by, words_wanted};
 ghost use Rattle.cf_part.specs.Steps.{ComesFirst, NothingToTell, Tells};
 ghost use Rattle.cf_part.specs.Answers.{Breaks, Closes, Ends, Grows, IsRunning, Lands, Meets, Mismeets, Misreads, PlansWords, Reads, Refuses, Waits};
 
-use crate::finding::{args_for, is_running, shown, to_call, to_show, to_stop};
+use crate::finding::{args_for, is_running, shown, to_call, to_show, to_stop, is_waited};
 use crate::growing::{add_more, find_places, grow_seen};
 use crate::progress::Progress;
 use crate::putting::{fault_after, refuse, write_entries, write_notes, write_wants, write_words};
@@ -281,6 +281,20 @@ impl Part {
         add_more(&mut self.owed, NO_VALUE, more);
         add_more(&mut self.wanted, None, more);
         Ok(())
+    }
+
+    /// Whether somebody waits for a stage.
+    pub fn is_waited(&self) -> bool
+        ensures { result ≡ is_waited self.now.wanted }
+    {
+        is_waited(&self.wanted)
+    }
+
+    /// The row is to be read, though the store has told of nothing more there.
+    pub fn reads_again(&mut self)
+        ensures { self.new ≡ record self.old { is_stale = true } }
+    {
+        self.is_stale = true;
     }
 
     /// Whether a put may be planned by now, or the close be asked for.

@@ -5,7 +5,7 @@ use Rattle.cf_part.specs.declared.question.Question.{Question}
 use Rattle.cf_part.specs.declared.step.Step.TheVariants.{Show as StepShow, Stop as StepStop, Call as StepCall}
 use Rattle.cf_part.specs.Parts.{Part}
 use Rattle.cf_part.specs.Rows.{AreCalls as AreCallsOfPart, IsCall as IsCallOfPart, Out, all_calls, all_of as all_of_part, all_stops, nothing, out_of}
-use Rattle.cf_part.specs.Rows.IsCall.{tells, plans, asks as part_asks, reads as part_reads, misreads as part_misreads, lands as part_lands, meets as part_meets, mismeets as part_mismeets, waits as part_waits, refuses as part_refuses, closes as part_closes, breaks as part_breaks, ends as part_ends, wants as part_wants, hears as part_hears, grows as part_gets_room}
+use Rattle.cf_part.specs.Rows.IsCall.{tells, plans, asks as part_asks, reads as part_reads, misreads as part_misreads, lands as part_lands, meets as part_meets, mismeets as part_mismeets, waits as part_waits, refuses as part_refuses, closes as part_closes, breaks as part_breaks, ends as part_ends, wants as part_wants, hears as part_hears, grows as part_gets_room, reads_again as part_reads_again}
 use Rattle.cf_turn.specs.declared.planning.Putting.{Putting}
 use Rattle.cf_turn.specs.declared.turn.Turn.{Turn}
 use Rattle.cf_turn.specs.declared.turn.Turn.TheVariants.{Tell, Show, Stop, Call, Ask}
@@ -15,7 +15,7 @@ use Rattle.cf_turn.specs.Works.{Work}
 use Rattle.cf_turn.specs.Turns.{Decides, Goes, IsPutOff, Moment, Puts, Rests, RestsBy, RestsWith, Turns, wants_of}
 use Rattle.cf_turn.specs.Answers.{RefusesPart}
 use Rattle.cf_turn.specs.Rows.{IsCall, WorksArePartsCalls, called_by, stopped_by}
-use Rattle.cf_turn.specs.Rows.IsCall.{turns, rests, finds, asks, ends, wants, hears, grows as gets_room, finishes, reads, misreads, lands, meets, mismeets, waits, refuses, closes, breaks}
+use Rattle.cf_turn.specs.Rows.IsCall.{turns, rests, finds, asks, ends, wants, hears, grows as gets_room, finishes, reads, misreads, lands, meets, mismeets, waits, refuses, closes, breaks, reads_again}
 
 -- ---- rows of the part's calls
 
@@ -121,6 +121,7 @@ makes old new out (ends end is h) = makes_none old.part new.part out is (ap (λ 
 makes old new out (wants i from is h) = makes_one old.part new.part out is (part_wants i from refl (ap (λ (w : Work). w.part) h))
 makes old new out (hears words is h) = makes_one old.part new.part out is (part_hears words refl (ap (λ (w : Work). w.part) h))
 makes old new out (gets_room more is h rest) = makes_one old.part new.part out is (part_gets_room more refl h)
+makes old new out (reads_again is h) = makes_one old.part new.part out is (part_reads_again refl (ap (λ (w : Work). w.part) h))
 makes old new out (finishes i answer is running h rest) = makes_one old.part new.part out is (part_ends i answer refl running h)
 makes old new out (reads entries notes is h rest) = makes_one old.part new.part out is (part_reads entries notes refl h)
 makes old new out (misreads now entries notes m is h rest) = makes_one old.part new.part out is (part_misreads now entries notes m refl h)

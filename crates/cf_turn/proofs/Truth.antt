@@ -34,7 +34,7 @@ use Rattle.cf_turn.specs.Works.{Work, ended_by, is_closed_in, new_work, told_by,
 use Rattle.cf_turn.specs.Turns.{Decides, DoesAct, Goes, IsPutOff, Moment, Puts, Rests, RestsBy, RestsWith, TakesStep, Turns, is_of_act, putting_for, putting_of}
 use Rattle.cf_turn.specs.Answers.{LandsWork, MeetsWork, RefusesPart, refused, wishes_standing}
 use Rattle.cf_turn.specs.Rows.{AreCalls, IsCall}
-use Rattle.cf_turn.specs.Rows.IsCall.{turns, rests, finds, asks, ends, wants, hears, grows as gets_room, finishes, reads, misreads, lands, meets, mismeets, waits, refuses, closes, breaks}
+use Rattle.cf_turn.specs.Rows.IsCall.{turns, rests, finds, asks, ends, wants, hears, grows as gets_room, finishes, reads, misreads, lands, meets, mismeets, waits, refuses, closes, breaks, reads_again}
 use Rattle.cf_turn.specs.Truth.{ActsAreToldTruly, AreCallsWhile, IsSo, IsSoOfEnd, IsSoOfWish, KeepsPut}
 use Rattle.cf_turn.proofs.PartCalls.{works_are_parts}
 use Rattle.cf_turn.proofs.Standing.{ActsFirst, AreSo, IsSoKept, begins_front, has_put, so_append, so_at, so_refused, so_remove, so_standing, stands_behind, stands_once}
@@ -356,6 +356,7 @@ keeps row old new out k put begins (ends end is h) = keeps_row row old new (ap (
 keeps row old new out k put begins (wants i from is h) = keeps_row row old new (ap (λ (w : Work). w.wishes) h) (ap (λ (w : Work). w.is_acting) h) (ap (λ (w : Work). w.part.row) h) k
 keeps row old new out k put begins (hears words is h) = keeps_row row old new (ap (λ (w : Work). w.wishes) h) (ap (λ (w : Work). w.is_acting) h) (ap (λ (w : Work). w.part.row) h) k
 keeps row old new out k put begins (gets_room more is h rest) = keeps_roomier row old new more h rest k
+keeps row old new out k put begins (reads_again is h) = keeps_row row old new (ap (λ (w : Work). w.wishes) h) (ap (λ (w : Work). w.is_acting) h) (ap (λ (w : Work). w.part.row) h) k
 keeps row old new out k put begins (finishes i answer is running h rest) = keeps_row row old new (ap (λ (w : Work). w.wishes) rest) (ap (λ (w : Work). w.is_acting) rest) (ap (λ (p : Part). p.row) h) k
 keeps row old new out k put begins (reads entries notes is h rest) = keeps_free row old new rest k
 keeps row old new out k put begins (misreads now entries notes m is h rest) = keeps_free row old new rest k

@@ -1,5 +1,5 @@
 -- Rows of a work's calls, and what may be concluded from any of them.
-use Rattle.std.specs.Prelude.{◌≡◌, ◌≢◌, ℕ, ◌-◌, Bool, false, max, Option, Some, None, List, [], ◌∷◌, ◌++◌, All, slice_set}
+use Rattle.std.specs.Prelude.{◌≡◌, ◌≢◌, ℕ, ◌-◌, Bool, false, max, Option, Some, None, List, [], ◌∷◌, ◌++◌, All, slice_set, true}
 use Rattle.cf_forms.specs.Plans.{Planned, with_room}
 use Rattle.cf_model.specs.States.{start}
 use Rattle.cf_ledger.specs.Ledgers.{AreTaken}
@@ -34,6 +34,7 @@ pub data IsCall (old : Work) (out : Option Turn) (new : Work) : Type 0 where
   wants : (i : ℕ) (from : Option ℕ) → out ≡ None → new ≡ record old { part = record old.part { wanted = slice_set old.part.wanted i from } } → IsCall old out new
   hears : (words : ℕ) → out ≡ None → new ≡ record old { part = record old.part { words = max old.part.words words } } → IsCall old out new
   grows : (more : ℕ) → out ≡ None → Grows old.part more new.part → (new ≡ record old { part = new.part }) → IsCall old out new
+  reads_again : out ≡ None → new ≡ record old { part = record old.part { is_stale = true } } → IsCall old out new
   finishes : (i : ℕ) (answer : EndsWith) → out ≡ None → IsRunning old.part i → Ends old.part i answer new.part → (new ≡ record old { part = new.part }) → IsCall old out new
   reads : (entries : List Entry) (notes : List Note) → out ≡ None → Reads old.part entries notes new.part → IsFreed old new → IsCall old out new
   misreads : (now : ℕ) (entries : List Entry) (notes : List Note) (m : Misfit) → out ≡ None → Misreads old.part now entries notes m new.part → IsFreed old new → IsCall old out new

@@ -164,6 +164,13 @@ impl Work {
         self.part.told_length(words);
     }
 
+    /// The row is to be read, though the store has told of nothing more there.
+    pub fn reads_again(&mut self)
+        ensures { self.new ≡ record self.old { part = record self.old.part { is_stale = true } } }
+    {
+        self.part.reads_again();
+    }
+
     /// The function of a stage has ended.
     pub fn ended(&mut self, stage: u16, answer: EndsWith)
         requires { IsRunning self.old.part stage }

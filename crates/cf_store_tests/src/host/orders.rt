@@ -5,7 +5,7 @@ use cf_forms::{Args, Form};
 use cf_host::{Host, Length, Look, NoAnswer, NoCall, Order};
 use cf_notes::{EndsWith, Note};
 use cf_outcome::{Outcome, Value};
-use cf_part::{Question, Shown};
+use cf_part::{Fault, Question, Shown};
 use cf_plan::{Plan, PlanBuilder};
 use cf_turn::Told;
 use std::alloc::Global;
@@ -274,8 +274,52 @@ const TIMES: [Move; 17] = [
     Tells(100, Order::Beats { ticket: 7 }),
 ];
 
+/// A look at all is due with each beat. A request that somebody waits for, and of which it doesn't tell, is read: it was
+/// dropped.
+const MISSES: [Move; 18] = [
+    Stops,
+    Tells(0, BEATS),
+    Tells(0, NEWS),
+    Beats(0, 1),
+    News(2, 1),
+    Tells(0, OPEN),
+    Opened(3),
+    Wants(9),
+    Tells(0, READ),
+    Reads(4),
+    Tells(0, Order::Sleep { until: 200 }),
+    Tells(2000, Order::Beats { ticket: 5 }),
+    Tells(
+        2000,
+        Order::News {
+            ticket: 6,
+            look: Look::Whole,
+        },
+    ),
+    Beats(2000, 5),
+    News(6, 0),
+    Tells(
+        2000,
+        Order::Row {
+            ticket: 7,
+            request: 9,
+            question: Question::Read { at: 0 },
+        },
+    ),
+    Drops(7),
+    Tells(
+        0,
+        Order::Show {
+            request: 9,
+            stage: 0,
+            shown: Shown::Fault(Fault::Dropped),
+        },
+    ),
+];
+
 /// What is done, by name.
-static CASES: [(&str, &[Move]); 4] = [
+static CASES: [(&str, &[Move]); 5] = [
+    ("misses", &MISSES),
     ("works", &WORKS),
     ("shares", &SHARES),
     ("waits", &WAITS),
