@@ -17,7 +17,7 @@ use Rattle.cf_host.specs.declared.ticket.Asked.{Asked}
 use Rattle.cf_host.specs.declared.ticket.Asked.TheVariants.{Beats as OfBeats, News as OfNews, Open as OfOpen, Row as OfRow, Call as OfCall, Act as OfAct}
 use Rattle.cf_host.specs.Hosts.{Host, Lacks, Loses, Orders, OrdersTurn}
 use Rattle.cf_host.specs.Laws.{CallsOnce, ComesTo, IsCall, called_in, calls_of}
-use Rattle.cf_host.specs.Laws.IsCall.{turns, follows, acts, ends, wants, stirs, stops, opens, hears, lands, refuses, closes, beats, news, lacks, loses, finishes}
+use Rattle.cf_host.specs.Laws.IsCall.{turns, follows, acts, ends, wants, grows, stirs, stops, opens, hears, lands, refuses, closes, beats, news, lacks, loses, finishes}
 use Rattle.cf_host.specs.Requests.{NoneAt}
 use Rattle.cf_host.specs.Tickets.{Tickets}
 use Rattle.cf_host.proofs.Worked.{Begun, Kept, Moves, begins, goes, stays}
@@ -199,6 +199,7 @@ call_session old out new (follows request is f) = ap (λ (h : Host). h.session) 
 call_session old out new (acts now request number until act is a) = ap (λ (h : Host). h.session) a.rest
 call_session old out new (ends now request number until is a) = ap (λ (h : Host). h.session) a.rest
 call_session old out new (wants request stage is_wanted is a) = ap (λ (h : Host). h.session) a.rest
+call_session old out new (grows request more is a) = ap (λ (h : Host). h.session) a.rest
 call_session old out new (stirs due is e) = ap (λ (h : Host). h.session) e
 call_session old out new (stops is e) = ap (λ (h : Host). h.session) e
 call_session old out new (opens plan notes room number is_flow is a) = ap (λ (h : Host). h.session) a.rest

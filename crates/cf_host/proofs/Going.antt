@@ -6,7 +6,7 @@ use Rattle.cf_part.specs.declared.question.Fault.TheVariants.{Dropped}
 use Rattle.cf_part.specs.Parts.{opened}
 use Rattle.cf_turn.specs.declared.turn.Turn.{Turn}
 use Rattle.cf_turn.specs.Rows.{IsCall as IsCallOfWork}
-use Rattle.cf_turn.specs.Rows.IsCall.{turns as TurnsOf, rests as RestsOf, finds as FindsOf, asks as AsksOf, ends as EndsOf, wants as WantsOf, hears as HearsOf, reads_again as ReadsAgainOf, finishes as FinishesOf, reads as ReadsOf, misreads as MisreadsOf, lands as LandsOf, meets as MeetsOf, mismeets as MismeetsOf, waits as WaitsOf, refuses as RefusesOf, closes as ClosesOf, breaks as BreaksOf}
+use Rattle.cf_turn.specs.Rows.IsCall.{turns as TurnsOf, rests as RestsOf, finds as FindsOf, asks as AsksOf, ends as EndsOf, wants as WantsOf, hears as HearsOf, reads_again as ReadsAgainOf, finishes as FinishesOf, reads as ReadsOf, misreads as MisreadsOf, lands as LandsOf, meets as MeetsOf, mismeets as MismeetsOf, waits as WaitsOf, refuses as RefusesOf, closes as ClosesOf, breaks as BreaksOf, grows as GrowsOf}
 use Rattle.cf_turn.specs.Turns.{Moment, Turns}
 use Rattle.cf_turn.specs.Works.{Work, new_work}
 use Rattle.cf_host.specs.declared.order.Order.{Order}
@@ -17,11 +17,11 @@ use Rattle.cf_host.specs.declared.ticket.Asked.TheVariants.{Beats as OfBeats, Ne
 use Rattle.cf_host.specs.declared.ticket.Ticket.{Ticket}
 use Rattle.cf_host.specs.Answering.{Breaking, Closing, Hearing, Landing, Meeting, Reading, Refusing, Waiting}
 use Rattle.cf_host.specs.Answering.Hearing.{read as HearsRead, put as HearsPut}
-use Rattle.cf_host.specs.Asking.{Asking, CallEnding, Ending, Wanting}
+use Rattle.cf_host.specs.Asking.{Asking, CallEnding, Ending, Growing, Wanting}
 use Rattle.cf_host.specs.Hosts.{Answers, AnswersRow, Host, IsDropped, IsOpened, Lacks, Loses, OnRequest, OnRequestFor, Orders, OrdersTurn, StaysShut, WorksOn, moment_in}
 use Rattle.cf_host.specs.Keeping.{ClosesRow}
 use Rattle.cf_host.specs.Laws.{IsCall}
-use Rattle.cf_host.specs.Laws.IsCall.{turns, follows, acts, ends, wants, stirs, stops, opens, hears, lands, refuses, closes, beats, news, lacks, loses, finishes}
+use Rattle.cf_host.specs.Laws.IsCall.{turns, follows, acts, ends, wants, stirs, stops, opens, hears, lands, refuses, closes, beats, news, lacks, loses, finishes, grows}
 use Rattle.cf_host.specs.News.{is_whole}
 use Rattle.cf_host.specs.Requests.{OnWork, told_length}
 use Rattle.cf_host.specs.Tickets.{Opens, Tickets}
@@ -66,6 +66,7 @@ IsMeant old out new n w v o (EndsOf end is h) = OpensAct n end.number old.ticket
 IsMeant old out new n w v o (WantsOf i from is h) = OnRequest (Wanting i from) n old new
 IsMeant old out new n w v o (HearsOf words is h) = Unit {0}
 IsMeant old out new n w v o (ReadsAgainOf is h) = Unit {0}
+IsMeant old out new n w v o (GrowsOf more is h rest) = OnRequest (Growing more) n old new
 IsMeant old out new n w v o (FinishesOf i answer is running h rest) = Unit {0}
 IsMeant old out new n w v o (ReadsOf entries notes is h rest) = ClosesRow n old out new
 IsMeant old out new n w v o (MisreadsOf now entries notes m is h rest) = ClosesRow n old out new
@@ -254,6 +255,10 @@ call_kept old out new own c words k (wants request stage from is a) =
     let quiet = else_none out is in
     let its : OnRequest (Wanting stage from) a.at.request.number old new = subst (λ (n : ℕ). OnRequest (Wanting stage from) n old new) (sym a.at.named) a in
     user_kept (Wanting stage from) request old out new c quiet k a (λ w v h. went (unordered quiet) (WantsOf stage from refl h.rest) its)
+call_kept old out new own c words k (grows request more is a) =
+    let quiet = else_none out is in
+    let its : OnRequest (Growing more) a.at.request.number old new = subst (λ (n : ℕ). OnRequest (Growing more) n old new) (sym a.at.named) a in
+    user_kept (Growing more) request old out new c quiet k a (λ w v h. went (unordered quiet) (GrowsOf more refl h.part h.rest) its)
 call_kept old out new own c words k (stirs due is e) = same_kept old out new c (else_none out is) (ap (λ (h : Host). h.requests) e) k
 call_kept old out new own c words k (stops is e) = same_kept old out new c (else_none out is) (ap (λ (h : Host). h.requests) e) k
 call_kept old out new own c words k (opens plan notes room number is_flow is a) =

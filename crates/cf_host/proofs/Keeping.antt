@@ -11,14 +11,14 @@ use Rattle.cf_model.specs.States.{outcome_at}
 use Rattle.cf_part.specs.declared.question.Fault.{Fault}
 use Rattle.cf_part.specs.Parts.{state_in, wanted_in}
 use Rattle.cf_part.specs.Steps.{NoneToShow, is_time}
-use Rattle.cf_part.proofs.Lists.{there_by}
+use Rattle.cf_part.proofs.Lists.{get_more, there_by}
 use Rattle.cf_turn.specs.declared.turn.Turn.{Turn}
 use Rattle.cf_turn.specs.declared.turn.Turn.TheVariants.{Tell as TellTurn, Show as ShowTurn, Stop as StopTurn, Call as CallTurn, Ask as AskTurn}
 use Rattle.cf_turn.specs.declared.wish.End.{End}
 use Rattle.cf_turn.specs.declared.wish.Told.{Told}
 use Rattle.cf_turn.specs.declared.wish.Wish.{Wish}
 use Rattle.cf_turn.specs.Rows.{IsCall as IsCallOfWork}
-use Rattle.cf_turn.specs.Rows.IsCall.{asks as AsksOf, ends as EndsOf, wants as WantsOf}
+use Rattle.cf_turn.specs.Rows.IsCall.{asks as AsksOf, ends as EndsOf, wants as WantsOf, grows as GrowsOf}
 use Rattle.cf_turn.specs.Turns.{Rests}
 use Rattle.cf_turn.specs.Works.{Work}
 use Rattle.cf_host.specs.declared.order.Order.{Order}
@@ -73,6 +73,8 @@ wanted_set request stage i None old out new w v same meant h = elim (eqb_tells s
 wanted_call : (request stage : ℕ) (old : Host) (out : Option Order) (new : Host) (w v : Work) (call : IsCallOfWork w None v) → IsMeant old out new request w v None call → KeepsWanted w v None call → Wants stage w →
     Wants stage v ⊎ EndsWanting old out new request stage
 wanted_call request stage old out new w v (WantsOf i b is rest) meant same h = wanted_set request stage i b old out new w v same meant h
+wanted_call request stage old out new w v (GrowsOf more is grown rest) meant same h =
+    inl (h.0, ap (λ (l : List (Option ℕ)). wanted_in l stage) same ∙ get_more w.part.wanted None more stage ∙ h.1)
 wanted_call request stage old out new w v call meant same h = inl (wanted_same stage w v same h)
 
 wanted_does : (request stage : ℕ) (old : Host) (out : Option Order) (new : Host) (w v : Work) → Wants stage w → Does (Of request (Wants stage)) old out new request w v → Wants stage v ⊎ EndsWanting old out new request stage

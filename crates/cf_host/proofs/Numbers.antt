@@ -10,7 +10,7 @@ use Rattle.cf_host.specs.declared.ticket.Asked.TheVariants.{Beats as OfBeats, Ne
 use Rattle.cf_host.specs.declared.ticket.Ticket.{Ticket}
 use Rattle.cf_host.specs.Hosts.{Host, Lacks, Loses, Orders, OrdersTurn, WorksOn}
 use Rattle.cf_host.specs.Laws.{ComesTo, IsCall}
-use Rattle.cf_host.specs.Laws.IsCall.{turns, follows, acts, ends, wants, stirs, stops, opens, hears, lands, refuses, closes, beats, news, lacks, loses, finishes}
+use Rattle.cf_host.specs.Laws.IsCall.{turns, follows, acts, ends, wants, grows, stirs, stops, opens, hears, lands, refuses, closes, beats, news, lacks, loses, finishes}
 use Rattle.cf_host.specs.Tickets.{AreSame, Opens, Shuts, Tickets, ticket_of, without}
 use Rattle.cf_host.proofs.Answered.{AreLow, low_more}
 
@@ -69,6 +69,7 @@ call_goes old out new (follows request is f) = kept_by old new _ f.rest refl
 call_goes old out new (acts now request number until act is a) = adds a.opens.ticket a.opens.opens
 call_goes old out new (ends now request number until is a) = adds a.opens.ticket a.opens.opens
 call_goes old out new (wants request stage is_wanted is a) = kept_by old new _ a.rest refl
+call_goes old out new (grows request more is a) = kept_by old new _ a.rest refl
 call_goes old out new (stirs due is e) = kept_by old new _ e refl
 call_goes old out new (stops is e) = kept_by old new _ e refl
 call_goes old out new (opens plan notes room number is_flow is a) = drops number a.shuts

@@ -2,7 +2,7 @@
 use Rattle.std.proofs.Common.{◌≡◌, ◌≢◌, ℕ, ◌⊎◌, inl, inr, Option, Some, None, List, [], ◌∷◌, ◌++◌, All, refl, ap, sym, ◌∙◌, subst, arith}
 use Rattle.std.specs.Prelude.{slice_get}
 use Rattle.std.proofs.lemmas.List.Elements.{All-cons, All-head, All-nil, All-tail}
-use Rattle.cf_forms.specs.Plans.{Planned}
+use Rattle.cf_forms.specs.Plans.{Planned, with_room}
 use Rattle.cf_row.specs.declared.entry.Entry.{Entry}
 use Rattle.cf_part.specs.Parts.{session_of}
 use Rattle.cf_part.specs.Rows.{IsApart}
@@ -44,10 +44,15 @@ MayRun plan row session calls = HasRun plan row session calls ⊎ (calls ≡ [])
 run_of : WorksArePartsCalls → (plan : Planned) (row : List Entry) (session : ℕ) (calls : List ℕ) (w : Work) → IsWorked session calls w → IsToldTruly plan row w.part → HasRun plan row session calls
 run_of parts plan row session calls w h told =
     let p = parts h.first w h.turns h.are in
-    let grows = (effects h.first.part p.parts w.part p.are).grows in
+    let grown = (effects h.first.part p.parts w.part p.are).grows in
     record {
       run = record { first = h.first; last = w; outs = h.turns };
-      is = record { plan_is = sym grows.plan ∙ told.plan_is; calls = h.are; true_seen = told.true_seen };
+      is = record {
+        plan_is = ap (λ (p : Planned). with_room p h.first.part.row.replica.plan.room) (sym grown.plan ∙ told.plan_is);
+        calls = h.are;
+        true_seen = told.true_seen;
+        taken = told.taken;
+      };
       own = begun_session calls w h;
       called = h.told;
     }

@@ -1,22 +1,24 @@
 -- What is seen comes by answers.
 use Rattle.std.proofs.Common.{◌≡◌, ℕ, Option, Some, None, refl, ap, sym, ◌∙◌, subst}
 use Rattle.std.specs.Prelude.{slice_get}
+use Rattle.cf_forms.specs.Plans.{Planned, with_room}
 use Rattle.cf_turn.specs.declared.turn.Turn.{Turn}
 use Rattle.cf_turn.specs.declared.turn.Turn.TheVariants.{Tell as TellTurn, Show as ShowTurn, Stop as StopTurn, Call as CallTurn, Ask as AskTurn}
 use Rattle.cf_turn.specs.Rows.{IsCall as IsCallOfWork}
-use Rattle.cf_turn.specs.Rows.IsCall.{reads as ReadsOf, misreads as MisreadsOf, lands as LandsOf, meets as MeetsOf, mismeets as MismeetsOf}
+use Rattle.cf_turn.specs.Rows.IsCall.{reads as ReadsOf, misreads as MisreadsOf, lands as LandsOf, meets as MeetsOf, mismeets as MismeetsOf, grows as GrowsOf}
 use Rattle.cf_turn.specs.Works.{Work}
 use Rattle.cf_host.specs.declared.order.Order.{Order}
 use Rattle.cf_host.specs.declared.request.Request.{Request}
-use Rattle.cf_host.specs.Hosts.{Host}
+use Rattle.cf_host.specs.Hosts.{Host, OnRequest}
+use Rattle.cf_host.specs.Asking.{Growing}
 use Rattle.cf_host.specs.Keeping.{ComesToSee, SeesByAnswers}
-use Rattle.cf_host.specs.Keeping.ComesToSee.{stays as SeeStays, begins as SeeBegins, answers as SeeAnswers}
+use Rattle.cf_host.specs.Keeping.ComesToSee.{stays as SeeStays, grows as SeeGrows, begins as SeeBegins, answers as SeeAnswers}
 use Rattle.cf_host.specs.Requests.{IsAt}
 use Rattle.cf_host.proofs.CalledOnce.{kept_all, same_sessions}
 use Rattle.cf_host.proofs.Effects.{Anyhow, Heard}
 use Rattle.cf_host.proofs.Going.{CarriesOn, CarriesWords, Does, IsMeant, Still, call_kept, turned, went}
 use Rattle.cf_host.proofs.Processes.{first_at}
-use Rattle.cf_host.proofs.Steady.{KeepsSeen, SeesSame, TurnSteady, keeps_seen, turn_steady}
+use Rattle.cf_host.proofs.Steady.{KeepsSeen, SeesRoomier, SeesSame, TurnSteady, keeps_seen, turn_steady}
 use Rattle.cf_host.proofs.Worked.{AreApart, Begun, Kept, Moves, begins, goes, stays}
 
 abbrev Holds : ℕ → Host → Option Order → Host → ℕ → Option Work → Type 0
@@ -25,8 +27,19 @@ Holds request old out new n (Some w) = n ≡ request → ComesToSee request old 
 
 see_on : (request : ℕ) (old : Host) (out : Option Order) (new : Host) (w v : Work) → SeesSame w v → ComesToSee request old out new w → ComesToSee request old out new v
 see_on request old out new w v same (SeeStays before at plan seen) = SeeStays before at (same.plan ∙ plan) (same.seen ∙ seen)
+see_on request old out new w v same (SeeGrows before more at meant plan seen) =
+    SeeGrows before more at meant (same.plan ∙ plan ∙ ap (λ (p : Planned). with_room before.part.row.replica.plan p.room) (sym same.plan)) (same.seen ∙ seen)
 see_on request old out new w v same (SeeBegins seen) = SeeBegins (same.seen ∙ seen)
 see_on request old out new w v same (SeeAnswers row) = SeeAnswers row
+
+-- with more room
+see_roomier : (request more : ℕ) (old : Host) (out : Option Order) (new : Host) (w v : Work) → OnRequest (Growing more) request old new → SeesRoomier w v → ComesToSee request old out new w → ComesToSee request old out new v
+see_roomier request more old out new w v meant same (SeeStays before at plan seen) =
+    SeeGrows before more at meant (same.plan ∙ ap (λ (p : Planned). with_room p v.part.row.replica.plan.room) plan) (same.seen ∙ seen)
+see_roomier request more old out new w v meant same (SeeGrows before other at meant' plan seen) =
+    SeeGrows before more at meant (same.plan ∙ ap (λ (p : Planned). with_room p v.part.row.replica.plan.room) plan) (same.seen ∙ seen)
+see_roomier request more old out new w v meant same (SeeBegins seen) = SeeBegins (same.seen ∙ seen)
+see_roomier request more old out new w v meant same (SeeAnswers row) = SeeAnswers row
 
 turn_sees : (t : Turn) (w v : Work) → TurnSteady t w v → SeesSame w v
 turn_sees (TellTurn n told) w v same = record { plan = same.part.plan; seen = same.part.seen }
@@ -42,6 +55,7 @@ went_sees request old out new w v (MisreadsOf now entries notes m is h rest) mea
 went_sees request old out new w v (LandsOf is h) meant same see = SeeAnswers meant
 went_sees request old out new w v (MeetsOf entries notes landed is h) meant same see = SeeAnswers meant
 went_sees request old out new w v (MismeetsOf now entries notes m is h) meant same see = SeeAnswers meant
+went_sees request old out new w v (GrowsOf more is h rest) meant same see = see_roomier request more old out new w v meant same see
 went_sees request old out new w v call meant same see = see_on request old out new w v same see
 
 does_see : {holds : ℕ → Option Work → Type 0} → (request : ℕ) (old : Host) (out : Option Order) (new : Host) (w v : Work) → ComesToSee request old out new w → Does holds old out new request w v → ComesToSee request old out new v

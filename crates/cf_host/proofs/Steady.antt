@@ -1,7 +1,8 @@
 -- What a work's calls leave as it was.
-use Rattle.std.proofs.Common.{◌≡◌, ℕ, inl, inr, Bool, true, false, cond, Option, Some, None, List, [], ◌∷◌, ◌++◌, map, refl, ap, ◌∙◌}
+use Rattle.std.proofs.Common.{◌≡◌, ℕ, ◌+◌, inl, inr, Bool, true, false, cond, Option, Some, None, List, [], ◌∷◌, ◌++◌, map, replicate, refl, ap, sym, ◌∙◌}
 use Rattle.std.specs.Prelude.{slice_get, slice_set}
 use Rattle.std.specs.List.{remove}
+use Rattle.cf_forms.specs.Plans.{Planned, with_room}
 use Rattle.cf_ledger.specs.declared.faults.LedgerFault.{LedgerFault}
 use Rattle.cf_ledger.specs.declared.faults.LedgerFault.TheVariants.{NoMemory, NoEvent, NoStage, NoRoom}
 use Rattle.cf_row.specs.declared.entry.Entry.{Entry}
@@ -10,7 +11,7 @@ use Rattle.cf_notes.specs.declared.note.Note.{Note}
 use Rattle.cf_part.specs.declared.question.Question.{Question}
 use Rattle.cf_part.specs.declared.question.PutOf.{PutOf}
 use Rattle.cf_notes.specs.declared.wants.Want.{Want}
-use Rattle.cf_part.specs.Answers.{MismeetsBy, PlansWords, Waits}
+use Rattle.cf_part.specs.Answers.{Grows, MismeetsBy, PlansWords, Waits}
 use Rattle.cf_part.specs.Parts.{Part}
 use Rattle.cf_turn.specs.declared.turn.Turn.{Turn}
 use Rattle.cf_turn.specs.declared.turn.Turn.TheVariants.{Tell, Show, Stop, Call, Ask}
@@ -19,7 +20,7 @@ use Rattle.cf_turn.specs.declared.wish.Told.{Told}
 use Rattle.cf_turn.specs.declared.wish.Wish.{Wish}
 use Rattle.cf_turn.specs.Answers.{RefusesPart, refused, settled, wishes_standing}
 use Rattle.cf_turn.specs.Rows.{IsCall}
-use Rattle.cf_turn.specs.Rows.IsCall.{turns as TurnsOf, rests as RestsOf, finds as FindsOf, asks as AsksOf, ends as EndsOf, wants as WantsOf, hears as HearsOf, reads_again as ReadsAgainOf, finishes as FinishesOf, reads as ReadsOf, misreads as MisreadsOf, lands as LandsOf, meets as MeetsOf, mismeets as MismeetsOf, waits as WaitsOf, refuses as RefusesOf, closes as ClosesOf, breaks as BreaksOf}
+use Rattle.cf_turn.specs.Rows.IsCall.{turns as TurnsOf, rests as RestsOf, finds as FindsOf, asks as AsksOf, ends as EndsOf, wants as WantsOf, hears as HearsOf, reads_again as ReadsAgainOf, finishes as FinishesOf, reads as ReadsOf, misreads as MisreadsOf, lands as LandsOf, meets as MeetsOf, mismeets as MismeetsOf, waits as WaitsOf, refuses as RefusesOf, closes as ClosesOf, breaks as BreaksOf, grows as GrowsOf}
 use Rattle.cf_turn.specs.Turns.{Decides, Goes, Moment, Rests, RestsBy, RestsWith, Turns}
 use Rattle.cf_turn.specs.Works.{Work, answered_first}
 use Rattle.cf_host.specs.Keeping.{asked_by}
@@ -216,9 +217,10 @@ refuses_wanted : (b : Bool) (old new : Part) (now : ℕ) → RefusesPart b old n
 refuses_wanted true old new now h = ap (λ (p : Part). p.wanted) h
 refuses_wanted false old new now h = ap (λ (p : Part). p.wanted) h
 
--- a call that isn't a turn: somebody waits for a stage, or doesn't any more; or those that are waited for stay so
+-- a call that isn't a turn: somebody waits for a stage, or doesn't any more; nobody waits for those for which there is room; or those that are waited for stay so
 abbrev pub KeepsWanted : (w v : Work) (o : Option Turn) → IsCall w o v → Type 0
 KeepsWanted w v o (WantsOf i from is h) = v.part.wanted ≡ slice_set w.part.wanted i from
+KeepsWanted w v o (GrowsOf more is h rest) = v.part.wanted ≡ w.part.wanted ++ replicate more None
 KeepsWanted w v o call = v.part.wanted ≡ w.part.wanted
 
 pub keeps_wanted : (w v : Work) (call : IsCall w None v) → KeepsWanted w v None call
@@ -230,6 +232,7 @@ keeps_wanted w v (EndsOf end is h) = ap (λ (x : Work). x.part.wanted) h
 keeps_wanted w v (WantsOf i is_wanted is h) = ap (λ (x : Work). x.part.wanted) h
 keeps_wanted w v (HearsOf words is h) = ap (λ (x : Work). x.part.wanted) h
 keeps_wanted w v (ReadsAgainOf is h) = ap (λ (x : Work). x.part.wanted) h
+keeps_wanted w v (GrowsOf more is h rest) = ap (λ (p : Part). p.wanted) h.rest
 keeps_wanted w v (FinishesOf i answer is running h rest) = ap (λ (p : Part). p.wanted) h
 keeps_wanted w v (ReadsOf entries notes is h rest) = ap (λ (p : Part). p.wanted) h.rest
 keeps_wanted w v (MisreadsOf now entries notes m is h rest) = ap (λ (p : Part). p.wanted) h.rest
@@ -264,6 +267,7 @@ keeps_asked w v (EndsOf end is h) = (ap (λ (x : Work). end_numbers x.ends) h �
 keeps_asked w v (WantsOf i is_wanted is h) = asks_as w v (ap (λ (x : Work). x.wishes) h) (ap (λ (x : Work). x.ends) h)
 keeps_asked w v (HearsOf words is h) = asks_as w v (ap (λ (x : Work). x.wishes) h) (ap (λ (x : Work). x.ends) h)
 keeps_asked w v (ReadsAgainOf is h) = asks_as w v (ap (λ (x : Work). x.wishes) h) (ap (λ (x : Work). x.ends) h)
+keeps_asked w v (GrowsOf more is h rest) = asks_as w v (ap (λ (x : Work). x.wishes) rest) (ap (λ (x : Work). x.ends) rest)
 keeps_asked w v (FinishesOf i answer is running h rest) = asks_as w v (ap (λ (x : Work). x.wishes) rest) (ap (λ (x : Work). x.ends) rest)
 keeps_asked w v (ReadsOf entries notes is h rest) = asks_as w v (ap (λ (x : Work). x.wishes) rest) (ap (λ (x : Work). x.ends) rest)
 keeps_asked w v (MisreadsOf now entries notes m is h rest) = asks_as w v (ap (λ (x : Work). x.wishes) rest) (ap (λ (x : Work). x.ends) rest)
@@ -275,9 +279,13 @@ keeps_asked w v (RefusesOf now is h) = refused_asks w.is_acting w.is_doubtful w 
 keeps_asked w v (ClosesOf is_closed is h) = asks_as w v (ap (λ (x : Work). x.wishes) h.rest) (ap (λ (x : Work). x.ends) h.rest)
 keeps_asked w v (BreaksOf fault is h rest) = asks_as w v (ap (λ (x : Work). x.wishes) rest) (ap (λ (x : Work). x.ends) rest)
 
--- the same is seen of the same plan; or nothing is said of a call by which more is seen
+-- the same is seen of the same plan, or of one with another room; or nothing is said of a call by which more is seen
 pub record SeesSame (w v : Work) : Type 0 where
   pub plan : v.part.row.replica.plan ≡ w.part.row.replica.plan
+  pub seen : v.part.row.replica.seen ≡ w.part.row.replica.seen
+
+pub record SeesRoomier (w v : Work) : Type 0 where
+  pub plan : v.part.row.replica.plan ≡ with_room w.part.row.replica.plan v.part.row.replica.plan.room
   pub seen : v.part.row.replica.seen ≡ w.part.row.replica.seen
 
 abbrev pub KeepsSeen : (w v : Work) (o : Option Turn) → IsCall w o v → Type 0
@@ -286,6 +294,7 @@ KeepsSeen w v o (MisreadsOf now entries notes m is h rest) = Unit {0}
 KeepsSeen w v o (LandsOf is h) = Unit {0}
 KeepsSeen w v o (MeetsOf entries notes landed is h) = Unit {0}
 KeepsSeen w v o (MismeetsOf now entries notes m is h) = Unit {0}
+KeepsSeen w v o (GrowsOf more is h rest) = SeesRoomier w v
 KeepsSeen w v o call = SeesSame w v
 
 same_seen : (w v : Work) (p : Part) → v.part ≡ p → p.row.replica.plan ≡ w.part.row.replica.plan → p.row.replica.seen ≡ w.part.row.replica.seen → SeesSame w v
@@ -294,6 +303,14 @@ same_seen w v p is plan seen = record { plan = ap (λ (x : Part). x.row.replica.
 refuses_seen : (b : Bool) (w v : Work) (now : ℕ) → RefusesPart b w.part now v.part → SeesSame w v
 refuses_seen true w v now h = same_seen w v _ h refl refl
 refuses_seen false w v now h = same_seen w v _ h refl refl
+
+roomier_seen : (w v : Work) (more : ℕ) → Grows w.part more v.part → SeesRoomier w v
+roomier_seen w v more h =
+    let plan : v.part.row.replica.plan ≡ with_room w.part.row.replica.plan (w.part.row.replica.plan.room + more) = ap (λ (p : Part). p.row.replica.plan) h.rest in
+    record {
+      plan = plan ∙ ap (λ (n : ℕ). with_room w.part.row.replica.plan n) (sym (ap (λ (p : Planned). p.room) plan));
+      seen = ap (λ (p : Part). p.row.replica.seen) h.rest;
+    }
 
 pub keeps_seen : (w v : Work) (call : IsCall w None v) → KeepsSeen w v None call
 keeps_seen w v (TurnsOf at t is h) = (let no : ⊥ = cc in absurd no)
@@ -304,6 +321,7 @@ keeps_seen w v (EndsOf end is h) = same_seen w v _ (ap (λ (x : Work). x.part) h
 keeps_seen w v (WantsOf i from is h) = same_seen w v _ (ap (λ (x : Work). x.part) h) refl refl
 keeps_seen w v (HearsOf words is h) = same_seen w v _ (ap (λ (x : Work). x.part) h) refl refl
 keeps_seen w v (ReadsAgainOf is h) = same_seen w v _ (ap (λ (x : Work). x.part) h) refl refl
+keeps_seen w v (GrowsOf more is h rest) = roomier_seen w v more h
 keeps_seen w v (FinishesOf i answer is running h rest) = same_seen w v _ h refl refl
 keeps_seen w v (ReadsOf entries notes is h rest) = tt
 keeps_seen w v (MisreadsOf now entries notes m is h rest) = tt

@@ -23,7 +23,7 @@ use Rattle.cf_host.specs.declared.ticket.Ticket.{Ticket}
 use Rattle.cf_host.specs.Hosts.{Host, Orders, OrdersTurn, WorksOn, moment_in}
 use Rattle.cf_host.specs.Keeping.{TellsOnce, asked_by, told_by, told_in}
 use Rattle.cf_host.specs.Laws.{ComesTo, IsCall}
-use Rattle.cf_host.specs.Laws.IsCall.{turns, follows, acts, ends, wants, stirs, stops, opens, hears, lands, refuses, closes, beats, news, lacks, loses, finishes}
+use Rattle.cf_host.specs.Laws.IsCall.{turns, follows, acts, ends, wants, grows, stirs, stops, opens, hears, lands, refuses, closes, beats, news, lacks, loses, finishes}
 use Rattle.cf_host.specs.Tickets.{Tickets}
 use Rattle.cf_host.proofs.CalledOnce.{none_yet, same_sessions}
 use Rattle.cf_host.proofs.Effects.{Anyhow, Heard}
@@ -431,6 +431,7 @@ call_tells old out new told s (follows request is f) k c = none_tells old out to
 call_tells old out new told s (acts now request number until act is a) k c = none_tells old out told is k c
 call_tells old out new told s (ends now request number until is a) k c = none_tells old out told is k c
 call_tells old out new told s (wants request stage is_wanted is a) k c = none_tells old out told is k c
+call_tells old out new told s (grows request more is a) k c = none_tells old out told is k c
 call_tells old out new told s (stirs due is e) k c = none_tells old out told is k c
 call_tells old out new told s (stops is e) k c = none_tells old out told is k c
 call_tells old out new told s (opens plan notes room number is_flow is a) k c = none_tells old out told is k c

@@ -1,5 +1,5 @@
 -- What a function came to isn't lost.
-use Rattle.std.proofs.Common.{◌≡◌, ℕ, ◌+◌, ◌<◌, ◌≤◌, inl, inr, false, Option, Some, None, List, [], ◌∷◌, ◌++◌, Contains, length, replicate, set, refl, ap, sym, ◌∙◌, subst, arith}
+use Rattle.std.proofs.Common.{◌≡◌, ℕ, ◌+◌, ◌<◌, ◌≤◌, inl, inr, false, Option, Some, None, List, [], ◌∷◌, ◌++◌, Contains, length, length-append, replicate, set, refl, ap, sym, ◌∙◌, subst, arith}
 use Rattle.std.specs.Prelude.{slice_get}
 use Rattle.std.proofs.lemmas.Bool.{cases_lt}
 use Rattle.std.proofs.lemmas.List.{get_or-replicate, get_or-set_same, get_or_past, length-replicate, length-set}
@@ -9,9 +9,7 @@ use Rattle.cf_model.proofs.StateLemmas.{slice_get-set_other}
 use Rattle.cf_ledger.specs.declared.faults.LedgerFault.{LedgerFault}
 use Rattle.cf_ledger.specs.declared.faults.LedgerFault.TheVariants.{NoMemory, NoEvent, NoStage, NoRoom}
 use Rattle.cf_row.specs.declared.entry.Entry.{Entry}
-use Rattle.cf_row.specs.declared.grants.Claim.{Claim}
-use Rattle.cf_row.specs.Grants.{IsGrantedTo, granted_in}
-use Rattle.cf_row.specs.Rows.{Replica}
+use Rattle.cf_row.specs.Grants.{IsGrantedTo}
 use Rattle.cf_notes.specs.declared.note.Note.{Note}
 use Rattle.cf_notes.specs.declared.wants.EndsWith.{EndsWith}
 use Rattle.cf_notes.specs.declared.wants.Owed.{Owed}
@@ -24,11 +22,10 @@ use Rattle.cf_part.specs.declared.step.Step.TheVariants.{Show as StepShow, Stop 
 use Rattle.cf_part.specs.Answers.{Ends, IsRunning, MismeetsBy, owed_refused}
 use Rattle.cf_part.specs.Parts.{Part, call_in, no_value, owed_in, session_of}
 use Rattle.cf_part.specs.Rows.{AreCalls as AreCallsOfPart, IsCall as IsCallOfPart, IsOwed, KeepsOwed, Out}
-use Rattle.cf_part.specs.Rows.IsCall.{tells as TellsOf, plans as PlansOf, asks as AsksOf, reads as ReadsOf, misreads as MisreadsOf, lands as LandsOf, meets as MeetsOf, mismeets as MismeetsOf, waits as WaitsOf, refuses as RefusesOf, closes as ClosesOf, breaks as BreaksOf, ends as EndsOf, wants as WantsOf, hears as HearsOf, reads_again as ReadsAgainOf}
+use Rattle.cf_part.specs.Rows.IsCall.{tells as TellsOf, plans as PlansOf, asks as AsksOf, reads as ReadsOf, misreads as MisreadsOf, lands as LandsOf, meets as MeetsOf, mismeets as MismeetsOf, waits as WaitsOf, refuses as RefusesOf, closes as ClosesOf, breaks as BreaksOf, ends as EndsOf, wants as WantsOf, hears as HearsOf, reads_again as ReadsAgainOf, grows as GrowsOf}
 use Rattle.cf_part.specs.Steps.{Tells}
-use Rattle.cf_part.proofs.Granted.{granted_stays}
 use Rattle.cf_part.proofs.Lists.{there_by}
-use Rattle.cf_part.proofs.Rows.{Grows, effect, rank}
+use Rattle.cf_part.proofs.Rows.{effect, granted_later, rank}
 use Rattle.cf_turn.specs.Rows.{IsCall as IsCallOfWork, WorksArePartsCalls}
 use Rattle.cf_turn.specs.Rows.IsCall.{turns as TurnsOfWork, finishes as FinishesOfWork}
 use Rattle.cf_turn.specs.declared.turn.Turn.{Turn}
@@ -78,6 +75,14 @@ counts_mismeets NoEvent old now entries said place new h same = counts_same old 
 counts_mismeets NoStage old now entries said place new h same = counts_same old new (ap (λ (p : Part). p.calls) h.rest) (ap (λ (p : Part). p.owed) h.rest) same
 counts_mismeets NoRoom old now entries said place new h same = counts_same old new (ap (λ (p : Part). p.calls) h.rest) (ap (λ (p : Part). p.owed) h.rest) same
 
+counts_more : (owed : List (Option Owed)) (calls : List Progress) (more : ℕ) → length owed ≡ length calls → length (owed ++ replicate more (Some no_value)) ≡ length (calls ++ replicate more NotCalled)
+counts_more owed calls more same =
+    let debts = length-append owed (replicate more (Some no_value)) in
+    let begun = length-append calls (replicate more NotCalled) in
+    let left = length-replicate more (Some no_value) in
+    let right = length-replicate more NotCalled in
+    omega (arith, same, debts, begun, left, right)
+
 counts_call : (old : Part) (out : Out) (new : Part) → IsCallOfPart old out new → length old.owed ≡ length old.calls → length new.owed ≡ length new.calls
 counts_call old out new (TellsOf now step is h) same = counts_step old now step new h same
 counts_call old out new (PlansOf ws of is h) same = counts_same old new (ap (λ (p : Part). p.calls) h.rest) (ap (λ (p : Part). p.owed) h.rest) same
@@ -97,13 +102,7 @@ counts_call old out new (EndsOf j answer is running h) same =
 counts_call old out new (WantsOf j is_wanted is h) same = counts_same old new (ap (λ (p : Part). p.calls) h) (ap (λ (p : Part). p.owed) h) same
 counts_call old out new (HearsOf words is h) same = counts_same old new (ap (λ (p : Part). p.calls) h) (ap (λ (p : Part). p.owed) h) same
 counts_call old out new (ReadsAgainOf is h) same = counts_same old new (ap (λ (p : Part). p.calls) h) (ap (λ (p : Part). p.owed) h) same
-
-granted_later : (old new : Replica) → Grows old new → (i : ℕ) → IsGrantedTo old old.session i → IsGrantedTo new new.session i
-granted_later old new g i h =
-    let c : Claim = record { stage = i; session = new.session } in
-    granted_stays new.plan new.seen old.seen c g.begins
-    (subst (λ (s : ℕ). Contains (granted_in new.plan old.seen) (record { stage = i; session = s })) (sym g.session)
-    (subst (λ p. Contains (granted_in p old.seen) (record { stage = i; session = old.session })) (sym g.plan) h))
+counts_call old out new (GrowsOf more is h) same = ap (λ (p : Part). length p.owed) h.rest ∙ counts_more old.owed old.calls more same ∙ sym (ap (λ (p : Part). length p.calls) h.rest)
 
 sound_call : (old : Part) (out : Out) (new : Part) → IsCallOfPart old out new → Sound old → Sound new
 sound_call old out new call s =

@@ -3,9 +3,9 @@ use Rattle.std.specs.Prelude.{◌≡◌, ℕ, ◌-◌, ◌<◌, Option, None, So
 use Rattle.cf_due.specs.Acts.{IsFitting}
 use Rattle.cf_due.specs.declared.acts.Act.{Act}
 use Rattle.cf_notes.specs.declared.wants.EndsWith.{EndsWith}
-use Rattle.cf_part.specs.Answers.{Ends, IsRunning}
+use Rattle.cf_part.specs.Answers.{Ends, Grows, IsRunning}
 use Rattle.cf_turn.specs.Works.{Work, wish_of}
-use Rattle.cf_host.specs.Requests.{IsAt, IsOpenIn, LacksStage}
+use Rattle.cf_host.specs.Requests.{HasPlacesIn, IsAt, IsOpenIn, LacksPlaces, LacksStage}
 use Rattle.cf_host.specs.Tickets.{IsReady, Tickets}
 use Rattle.cf_host.specs.declared.order.NoCall.{NoCall}
 use Rattle.cf_host.specs.declared.order.NoCall.TheVariants.{NotOpen, Unfit, NoMemory}
@@ -23,6 +23,11 @@ Ending number until old new = new ≡ record old { ends = old.ends ++ (record { 
 pub record Wanting (stage : ℕ) (from : Option ℕ) (old new : Work) : Type 0 where
   pub there : stage < length old.part.wanted
   pub rest : new ≡ record old { part = record old.part { wanted = slice_set old.part.wanted stage from } }
+
+-- there is room for so many stages more
+pub record Growing (more : ℕ) (old new : Work) : Type 0 where
+  pub part : Grows old.part more new.part
+  pub rest : new ≡ record old { part = new.part }
 
 -- the function of a stage, which runs, has ended
 pub record CallEnding (stage : ℕ) (answer : EndsWith) (old new : Work) : Type 0 where
@@ -59,3 +64,9 @@ abbrev pub IsNoWanting : ℕ → ℕ → List Request → NoCall → Type 0
 IsNoWanting stage request requests NotOpen = ¬ IsOpenIn request requests
 IsNoWanting stage request requests Unfit = LacksStage request stage requests
 IsNoWanting stage request requests NoMemory = ⊥
+
+-- room for stages: whether its plan has place for so many is seen first
+abbrev pub IsNoGrowing : ℕ → ℕ → List Request → NoCall → Type 0
+IsNoGrowing more request requests NotOpen = ¬ IsOpenIn request requests
+IsNoGrowing more request requests Unfit = LacksPlaces request more requests
+IsNoGrowing more request requests NoMemory = HasPlacesIn request more requests

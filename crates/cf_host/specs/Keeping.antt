@@ -1,6 +1,7 @@
 -- What a process keeps of a request, whatever it is ordered, told and asked: what functions came to, whom it has to show a stage, and whom
 -- it has to tell what became of an act.
 use Rattle.std.specs.Prelude.{◌≡◌, ◌⊎◌, ℕ, ◌≤◌, Option, Some, None, List, [], ◌∷◌, ◌++◌, Contains, map}
+use Rattle.cf_forms.specs.Plans.{with_room}
 use Rattle.cf_model.specs.States.{outcome_at}
 use Rattle.cf_notes.specs.declared.wants.EndsWith.{EndsWith}
 use Rattle.cf_row.specs.Grants.{IsGrantedTo}
@@ -17,7 +18,7 @@ use Rattle.cf_host.specs.declared.order.Order.{Order}
 use Rattle.cf_host.specs.declared.order.Order.TheVariants.{Row, Show, Tell}
 use Rattle.cf_host.specs.declared.ticket.Asked.TheVariants.{Row as OfRow}
 use Rattle.cf_host.specs.declared.ticket.Ticket.{Ticket}
-use Rattle.cf_host.specs.Asking.{Wanting}
+use Rattle.cf_host.specs.Asking.{Growing, Wanting}
 use Rattle.cf_host.specs.Hosts.{EndsCall, Host, OnRequest, Orders, Sleeps}
 use Rattle.cf_host.specs.Laws.{ComesTo, IsCall}
 use Rattle.cf_host.specs.Requests.{IsAt}
@@ -122,10 +123,13 @@ TellsOnce = (session : ℕ) (outs : List (Option Order)) (h : Host) → ComesTo 
 
 -- ---- what is seen
 
--- A call leaves the plan and what was seen of a request's row. Or it opens the request, of which nothing is seen yet; or it takes an answer
--- about the row.
+-- A call leaves the plan and what was seen of a request's row. Or it makes room in the plan for more stages, and leaves what was seen; or it
+-- opens the request, of which nothing is seen yet; or it takes an answer about the row.
 pub data ComesToSee (request : ℕ) (old : Host) (out : Option Order) (new : Host) (w : Work) : Type 0 where
   stays : (before : Work) → IsWorkIn old request before → w.part.row.replica.plan ≡ before.part.row.replica.plan →
+      w.part.row.replica.seen ≡ before.part.row.replica.seen → ComesToSee request old out new w
+  grows : (before : Work) (more : ℕ) → IsWorkIn old request before → OnRequest (Growing more) request old new →
+      w.part.row.replica.plan ≡ with_room before.part.row.replica.plan w.part.row.replica.plan.room →
       w.part.row.replica.seen ≡ before.part.row.replica.seen → ComesToSee request old out new w
   begins : w.part.row.replica.seen ≡ [] → ComesToSee request old out new w
   answers : ClosesRow request old out new → ComesToSee request old out new w

@@ -16,7 +16,7 @@ use Rattle.cf_host.specs.declared.request.Request.{Request}
 use Rattle.cf_host.specs.declared.requests.Length.{Length}
 use Rattle.cf_host.specs.declared.ticket.Asked.TheVariants.{Open as OfOpen}
 use Rattle.cf_host.specs.Answering.{Closing, Hearing, Landing, Refusing}
-use Rattle.cf_host.specs.Asking.{Asking, Ending, Wanting}
+use Rattle.cf_host.specs.Asking.{Asking, Ending, Growing, Wanting}
 use Rattle.cf_host.specs.Hosts.{Answers, AnswersRow, EndsCall, FollowsIn, HearsBeats, HearsNews, Host, IsOpened, LosesRequest, OnRequest, OnRequestFor, Orders, Sleeps, StaysUnanswered, beats_at_in, new_host}
 use Rattle.cf_host.specs.Waking.{patience_of, wake_of}
 
@@ -27,6 +27,7 @@ pub data IsCall (old : Host) (out : Option Order) (new : Host) : Type 0 where
   acts : (now request number until : ℕ) (act : Act) → out ≡ None → OnRequestFor (λ n. Asking n act until) request now number old new → IsCall old out new
   ends : (now request number until : ℕ) → out ≡ None → OnRequestFor (λ n. Ending n until) request now number old new → IsCall old out new
   wants : (request stage : ℕ) (from : Option ℕ) → out ≡ None → OnRequest (Wanting stage from) request old new → IsCall old out new
+  grows : (request more : ℕ) → out ≡ None → OnRequest (Growing more) request old new → IsCall old out new
   stirs : (due : ℕ) → out ≡ None → new ≡ record old { news = record old.news { due = due } } → IsCall old out new
   stops : out ≡ None → new ≡ record old { is_stopping = true } → IsCall old out new
   opens : (plan : Planned) (notes : List Note) (room number : ℕ) (is_flow : Bool) → out ≡ None →

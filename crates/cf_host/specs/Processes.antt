@@ -1,18 +1,22 @@
 -- Several processes at one request of a store, and what may be concluded from any calls of theirs.
 use Rattle.std.specs.Prelude.{◌≡◌, ◌≢◌, ℕ, Option, List, [], ◌∷◌, ◌++◌, All}
-use Rattle.cf_forms.specs.Plans.{Planned}
+use Rattle.cf_forms.specs.Plans.{Planned, with_room}
+use Rattle.cf_model.specs.States.{start}
+use Rattle.cf_ledger.specs.Ledgers.{AreTaken}
 use Rattle.cf_part.specs.Parts.{Part}
 use Rattle.cf_part.specs.Rows.{IsApart}
 use Rattle.cf_row.specs.declared.entry.Entry.{Entry}
-use Rattle.cf_row.specs.Rows.{BeginsWith}
+use Rattle.cf_row.specs.Rows.{BeginsWith, history_of}
 use Rattle.cf_host.specs.declared.order.Order.{Order}
 use Rattle.cf_host.specs.Hosts.{Host, IsShownPart}
 use Rattle.cf_host.specs.Laws.{ComesTo, calls_of}
 
--- what a session was told of a request is so: its plan is this one, and what it has seen stands at the front of this row
+-- What a session was told of a request is so: its plan is this one, with whatever room, and what it has seen stands at the front of this row.
+-- Its graph took that, as `Replica::ledger` ensures.
 pub record IsToldTruly (plan : Planned) (row : List Entry) (part : Part) : Type 0 where
-  pub plan_is : part.row.replica.plan ≡ plan
+  pub plan_is : part.row.replica.plan ≡ with_room plan part.row.replica.plan.room
   pub true_seen : BeginsWith row part.row.replica.seen
+  pub taken : AreTaken (start part.row.replica.plan) (history_of part.row.replica.seen)
 
 -- if a process has opened the request, it was told the truth of it
 abbrev pub KnowsTruly : ℕ → Planned → List Entry → Host → Type 0

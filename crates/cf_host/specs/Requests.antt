@@ -1,5 +1,6 @@
 -- The requests of a process.
-use Rattle.std.specs.Prelude.{◌≡◌, ◌≢◌, ℕ, ◌<◌, ◌||◌, Bool, true, false, cond, eqb, max, not, Option, Some, None, List, [], ◌∷◌, ◌++◌, length, map, slice_get, slice_set}
+use Rattle.std.specs.Prelude.{◌≡◌, ◌≢◌, ℕ, ◌<◌, ◌||◌, Bool, true, false, cond, eqb, max, not, Option, Some, None, List, [], ◌∷◌, ◌++◌, length, map, slice_get, slice_set, ◌+◌}
+use Rattle.cf_forms.specs.Plans.{has_place}
 use Rattle.cf_part.specs.declared.question.Question.{Question}
 use Rattle.cf_part.specs.Parts.{Part, is_waited}
 use Rattle.cf_part.specs.Answers.{IsRunning}
@@ -24,6 +25,11 @@ asked_in (Some w) = w.part.asked
 abbrev pub HasPlace : Option Work → ℕ → Type 0
 HasPlace None stage = ⊥
 HasPlace (Some w) stage = stage < length w.part.wanted
+
+-- and its plan has place for so many stages more
+abbrev pub HasPlaces : Option Work → ℕ → Type 0
+HasPlaces None more = ⊥
+HasPlaces (Some w) more = has_place w.part.row.replica.plan.stages (w.part.row.replica.plan.room + more) ≡ true
 
 abbrev pub IsCalledIn : Option Work → ℕ → Type 0
 IsCalledIn None stage = ⊥
@@ -109,6 +115,18 @@ pub record LacksStage (number stage : ℕ) (requests : List Request) : Type 0 wh
   pub at : IsAt number place requests
   pub opened : IsOpenAt place requests
   pub lacks : ¬ HasPlace at.request.work stage
+
+-- its plan has place for so many stages more, or hasn't
+pub record HasPlacesIn (number more : ℕ) (requests : List Request) : Type 0 where
+  pub place : ℕ
+  pub at : IsAt number place requests
+  pub has : HasPlaces at.request.work more
+
+pub record LacksPlaces (number more : ℕ) (requests : List Request) : Type 0 where
+  pub place : ℕ
+  pub at : IsAt number place requests
+  pub opened : IsOpenAt place requests
+  pub lacks : ¬ HasPlaces at.request.work more
 
 -- a request is taken up, unless it is there
 pub data Follows (number : ℕ) (old new : List Request) : Type 0 where

@@ -3,13 +3,13 @@ ghost use Rattle.std.specs.Prelude.{◌≡◌, ◌≢◌, ◌<◌, None, OnErr, 
 ghost use Rattle.std.specs.Bool.{OnFalse, OnTrue};
 ghost use Rattle.cf_due.specs.Acts.{IsFitting};
 ghost use Rattle.cf_part.specs.Parts.{later};
-ghost use Rattle.cf_host.specs.Requests.{HasPlace, IsCalledIn, OnWork};
-ghost use Rattle.cf_host.specs.Asking.{Asking, CallEnding, Ending, IsFull, Wanting};
+ghost use Rattle.cf_host.specs.Requests.{HasPlace, HasPlaces, IsCalledIn, OnWork};
+ghost use Rattle.cf_host.specs.Asking.{Asking, CallEnding, Ending, Growing, IsFull, Wanting};
 
 use crate::request::Request;
 use cf_due::Act;
 use cf_part::EndsWith;
-use std::alloc::AllocError;
+use std::alloc::{AllocError, Global};
 
 impl Request {
     /// A user asks for an act, and waits until a moment. It fails only where there is no memory, and then changes
@@ -70,6 +70,18 @@ impl Request {
         }
     }
 
+    /// Makes room for so many stages more. It fails only where there is no memory, and then changes nothing.
+    pub(crate) fn grow(&mut self, alloc: Global, more: u16) -> Result<(), AllocError>
+        requires { HasPlaces self.old.work more }
+        ensures ok { OnOk result (OnWork (Growing more) self.old self.new) }
+        ensures err { OnErr result (self.new ≡ self.old) }
+    {
+        match &mut self.work {
+            Some(work) => work.grow(alloc, more),
+            None => Ok(()),
+        }
+    }
+
     /// The function of a stage has ended.
     pub(crate) fn ended(&mut self, stage: u16, answer: EndsWith)
         requires { IsCalledIn self.old.work stage }
@@ -87,6 +99,17 @@ impl Request {
     {
         match self.part() {
             Some(part) => part.has_place(stage),
+            None => false,
+        }
+    }
+
+    /// Whether it is opened and its plan has place for so many stages more.
+    pub(crate) fn has_places(&self, more: u16) -> bool
+        ensures there { OnTrue result (HasPlaces self.now.work more) }
+        ensures none { OnFalse result (¬ HasPlaces self.now.work more) }
+    {
+        match self.part() {
+            Some(part) => part.view().ledger().has_place(more),
             None => false,
         }
     }

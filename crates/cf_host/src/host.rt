@@ -2,7 +2,7 @@
 ghost use Rattle.std.specs.Prelude.{◌≡◌, ◌<◌, IfErr, IfNone, IfOk, IfSome, None, OnErr, OnOk, Some, length, max, min, true};
 ghost use Rattle.cf_due.specs.Acts.{IsFitting};
 ghost use Rattle.cf_part.specs.Parts.{later};
-ghost use Rattle.cf_host.specs.Asking.{Asking, Ending, IsNoAsking, IsNoEnding, IsNoWanting, IsShort, Wanting};
+ghost use Rattle.cf_host.specs.Asking.{Asking, Ending, Growing, IsNoAsking, IsNoEnding, IsNoGrowing, IsNoWanting, IsShort, Wanting};
 ghost use Rattle.cf_host.specs.Hosts.{FollowsIn, IsShownPart, Keeps, OnRequest, OnRequestFor, new_host};
 ghost use Rattle.cf_host.specs.Pulses.{later_by};
 ghost use Rattle.cf_host.specs.declared.order.NoCall.TheVariants.{NoMemory, NotOpen};
@@ -188,6 +188,24 @@ impl Host {
             return Err(NoCall::Unfit);
         }
         self.requests[place].unread(now, stage);
+        Ok(())
+    }
+
+    /// Makes room in a request for so many stages more, also while something is asked of its row. An entry that attaches
+    /// a stage needs room before it is handed in.
+    pub fn grow(&mut self, request: u64, more: u16) -> Result<(), NoCall>
+        ensures ok { OnOk result (OnRequest (Growing more) request self.old self.new) }
+        ensures err { OnErr result (self.new ≡ self.old) }
+        ensures why { IfErr result (λ why. IsNoGrowing more request self.old.requests why) }
+    {
+        let place = self.opened_at(request)?;
+        if !self.requests[place].has_places(more) {
+            return Err(NoCall::Unfit);
+        }
+        match self.requests[place].grow(self.alloc, more) {
+            Ok(()) => {}
+            Err(_) => return Err(NoCall::NoMemory),
+        }
         Ok(())
     }
 

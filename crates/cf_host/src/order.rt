@@ -72,7 +72,7 @@ pub enum NoAnswer {
 pub enum NoCall {
     /// The process doesn't work on such a request, or hasn't opened it.
     NotOpen,
-    /// The request has no such stage, or the act doesn't fit its form.
+    /// The request has no such stage, or no place for so many stages more, or the act doesn't fit its form.
     Unfit,
     /// There is no memory.
     NoMemory,
