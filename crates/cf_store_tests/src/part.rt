@@ -43,12 +43,14 @@ const FINISH: u64 = 0x0500000100000002;
 
 const COMPLETE: u64 = 0x0101000100000007;
 
-/// Caller 0 or 1 ticks, caller 0 attaches an apply of stage 0, and caller 1 completes stage 5, which isn't there.
+/// Caller 0 or 1 ticks, caller 0 attaches an apply of stage 0, caller 1 does, too, and completes stage 5, which isn't there.
 const TICK: u64 = 0x0600000000000000;
 
 const OTHER_TICK: u64 = 0x0601000000000000;
 
 const ATTACH: u64 = 0x0700000103000001;
+
+const OTHER_ATTACH: u64 = 0x0701000103000001;
 
 const STRAY: u64 = 0x0101005100000007;
 
@@ -57,6 +59,8 @@ const FINISHING: PutOf = PutOf::Finish { stage: 0 };
 const READ: Option<Question> = Some(Question::Read { at: 0 });
 
 const PUT: Option<Question> = Some(Question::Put { at: 0 });
+
+const NEXT_READ: Option<Question> = Some(Question::Read { at: 1 });
 
 const FINISH_PUT: Option<Question> = Some(Question::Put { at: 1 });
 
@@ -174,7 +178,7 @@ const STOPS: [Move; 11] = [
     Stands,
     Tells(CALL),
     Hears(2),
-    Asks(0, Some(Question::Read { at: 1 })),
+    Asks(0, NEXT_READ),
     Reads(0, Some((COMPLETE, Note::Nothing))),
     Tells(Some(Step::Stop { stage: 0 })),
     Tells(None),
@@ -220,6 +224,26 @@ const NOTES: [Move; 21] = [
     ),
     Times(0, 40, 4),
     Faults(Some(Fault::Broken)),
+];
+
+/// A stage is attached, and room is made for more while that is put.
+const ATTACHES: [Move; 5] = [
+    Asks(0, READ),
+    Reads(0, None),
+    Plans(ATTACH, Note::Calls { function: 8 }, PutOf::Act),
+    Asks(0, PUT),
+    Calls(1, None),
+];
+
+/// The put stands, and another session has attached a stage more than there was room for.
+const GROWN: [Move; 7] = [
+    Stands,
+    Calls(1, Some(8)),
+    Hears(2),
+    Asks(0, NEXT_READ),
+    Reads(0, Some((OTHER_ATTACH, Note::Calls { function: 9 }))),
+    Calls(2, Some(9)),
+    Faults(None),
 ];
 
 /// The name of a case, whether somebody waits for stage 0, and what is done.
@@ -374,4 +398,16 @@ fn does_what_is_to_be_done(rt: HostRuntime) {
         make_all(&rt, &mut part, *name, *calls);
         drop(part);
     }
+}
+
+#[test]
+fn grows_beside_a_put(rt: HostRuntime) {
+    let mut part = part_of(&rt, rt.alloc(), false);
+    make_all(&rt, &mut part, "attaches", &ATTACHES);
+    holds(&rt, !part.has_place(3), "no places");
+    holds(&rt, part.view().ledger().has_place(2), "place");
+    must(&rt, part.grow(rt.alloc(), 2));
+    holds(&rt, part.has_place(3), "places");
+    make_all(&rt, &mut part, "grown", &GROWN);
+    drop(part);
 }

@@ -390,3 +390,16 @@ fn tells_what_is_to_be_done(rt: HostRuntime) {
         drop(work);
     }
 }
+
+#[test]
+fn grows_beside_a_question(rt: HostRuntime) {
+    let watch = Watch::new(rt.alloc(), 100);
+    let mut work = work_of(&rt, rt.alloc(), false);
+    make_all(&rt, &mut work, &watch, "asks", &[AsksRead(0, 0)]);
+    holds(&rt, !work.part().has_place(4), "no places");
+    holds(&rt, work.part().view().ledger().has_place(2), "place");
+    must(&rt, work.grow(rt.alloc(), 2));
+    holds(&rt, work.part().has_place(4), "places");
+    make_all(&rt, &mut work, &watch, "goes on", &[Reads, Rests(0)]);
+    drop(work);
+}

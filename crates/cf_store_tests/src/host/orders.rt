@@ -28,6 +28,8 @@ enum Move {
     Unfit(u64, NoAnswer),
     Wants(u64),
     Unread(u64, u64),
+    Grows(u64, u16),
+    NoPlace(u64, u16),
     Limits(u64, u64),
     NotOpen(u64),
     Stirs(u64),
@@ -100,7 +102,7 @@ const CLOSE: Order = Order::Row {
 
 /// A request of which a look tells is opened, read, claimed, called, finished and closed. Its value is shown again, since
 /// it couldn't be read.
-const WORKS: [Move; 28] = [
+const WORKS: [Move; 30] = [
     NotOpen(9),
     Tells(0, BEATS),
     Tells(0, NEWS),
@@ -114,6 +116,8 @@ const WORKS: [Move; 28] = [
     Tells(0, READ),
     Reads(4),
     Tells(0, CLAIM),
+    Grows(9, 4),
+    NoPlace(9, 4096),
     Unfit(6, NoAnswer::NoTicket),
     Stands(5),
     Unfit(5, NoAnswer::NoTicket),
@@ -349,11 +353,21 @@ fn limits(host: &mut Host, now: u64, ticket: u64) -> bool {
     host.act(now, 9, act) == Ok(ticket)
 }
 
+/// Whether a request has no place for one stage behind its room, and has it with room for so many more.
+fn grows(host: &mut Host, request: u64, more: u16) -> bool {
+    let last = more.saturating_add(1);
+    let lacks = host.wants(request, last) == Err(NoCall::Unfit);
+    let grows = host.grow(request, more).is_ok();
+    lacks & grows & host.wants(request, last).is_ok() & host.lets_go(request, last).is_ok()
+}
+
 /// Whether a user's call is answered so.
 fn is_asked(host: &mut Host, call: Move) -> bool {
     match call {
         Wants(request) => host.wants(request, 0).is_ok(),
         Unread(now, request) => host.unread(now, request, 0).is_ok(),
+        Grows(request, more) => grows(host, request, more),
+        NoPlace(request, more) => host.grow(request, more) == Err(NoCall::Unfit),
         NotOpen(request) => host.wants(request, 0) == Err(NoCall::NotOpen),
         Limits(now, ticket) => limits(host, now, ticket),
         Stirs(now) => {
