@@ -179,6 +179,7 @@ static void host_calls(cf_handle *h, uint32_t wanted) {
   ROW(cf_host_wants(h, 7, SOURCE), wanted);
   ROW(cf_host_lets_go(h, 7, SOURCE), wanted);
   ROW(cf_host_unread(h, 0, 7, SOURCE), wanted);
+  ROW(cf_host_grow(h, 7, 1), wanted);
   ROW(cf_host_stirred(h, 0), wanted);
   ROW(cf_host_stop(h), wanted);
   ROW(cf_host_turn(h, 0, &out.order), wanted);
@@ -824,6 +825,7 @@ static void by_hosts(void) {
   ROW(cf_host_wants(&host, 7, SOURCE), CF_NOT_OPEN);
   ROW(cf_host_lets_go(&host, 7, SOURCE), CF_NOT_OPEN);
   ROW(cf_host_unread(&host, 0, 7, SOURCE), CF_NOT_OPEN);
+  ROW(cf_host_grow(&host, 7, 1), CF_NOT_OPEN);
   ROW(cf_host_put(&host, 7, out.wants, 2, &out.n), CF_NOT_OPEN);
   ROW(cf_host_stage(&host, 7, SOURCE, &out.stage), CF_NOT_OPEN);
   ROW(cf_host_seen(&host, 7, &out.host_view), CF_NOT_OPEN);
@@ -848,6 +850,10 @@ static void by_hosts(void) {
   ROW(cf_host_opened(&host, opening_of, &held[PLAN], 0, 0, notes, STAGES), CF_NO_TICKET);
   ROW(cf_host_wants(&host, 7, NOT_THERE), CF_NO_STAGE);
   ROW(cf_host_unread(&host, 0, 7, NOT_THERE), CF_NO_STAGE);
+  ROW(cf_host_grow(&host, 7, 4096), CF_ROOM);
+  ROW(cf_host_wants(&host, 7, STAGES), CF_NO_STAGE);
+  ROW(cf_host_grow(&host, 7, 1), CF_OK);
+  ROW(cf_host_wants(&host, 7, STAGES), CF_OK);
   ROW(cf_host_stage(&host, 7, NOT_THERE, &out.stage), CF_NO_STAGE);
   HOLDS(is_filled() && !empty.full);
   cf_free(&host);

@@ -284,6 +284,7 @@ CALLS: Dict[str, List[Any]] = {
     "cf_host_wants": [_H, _U64, _U16],
     "cf_host_lets_go": [_H, _U64, _U16],
     "cf_host_unread": [_H, _U64, _U64, _U16],
+    "cf_host_grow": [_H, _U64, _U16],
     "cf_host_stirred": [_H, _U64],
     "cf_host_stop": [_H],
     "cf_host_turn": [_H, _U64, c.POINTER(CHostOrder)],

@@ -64,8 +64,8 @@
  * cf_ledger_apply, cf_ledger_step, cf_ledger_apply_all, cf_ledger_grow, cf_request_new, cf_request_apply,
  * cf_request_gather, cf_request_compose, cf_request_link, cf_request_next, cf_request_follow, cf_request_join,
  * cf_request_deadline, cf_request_pass, cf_request_refuse, cf_request_cancel_all, cf_request_grow, cf_request_do,
- * cf_row_new, cf_row_plan, cf_row_saw, cf_row_grow, cf_host_new, cf_host_follow, cf_host_act, cf_host_end, cf_host_turn,
- * cf_host_opened, cf_host_read, cf_host_beats, cf_host_news, cf_history_new, cf_history_times,
+ * cf_row_new, cf_row_plan, cf_row_saw, cf_row_grow, cf_host_new, cf_host_follow, cf_host_act, cf_host_end, cf_host_grow,
+ * cf_host_turn, cf_host_opened, cf_host_read, cf_host_beats, cf_host_news, cf_history_new, cf_history_times,
  * cf_history_say, cf_history_text and cf_run_script. No other call takes any.
  *
  * Codes. Each call answers a cf_code, except cf_free and the last four calls of this header. The code is CF_OK (0)
@@ -1490,6 +1490,13 @@ uint32_t cf_host_lets_go(cf_handle *host, uint64_t request, uint16_t stage);
  *
  * Codes: CF_NOT_OPEN, and CF_NO_STAGE if there can't be such a stage. */
 uint32_t cf_host_unread(cf_handle *host, uint64_t now, uint64_t request, uint16_t stage);
+
+/* Makes room in a request for more stages, also while something is asked of its row. If an entry attaches a stage for
+ * which there is no room, nothing goes on in the request any more (CF_TOLD_BROKEN): make room before you hand it in.
+ *   - more: how many more stages may be attached than before.
+ *
+ * Codes: CF_NOT_OPEN; CF_ROOM if there could then be over 4,096 stages or 16,384 edges; and CF_NO_MEMORY. */
+uint32_t cf_host_grow(cf_handle *host, uint64_t request, uint16_t more);
 
 /* The store says that something is new: what is new is asked for next. */
 uint32_t cf_host_stirred(cf_handle *host, uint64_t now);

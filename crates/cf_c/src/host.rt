@@ -5,7 +5,7 @@ ghost use Rattle.cf_c_handles.specs.Handles.{HandleDoes, HandleTells, HandleWrit
 ghost use Rattle.cf_c_handles.specs.HostAnswers.{OpensBehind, TakesBeats, TakesEnd, TakesNews, TakesPlain, TakesRows, plain_numbered};
 ghost use Rattle.cf_c_handles.specs.HostValues.{act_of, ends_of};
 ghost use Rattle.cf_c_handles.specs.HostViews.{OfHostPart, TellsPartStage, TellsView, WritesPut};
-ghost use Rattle.cf_c_handles.specs.Hosts.{Acts, EndsRequest, Follows, IsStirred, OfHost, OpensHost, Stops, TurnsTo, Wants};
+ghost use Rattle.cf_c_handles.specs.Hosts.{Acts, EndsRequest, Follows, GrowsIn, IsStirred, OfHost, OpensHost, Stops, TurnsTo, Wants};
 
 use crate::handle::{ask, tell};
 use cf_c_handles::handle::{CfHandle, fill};
@@ -89,6 +89,14 @@ pub extern "C" fn cf_host_unread(
     ensures { HandleDoes (OfHost (Wants (Some (later now)) request stage)) h.old h.new result }
 {
     ask!(alloc, h, held => calling::unread(&mut held, now, request, stage))
+}
+
+/// Makes room in a request for so many stages more.
+#[unsafe(no_mangle)]
+pub extern "C" fn cf_host_grow(alloc: Global, h: &mut CfHandle, request: u64, more: u16) -> u32
+    ensures { HandleDoes (OfHost (GrowsIn request more)) h.old h.new result }
+{
+    ask!(alloc, h, held => calling::grow(&mut held, request, more))
 }
 
 /// The store says that something is new.

@@ -3,7 +3,7 @@ use Rattle.std.specs.Prelude.{◌≡◌, ◌⊎◌, ℕ, ◌<◌, ◌≤◌, tru
 use Rattle.std.specs.Global.{Box}
 use Rattle.cf_due.specs.Acts.{IsFitting}
 use Rattle.cf_due.specs.declared.acts.Act.{Act}
-use Rattle.cf_host.specs.Asking.{Asking, Ending, IsNoAsking, IsNoEnding, IsNoWanting, Wanting}
+use Rattle.cf_host.specs.Asking.{Asking, Ending, Growing, IsNoAsking, IsNoEnding, IsNoGrowing, IsNoWanting, Wanting}
 use Rattle.cf_host.specs.Hosts.{FollowsIn, Host as Host', Keeps, OnRequest, OnRequestFor, Orders, new_host}
 use Rattle.cf_host.specs.Pulses.{later_by}
 use Rattle.cf_host.specs.Tickets.{IsReady}
@@ -18,7 +18,7 @@ use Rattle.cf_c_handles.specs.HostOrders.{as_order}
 use Rattle.cf_c_handles.specs.HostValues.{flag}
 use Rattle.cf_c_handles.specs.RequestCalls.{IsDueAs}
 use Rattle.cf_c_handles.specs.declared.code.Code.{Code}
-use Rattle.cf_c_handles.specs.declared.code.Code.TheVariants.{BadAttach, NoMemory, NoStage, NoTicket, NoTokens, NotOpen, Unfit, WrongKind}
+use Rattle.cf_c_handles.specs.declared.code.Code.TheVariants.{BadAttach, NoMemory, NoStage, NoTicket, NoTokens, NotOpen, Room, Unfit, WrongKind}
 use Rattle.cf_c_handles.specs.declared.handle.CfHandle.{CfHandle}
 use Rattle.cf_c_handles.specs.declared.handle.object.Object.{Object}
 use Rattle.cf_c_handles.specs.declared.handle.object.Object.TheVariants.{Host}
@@ -38,6 +38,12 @@ abbrev pub call_code : NoCall → Code
 call_code calls.NotOpen = NotOpen
 call_code calls.Unfit = NoStage
 call_code calls.NoMemory = NoMemory
+
+-- and that of the reason for which no room is made
+abbrev pub room_code : NoCall → Code
+room_code calls.NotOpen = NotOpen
+room_code calls.Unfit = Room
+room_code calls.NoMemory = NoMemory
 
 -- ---- a host is opened
 
@@ -99,6 +105,11 @@ EndsRequest now request h (Err code) new = IsCallCode (IsNoEnding request) h cod
 abbrev pub Wants : Option ℕ → ℕ → ℕ → Host' → Result (Unit {0}) Code → Host' → Type 0
 Wants from request stage h (Ok done) new = OnRequest (Wanting stage from) request h new
 Wants from request stage h (Err code) new = IsCallCode (IsNoWanting stage request) h code × (new ≡ h)
+
+-- there is room for so many stages more
+abbrev pub GrowsIn : ℕ → ℕ → Host' → Result (Unit {0}) Code → Host' → Type 0
+GrowsIn request more h (Ok done) new = OnRequest (Growing more) request h new
+GrowsIn request more h (Err code) new = IsDueAs room_code (IsNoGrowing more request h.requests) code × (new ≡ h)
 
 -- what is new is asked for by now
 abbrev pub IsStirred : ℕ → Host' → Result (Unit {0}) Code → Host' → Type 0

@@ -1,6 +1,6 @@
 //! All requests of a store that a process works on.
 ghost use Rattle.std.specs.Prelude.{◌≡◌, IfOk};
-ghost use Rattle.cf_c_handles.specs.Hosts.{HostOf, answer_code, call_code};
+ghost use Rattle.cf_c_handles.specs.Hosts.{HostOf, answer_code, call_code, room_code};
 
 pub mod answering;
 pub mod asking;
@@ -54,6 +54,17 @@ fn call_code(why: NoCall) -> Code
     match why {
         NoCall::NotOpen => Code::NotOpen,
         NoCall::Unfit => Code::NoStage,
+        NoCall::NoMemory => Code::NoMemory,
+    }
+}
+
+/// The code of the reason for which no room is made.
+fn room_code(why: NoCall) -> Code
+    ensures { result ≡ room_code why }
+{
+    match why {
+        NoCall::NotOpen => Code::NotOpen,
+        NoCall::Unfit => Code::Room,
         NoCall::NoMemory => Code::NoMemory,
     }
 }

@@ -1195,6 +1195,8 @@ extern "C" {
     pub fn cf_host_lets_go(host: *mut cf_handle, request: u64, stage: u16) -> u32;
     /// The payload of a stage that was shown couldn't be read.
     pub fn cf_host_unread(host: *mut cf_handle, now: u64, request: u64, stage: u16) -> u32;
+    /// Makes room in a request for more stages.
+    pub fn cf_host_grow(host: *mut cf_handle, request: u64, more: u16) -> u32;
     /// The store says that something is new.
     pub fn cf_host_stirred(host: *mut cf_handle, now: u64) -> u32;
     /// From now on no further function is called.

@@ -2,11 +2,11 @@
 ghost use Rattle.std.specs.Prelude.{None, Some};
 ghost use Rattle.cf_part.specs.Parts.{later};
 ghost use Rattle.cf_c_handles.specs.HostValues.{act_of};
-ghost use Rattle.cf_c_handles.specs.Hosts.{Acts, EndsRequest, Follows, IsStirred, OfHost, Stops, TurnsTo, Wants};
+ghost use Rattle.cf_c_handles.specs.Hosts.{Acts, EndsRequest, Follows, GrowsIn, IsStirred, OfHost, Stops, TurnsTo, Wants};
 
 use crate::code::Code;
 use crate::handle::object::Object;
-use crate::host::call_code;
+use crate::host::{call_code, room_code};
 use crate::values::host::order::{CfHostOrder, as_order};
 use crate::values::host::{CfHostActing, act_of};
 use cf_due::Act;
@@ -119,6 +119,22 @@ fn unread_in(host: &mut Host, now: u64, request: u64, stage: u16) -> Result<(), 
     match host.unread(now, request, stage) {
         Ok(()) => Ok(()),
         Err(why) => Err(call_code(why)),
+    }
+}
+
+/// Makes room in a request for so many stages more.
+pub fn grow(held: &mut Object, request: u64, more: u16) -> Result<(), Code>
+    ensures { OfHost (GrowsIn request more) held.old result held.new }
+{
+    of_host!(held, host => grow_in(host, request, more))
+}
+
+fn grow_in(host: &mut Host, request: u64, more: u16) -> Result<(), Code>
+    ensures { GrowsIn request more host.old result host.new }
+{
+    match host.grow(request, more) {
+        Ok(()) => Ok(()),
+        Err(why) => Err(room_code(why)),
     }
 }
 
