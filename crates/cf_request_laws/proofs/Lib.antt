@@ -1,0 +1,4 @@
+pub mod Stages
+pub mod Trees
+pub mod Histories
+pub mod Gathers

@@ -1,0 +1,21 @@
+//! The contract of each function is the statement, and its body is empty.
+ghost use Rattle.cf_request_laws.specs.Roots.{AllOfRootsAreAsOne, RootsAreInTime, RootsEndAsOne};
+
+/// After any row of calls behind a gather, the root waits as one stage over all sources would, or it has what that stage took
+/// as it was settled, or one of the stages that gather came first: a word settled it whose end left its own sources waiting,
+/// or a tick did.
+pub fn roots_end_as_one()
+    ensures { RootsEndAsOne }
+{}
+
+/// A root of allOf has at any time what one stage of allOf over all sources would have, unless one of the stages that gather
+/// came first.
+pub fn all_of_roots_are_as_one()
+    ensures { AllOfRootsAreAsOne }
+{}
+
+/// The root is settled once one stage over all sources would be, whatever came first. So of allOf it is open only while a
+/// source is, and of anyOf only while all are.
+pub fn roots_are_in_time()
+    ensures { RootsAreInTime }
+{}
