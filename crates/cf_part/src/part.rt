@@ -9,7 +9,7 @@ ghost use Rattle.cf_part.specs.Parts.{IsClose, IsPut, IsRead, MayPlan, is_waited
 ghost use Rattle.cf_part.specs.Steps.{ComesFirst, NothingToTell, Tells};
 ghost use Rattle.cf_part.specs.Answers.{Breaks, Closes, Ends, Grows, IsRunning, Lands, Meets, Mismeets, Misreads, PlansWords, Reads, Refuses, Waits};
 
-use crate::finding::{args_for, is_running, shown, to_call, to_show, to_stop, is_waited};
+use crate::finding::{args_for, is_running, is_waited, shown, to_call, to_show, to_stop};
 use crate::growing::{add_more, find_places, grow_seen};
 use crate::progress::Progress;
 use crate::putting::{fault_after, refuse, write_entries, write_notes, write_wants, write_words};
@@ -218,6 +218,13 @@ impl Part {
         ensures { result.now ≡ self.now.calls }
     {
         self.calls.as_slice()
+    }
+
+    /// Of each stage, from which moment on it is shown, if somebody waits for it.
+    pub fn wanted(&self) -> &[Option<u64>]
+        ensures { result.now ≡ self.now.wanted }
+    {
+        self.wanted.as_slice()
     }
 
     /// Whether the function of a stage was called and hasn't ended.
