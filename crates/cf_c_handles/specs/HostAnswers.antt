@@ -1,9 +1,9 @@
 -- The answers of a store to a host behind a handle, and the ends of functions.
 use Rattle.std.specs.Prelude.{◌≡◌, ◌≢◌, ◌⊎◌, ℕ, ◌==◌, true, false, Option, Some, None, Result, Ok, Err, List, length, map, if◌then◌else◌}
 use Rattle.cf_forms.specs.Plans.{Planned, has_place}
-use Rattle.cf_host.specs.Answering.{Closing, Hearing, Landing, Refusing}
+use Rattle.cf_host.specs.Answering.{Closing, Landing, Refusing}
 use Rattle.cf_host.specs.Fitting.{Asks, AsksBeats, AsksClose, AsksNews, AsksPlan, AsksPut, AwaitsEnd, IsOpenFor, MayLack, MayLose, TakesEntries, UnfitOnlyIf}
-use Rattle.cf_host.specs.Hosts.{Answers, AnswersRow, EndsCall, HearsBeats, HearsNews, Host as Host', IsOpened, IsRefused, LosesRequest, StaysUnanswered}
+use Rattle.cf_host.specs.Hosts.{Answers, AnswersRow, EndsCall, HearsBeats, HearsNews, HearsRow, Host as Host', IsOpened, IsRefused, LosesRequest, StaysUnanswered}
 use Rattle.cf_host.specs.declared.order.NoAnswer.{NoAnswer}
 use Rattle.cf_host.specs.declared.order.NoAnswer.TheVariants as answers
 use Rattle.cf_host.specs.declared.ticket.Asked.TheVariants.{Open as OfOpen, Row as OfRow}
@@ -96,7 +96,7 @@ TakesEnd (Err why) ticket h r new = (r ≡ Err why) × (new ≡ h)
 pub record HearsRows (now : ℕ) (rows : List CfNoted) (h : Host') (ticket : ℕ) (new : Host') : Type 0 where
   pub notes : List Note
   pub are : AreNotes (map note_in rows) notes
-  pub hears : AnswersRow (Hearing now (map entry_at rows) notes) h ticket new
+  pub hears : HearsRow now (map entry_at rows) notes h ticket new
 
 -- the ticket is of a question that these are the answer to
 abbrev pub FitsRows : List CfNoted → Host' → ℕ → Type 0

@@ -18,13 +18,13 @@ use Rattle.cf_host.specs.declared.ticket.Ticket.{Ticket}
 use Rattle.cf_host.specs.Answering.{Breaking, Closing, Hearing, Landing, Meeting, Reading, Refusing, Waiting}
 use Rattle.cf_host.specs.Answering.Hearing.{read as HearsRead, put as HearsPut}
 use Rattle.cf_host.specs.Asking.{Asking, CallEnding, Ending, Growing, Wanting}
-use Rattle.cf_host.specs.Hosts.{Answers, AnswersRow, Host, IsDropped, IsOpened, Lacks, Loses, OnRequest, OnRequestFor, Orders, OrdersTurn, StaysShut, WorksOn, moment_in}
+use Rattle.cf_host.specs.Hosts.{Answers, AnswersRow, Host, IsDropped, IsOpened, Lacks, Loses, OnRequest, OnRequestFor, Orders, OrdersTurn, StaysShut, WorksOn, moment_in, HearsRow}
 use Rattle.cf_host.specs.Keeping.{ClosesRow}
 use Rattle.cf_host.specs.Laws.{IsCall}
 use Rattle.cf_host.specs.Laws.IsCall.{turns, follows, acts, ends, wants, stirs, stops, opens, hears, lands, refuses, closes, beats, news, lacks, loses, finishes, grows}
 use Rattle.cf_host.specs.News.{is_whole}
 use Rattle.cf_host.specs.Requests.{OnWork, told_length}
-use Rattle.cf_host.specs.Tickets.{Opens, Tickets}
+use Rattle.cf_host.specs.Tickets.{Opens, Shuts, Tickets}
 use Rattle.cf_host.proofs.Worked.{Carries, Effect, Kept, Moves, begins, goes, kept_more, stays}
 use Rattle.cf_host.proofs.Effects.{Anyhow, Heard, TurnDoes, follows_effect, hears_all_kept, looked_kept, rest_effect, same_effect, set_effect, turn_effect}
 
@@ -143,6 +143,29 @@ row_kept call of old number out new c quiet k a does =
     let o = a.changes in
     answers_kept of (OnWork call) old number out new c quiet k a (ap (λ (x : Request). x.number) o.rest)
     (goes o.before o.after o.is (ap (λ (x : Request). x.work) o.rest) (does o.before o.after o.calls))
+
+-- the entries that stand in a row are taken, and then it is noted whether others take the session for gone
+heard_kept : {session : ℕ} {holds : ℕ → Option Work → Type 0} {absent : ℕ → Type 0} {holds' : ℕ → Option Work → Type 0} {absent' : ℕ → Type 0} →
+    (old : Host) (now number : ℕ) (entries : List Entry) (notes : List Note) (out : Option Order) (new : Host) → CarriesOn session old out new holds absent holds' absent' → out ≡ None → Kept holds absent old.requests →
+    HearsRow now entries notes old number new → Kept holds' absent' new.requests
+heard_kept {session} {holds} {absent} {holds'} {absent'} old now number entries notes out new c none k b =
+    let quiet = else_none out none in
+    let a = b.hears.answers in
+    let at = a.is.at in
+    let o = a.changes in
+    let closed = row_closed (Hearing now entries notes) old number out b.heard none a in
+    let row : ClosesRow at.request.number old out new = record {
+      none = none;
+      number = closed.number;
+      ticket = closed.ticket;
+      is = closed.is;
+      of = closed.of;
+      shuts = subst (Shuts closed.number old.tickets) (sym (ap (λ (h : Host). h.tickets) b.rest)) closed.shuts;
+    } in
+    let effect : Effect session (Still holds old out new) (Does holds old out new) old.requests (set old.requests a.place a.after) =
+    set_effect old.requests a.place at.request a.after (λ n. unordered quiet) at.is (ap (λ (x : Request). x.number) o.rest)
+    (goes o.before o.after o.is (ap (λ (x : Request). x.work) o.rest) (hearing_does old out new at.request.number now entries notes o.before o.after (unordered quiet) row o.calls)) in
+    subst (Kept holds' absent') (sym (ap (λ (h : Host). h.requests) b.rest ∙ ap (λ (h : Host). h.requests) a.rest)) (kept_more old.requests (set old.requests a.place a.after) c k effect)
 
 user_kept : {session : ℕ} {holds : ℕ → Option Work → Type 0} {absent : ℕ → Type 0} {holds' : ℕ → Option Work → Type 0} {absent' : ℕ → Type 0} →
     (call : Work → Work → Type 0) (request : ℕ) (old : Host) (out : Option Order) (new : Host) → CarriesOn session old out new holds absent holds' absent' → IsElse out → Kept holds absent old.requests →
@@ -276,9 +299,7 @@ call_kept old out new own c words k (opens plan notes room number is_flow is a) 
       is = ap (λ (s : ℕ). told_length a.is.at.request.words (new_work (opened plan notes room s 0 is_flow))) own;
     }) (unordered quiet))
 call_kept old out new own c words k (hears now number entries notes is a) =
-    let quiet = else_none out is in
-    row_kept (Hearing now entries notes) OfRow old number out new c quiet k a
-    (λ w v h. hearing_does old out new a.is.at.request.number now entries notes w v (unordered quiet) (row_closed (Hearing now entries notes) old number out new is a) h)
+    heard_kept old now number entries notes out new c is k a
 call_kept old out new own c words k (lands number is a) =
     let quiet = else_none out is in
     row_kept Landing OfRow old number out new c quiet k a (λ w v h. went (unordered quiet) (LandsOf refl h) (row_closed Landing old number out new is a))

@@ -2,6 +2,7 @@ pub mod Clocks
 pub mod Answered
 pub mod Covered
 pub mod Leasts
+pub mod Claimed
 pub mod Counted
 pub mod Placed
 pub mod Refused

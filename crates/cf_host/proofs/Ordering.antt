@@ -8,10 +8,11 @@ use Rattle.cf_turn.specs.declared.turn.Turn.TheVariants.{Tell as TellTurn, Show 
 use Rattle.cf_host.specs.declared.order.Order.{Order}
 use Rattle.cf_host.specs.declared.order.Order.TheVariants.{Beats, News as LooksFor, Open, Row, Call, Stop, Show, Tell, Sleep}
 use Rattle.cf_host.specs.declared.ticket.Asked.TheVariants.{Beats as OfBeats, News as OfNews, Open as OfOpen, Row as OfRow, Call as OfCall}
+use Rattle.cf_host.specs.declared.pulse.Pulse.{Pulse}
 use Rattle.cf_host.specs.declared.request.Request.{Request}
 use Rattle.cf_host.specs.declared.ticket.Ticket.{Ticket}
 use Rattle.cf_turn.specs.Turns.{moment_of}
-use Rattle.cf_host.specs.Hosts.{AsksOpen, BeatsAreDue, FirstTurns, Host, IsToOpen, IsToOpenAt, MayClaim, NoLookIsDue, NoneToOpen, Orders, OrdersTurn, WorksOn, moment_in}
+use Rattle.cf_host.specs.Hosts.{AsksOpen, BeatsAreDue, FirstTurns, Host, IsToOpen, IsToOpenAt, MayClaim, NoLookIsDue, NoneToOpen, Orders, OrdersTurn, WorksOn, beats_sooner, moment_in}
 use Rattle.cf_host.specs.Pulses.{clock_of}
 use Rattle.cf_host.specs.Tickets.{AreSame, Opens, Shuts, Tickets}
 use Rattle.cf_host.proofs.Placed.{found, opens_ready, ready}
@@ -131,8 +132,8 @@ opens_first old view new now place x y ticket requests is beats news all to_open
 pub works_first : (old view new : Host) (now clock request : ℕ) (order : Order) (t : Turn) (may_claim : Bool) (requests after : List Request) → view ≡ old → ¬ BeatsAreDue old now →
     NoLookIsDue old now → NoneToOpen now (length old.requests) old.requests → MayClaim old may_claim → clock ≡ clock_of view.pulse.reading → requests ≡ view.requests → new.requests ≡ after →
     FirstTurns (moment_of now view.watch clock may_claim) requests request t after → OrdersTurn now request t order view.tickets new.tickets →
-    new ≡ record view { tickets = new.tickets; requests = new.requests } → Orders old now order new
-works_first old view new now clock request order t may_claim requests after is beats news opens may clock_is all written turns orders rest =
+    new.pulse ≡ beats_sooner view.is_taken_for_gone now t view.pulse → new ≡ record view { tickets = new.tickets; requests = new.requests; pulse = new.pulse } → Orders old now order new
+works_first old view new now clock request order t may_claim requests after is beats news opens may clock_is all written turns orders sooner rest =
     let by_after = subst (FirstTurns (moment_of now view.watch clock may_claim) requests request t) (sym written) turns in
     let by_clock = subst (λ (c : ℕ). FirstTurns (moment_of now view.watch c may_claim) requests request t new.requests) clock_is by_after in
     let of_view = subst (λ (l : List Request). FirstTurns (moment_in view now may_claim) l request t new.requests) all by_clock in
@@ -147,5 +148,6 @@ works_first old view new now clock request order t may_claim requests after is b
       turn = t;
       turns = subst (λ (h : Host). FirstTurns (moment_in h now may_claim) h.requests request t new.requests) is of_view;
       orders = subst (λ (h : Host). OrdersTurn now request t order h.tickets new.tickets) is orders;
-      rest = subst (λ (h : Host). new ≡ record h { tickets = new.tickets; requests = new.requests }) is rest;
+      rest = subst (λ (h : Host). new ≡ record h { tickets = new.tickets; requests = new.requests; pulse = beats_sooner h.is_taken_for_gone now t h.pulse }) is
+          (rest ∙ ap (λ (p : Pulse). let h : Host = record view { tickets = new.tickets; requests = new.requests; pulse = p } in h) sooner);
     })

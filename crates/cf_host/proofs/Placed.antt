@@ -1,15 +1,21 @@
 -- A request at its place in a process.
-use Rattle.std.proofs.Common.{◌≡◌, ℕ, zero, suc, ◌+◌, ◌-◌, ◌∙◌, None, List, ap, arith, get_or, refl, set, subst, sym}
+use Rattle.std.proofs.Common.{◌≡◌, ℕ, zero, suc, ◌+◌, ◌-◌, ◌∙◌, Bool, None, List, ap, arith, get_or, refl, set, subst, sym}
+use Rattle.std.specs.Bool.{OnFalse, OnTrue}
 use Rattle.std.specs.Prelude.{max}
 use Rattle.std.proofs.Math.Nat.{max-eq_left}
-use Rattle.std.proofs.lemmas.Option.{get_or_from_slice_get}
+use Rattle.std.proofs.lemmas.List.{get_or-set_same}
+use Rattle.std.proofs.lemmas.Option.{get_or_from_slice_get, slice_get_within}
+use Rattle.cf_notes.specs.declared.note.Note.{Note}
+use Rattle.cf_row.specs.declared.entry.Entry.{Entry}
 use Rattle.cf_turn.specs.Works.{Work}
 use Rattle.cf_host.specs.declared.request.Request.{Request}
 use Rattle.cf_host.specs.declared.ticket.Asked.{Asked}
-use Rattle.cf_host.specs.declared.ticket.Asked.TheVariants.{Act}
+use Rattle.cf_host.specs.declared.ticket.Asked.TheVariants.{Act, Row as OfRow}
 use Rattle.cf_host.specs.declared.ticket.Ticket.{Ticket}
 use Rattle.cf_part.specs.Parts.{Part}
-use Rattle.cf_host.specs.Hosts.{Answers, FollowsIn, Host, IsShownPart, IsTicketOf, OnRequest, OnRequestFor, OpensOf}
+use Rattle.cf_host.specs.Answering.{Hearing}
+use Rattle.cf_host.specs.Hosts.{Answers, FollowsIn, HearsEntries, Host, IsShownPart, IsTicketOf, OnRequest, OnRequestFor, OpensOf, TellsLost}
+use Rattle.cf_host.specs.Lost.{HasLostIn, NoneLostIn}
 use Rattle.cf_host.specs.Requests.{Follows, IsAt, IsPartOf, IsShutAt, OnWork}
 use Rattle.cf_host.specs.Tickets.{Opens, Shuts, Tickets}
 
@@ -43,6 +49,28 @@ answers of change number place old view new x after is ticket value changes shut
       changes = subst (λ (r : Request). change r after) (same_at it.request place view.requests x it.at value) changes;
       shuts = shuts;
       rest = rest;
+    })
+
+-- the entries are taken, and the request is asked behind them
+pub hears_entries : (now : ℕ) (entries : List Entry) (notes : List Note) (number place : ℕ) (old view new : Host) (x after y : Request) (lost : Bool) → view ≡ old → IsTicketOf old number OfRow place →
+    x ≡ get_or view.requests place x → OnWork (Hearing now entries notes) x after → Shuts number view.tickets new.tickets →
+    new ≡ record view { tickets = new.tickets; requests = set view.requests place after } → y ≡ get_or (set view.requests place after) place y → OnTrue lost (HasLostIn y.work entries) →
+    OnFalse lost (NoneLostIn y.work entries) → HearsEntries now entries notes old number lost new
+hears_entries now entries notes number place old view new x after y lost is ticket value changes shuts rest asked has none =
+    let it = subst (λ (h : Host). IsTicketOf h number OfRow place) (sym is) ticket in
+    let there = slice_get_within view.requests place it.at.request it.at.is in
+    let same : y ≡ after = asked ∙ get_or-set_same view.requests place after y there in
+    subst (λ (h : Host). HearsEntries now entries notes h number lost new) is
+    (record {
+      answers = record {
+        place = place;
+        is = it;
+        after = after;
+        changes = subst (λ (r : Request). OnWork (Hearing now entries notes) r after) (same_at it.request place view.requests x it.at value) changes;
+        shuts = shuts;
+        rest = rest;
+      };
+      tells = subst (λ (r : Request). TellsLost r entries lost) same (record { has = has; none = none });
     })
 
 pub shut_at : (place : ℕ) (requests : List Request) (x : Request) → IsShutAt place requests → x ≡ get_or requests place x → x.work ≡ None

@@ -1,9 +1,11 @@
 -- What a process does with all requests of a store.
-use Rattle.std.specs.Prelude.{◌≡◌, ◌≢◌, ◌⊎◌, ℕ, ◌<◌, ◌≤◌, ◌&&◌, Bool, true, false, cond, min, nat_lt, not, Option, Some, None, List, [], ◌∷◌, is_some, length, slice_get, slice_set}
+use Rattle.std.specs.Prelude.{◌≡◌, ◌≢◌, ◌⊎◌, ℕ, ◌<◌, ◌≤◌, ◌&&◌, ◌||◌, Bool, true, false, cond, min, nat_lt, not, Option, Some, None, List, [], ◌∷◌, is_some, length, slice_get, slice_set}
+use Rattle.std.specs.Bool.{OnFalse, OnTrue}
 use Rattle.cf_forms.specs.Plans.{Planned}
 use Rattle.cf_notes.specs.declared.note.Note.{Note}
 use Rattle.cf_notes.specs.declared.wants.EndsWith.{EndsWith}
 use Rattle.cf_part.specs.Parts.{Part, opened}
+use Rattle.cf_row.specs.declared.entry.Entry.{Entry}
 use Rattle.cf_watch.specs.declared.beat.Beat.{Beat}
 use Rattle.cf_watch.specs.Watches.{TakesAnswer, Watch, forgotten, new_watch}
 use Rattle.cf_turn.specs.declared.turn.Turn.{Turn}
@@ -22,9 +24,10 @@ use Rattle.cf_host.specs.declared.requests.Length.{Length}
 use Rattle.cf_host.specs.declared.ticket.Asked.{Asked}
 use Rattle.cf_host.specs.declared.ticket.Asked.TheVariants.{Beats as OfBeats, News as OfNews, Open as OfOpen, Row as OfRow, Call as OfCall, Act as OfAct}
 use Rattle.cf_host.specs.declared.ticket.Ticket.{Ticket}
-use Rattle.cf_host.specs.Answering.{Breaking, Waiting}
+use Rattle.cf_host.specs.Answering.{Breaking, Hearing, Waiting}
 use Rattle.cf_host.specs.Asking.{CallEnding}
 use Rattle.cf_host.specs.Busy.{AreBusy}
+use Rattle.cf_host.specs.Lost.{HasLostIn, NoneLostIn}
 use Rattle.cf_host.specs.News.{News, answered_by, asked_by, is_whole, look_of, no_news, unanswered_by}
 use Rattle.cf_host.specs.Pulses.{beats_answered, beats_asked, beats_at, beats_silent, clock_of, later_by}
 use Rattle.cf_host.specs.Requests.{Begins, Follows, HearsAll, IsAt, IsPartOf, OnWork, looked_for}
@@ -32,7 +35,7 @@ use Rattle.cf_host.specs.Tickets.{AreSame, Opens, Shuts, Tickets, call_in, no_ti
 use Rattle.cf_host.specs.Waking.{first_moment, first_patience, first_wake, never}
 
 -- What a contract sees: the session; how many functions may run at once; how long a session may be silent; whether the process takes up all
--- requests that it hears of; whether it calls no functions any more; the sessions; the beats with the store's clock; the looks for news; the
+-- requests that it hears of; whether it calls no functions any more; whether others take it for gone, and it hasn't beaten since; the sessions; the beats with the store's clock; the looks for news; the
 -- tickets; and the requests, in the order in which they were taken up.
 pub record Host : Type 0 where
   pub session : ℕ
@@ -40,6 +43,7 @@ pub record Host : Type 0 where
   pub lease : ℕ
   pub takes_all : Bool
   pub is_stopping : Bool
+  pub is_taken_for_gone : Bool
   pub watch : Watch
   pub pulse : Pulse
   pub news : News
@@ -54,6 +58,7 @@ new_host session threads lease takes_all =
       lease = lease;
       takes_all = takes_all;
       is_stopping = false;
+      is_taken_for_gone = false;
       watch = new_watch lease;
       pulse = record { is_asked = false; next = 0; reading = None };
       news = no_news;
@@ -97,11 +102,11 @@ NoneToOpen now to requests = (k : ℕ) (r : Request) → k < to → slice_get re
 abbrev pub IsToOpenAt : ℕ → ℕ → List Request → Type 0
 IsToOpenAt now place requests = (r : Request) × (slice_get requests place ≡ Some r) × IsToOpen now r
 
--- a stage may be claimed: the process isn't stopping, and one of its threads is free
+-- a stage may be claimed: the process isn't stopping, others don't take it for gone, and one of its threads is free
 pub record MayClaim (h : Host) (may_claim : Bool) : Type 0 where
   pub busy : ℕ
   pub are : AreBusy h.requests busy
-  pub is : may_claim ≡ (not h.is_stopping && nat_lt busy h.threads)
+  pub is : may_claim ≡ (not h.is_stopping && not h.is_taken_for_gone && nat_lt busy h.threads)
 
 abbrev pub moment_in : Host → ℕ → Bool → Moment
 moment_in h now may_claim = moment_of now h.watch (clock_in h) may_claim
@@ -157,6 +162,11 @@ OrdersTurn now request (CallTurn i function args) order old new =
     (number : ℕ) × (order ≡ Call number request i function args) × OpensOf (OfCall request i) now number old new
 OrdersTurn now request (AskTurn q) order old new = (number : ℕ) × (order ≡ Row number request q) × OpensOf (OfRow request) now number old new
 
+-- who is taken for gone beats right behind a question about a row
+abbrev pub beats_sooner : Bool → ℕ → Turn → Pulse → Pulse
+beats_sooner true now (AskTurn q) p = record p { next = min p.next now }
+beats_sooner taken now t p = p
+
 -- nothing else is due, and the first work that has a turn has it
 pub record WorksOn (old : Host) (now : ℕ) (order : Order) (new : Host) : Type 0 where
   pub beats : ¬ BeatsAreDue old now
@@ -168,7 +178,11 @@ pub record WorksOn (old : Host) (now : ℕ) (order : Order) (new : Host) : Type 
   pub turn : Turn
   pub turns : FirstTurns (moment_in old now may_claim) old.requests request turn new.requests
   pub orders : OrdersTurn now request turn order old.tickets new.tickets
-  pub rest : new ≡ record old { tickets = new.tickets; requests = new.requests }
+  pub rest : new ≡ record old {
+    tickets = new.tickets;
+    requests = new.requests;
+    pulse = beats_sooner old.is_taken_for_gone now turn old.pulse;
+  }
 
 -- no work has one
 pub record WorksNothing (old : Host) (now : ℕ) (new : Host) : Type 0 where
@@ -259,6 +273,23 @@ pub record Answers (of : ℕ → Asked) (change : Request → Request → Type 0
 abbrev pub AnswersRow : (Work → Work → Type 0) → Host → ℕ → Host → Type 0
 AnswersRow call old number new = Answers OfRow (OnWork call) old number new
 
+-- whether one of these entries fails a stage whose claim is this session's
+pub record TellsLost (r : Request) (entries : List Entry) (lost : Bool) : Type 0 where
+  pub has : OnTrue lost (HasLostIn r.work entries)
+  pub none : OnFalse lost (NoneLostIn r.work entries)
+
+-- these entries stand in the row
+pub record HearsEntries (now : ℕ) (entries : List Entry) (notes : List Note) (old : Host) (number : ℕ) (lost : Bool) (new : Host) : Type 0 where
+  pub answers : AnswersRow (Hearing now entries notes) old number new
+  pub tells : TellsLost answers.after entries lost
+
+-- and where one of them fails a stage whose claim is this session's, others take it for gone
+pub record HearsRow (now : ℕ) (entries : List Entry) (notes : List Note) (old : Host) (number : ℕ) (new : Host) : Type 0 where
+  pub heard : Host
+  pub lost : Bool
+  pub hears : HearsEntries now entries notes old number lost heard
+  pub rest : new ≡ record heard { is_taken_for_gone = old.is_taken_for_gone || lost }
+
 -- a request is opened, which wasn't
 pub record IsOpened (session : ℕ) (plan : Planned) (notes : List Note) (room : ℕ) (is_flow : Bool) (old new : Request) : Type 0 where
   pub fresh : old.work ≡ None
@@ -283,6 +314,7 @@ pub record HearsBeats (old : Host) (now number : ℕ) (beats : List Beat) (clock
   pub rest : new ≡ record old {
     tickets = new.tickets;
     watch = new.watch;
+    is_taken_for_gone = false;
     pulse = beats_answered (record { shown = clock; asked = ticket.asked; now = now }) old.pulse;
   }
 

@@ -17,7 +17,7 @@ use Rattle.cf_host.specs.declared.requests.Length.{Length}
 use Rattle.cf_host.specs.declared.ticket.Asked.TheVariants.{Open as OfOpen}
 use Rattle.cf_host.specs.Answering.{Closing, Hearing, Landing, Refusing}
 use Rattle.cf_host.specs.Asking.{Asking, Ending, Growing, Wanting}
-use Rattle.cf_host.specs.Hosts.{Answers, AnswersRow, EndsCall, FollowsIn, HearsBeats, HearsNews, Host, IsOpened, LosesRequest, OnRequest, OnRequestFor, Orders, Sleeps, StaysUnanswered, beats_at_in, new_host}
+use Rattle.cf_host.specs.Hosts.{Answers, AnswersRow, EndsCall, FollowsIn, HearsBeats, HearsNews, Host, IsOpened, LosesRequest, OnRequest, OnRequestFor, Orders, Sleeps, StaysUnanswered, beats_at_in, new_host, HearsRow}
 use Rattle.cf_host.specs.Waking.{patience_of, wake_of}
 
 -- one call that goes well, and what it orders
@@ -32,7 +32,7 @@ pub data IsCall (old : Host) (out : Option Order) (new : Host) : Type 0 where
   stops : out ≡ None → new ≡ record old { is_stopping = true } → IsCall old out new
   opens : (plan : Planned) (notes : List Note) (room number : ℕ) (is_flow : Bool) → out ≡ None →
       Answers OfOpen (IsOpened old.session plan notes room is_flow) old number new → IsCall old out new
-  hears : (now number : ℕ) (entries : List Entry) (notes : List Note) → out ≡ None → AnswersRow (Hearing now entries notes) old number new → IsCall old out new
+  hears : (now number : ℕ) (entries : List Entry) (notes : List Note) → out ≡ None → HearsRow now entries notes old number new → IsCall old out new
   lands : (number : ℕ) → out ≡ None → AnswersRow Landing old number new → IsCall old out new
   refuses : (now number : ℕ) → out ≡ None → AnswersRow (Refusing now) old number new → IsCall old out new
   closes : (number : ℕ) (is_closed : Bool) → out ≡ None → AnswersRow (Closing is_closed) old number new → IsCall old out new

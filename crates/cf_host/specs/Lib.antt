@@ -6,6 +6,7 @@ pub mod Requests
 pub mod Answering
 pub mod Asking
 pub mod Busy
+pub mod Lost
 pub mod Waking
 pub mod Hosts
 pub mod Fitting

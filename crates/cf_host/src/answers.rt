@@ -1,9 +1,9 @@
 //! The answers of a store, and the ends of functions. Each is to an open ticket; one that isn't, or that doesn't fit its
 //! question, is refused and changes nothing.
 ghost use Rattle.std.specs.Prelude.{◌≡◌, ◌≢◌, ◌<◌, IfErr, IfOk, OnErr, OnOk, Some, length};
-ghost use Rattle.cf_host.specs.Answering.{Breaking, Closing, Hearing, Landing, Refusing, Waiting};
+ghost use Rattle.cf_host.specs.Answering.{Breaking, Closing, Landing, Refusing, Waiting};
 ghost use Rattle.cf_host.specs.Fitting.{AsksBeats, AsksClose, AsksNews, AsksPlan, AsksPut, AsksRow, AwaitsEnd, FitsEntries, FitsPlan, IsOpenFor, MayLack, MayLose, UnfitOnlyIf};
-ghost use Rattle.cf_host.specs.Hosts.{Answers, AnswersRow, EndsCall, HearsBeats, HearsNews, IsDropped, IsOpened, IsRefused, IsTicketOf, LacksBeats, LacksNews, LosesRequest, StaysShut, StaysUnanswered};
+ghost use Rattle.cf_host.specs.Hosts.{Answers, AnswersRow, EndsCall, HearsBeats, HearsEntries, HearsNews, HearsRow, IsDropped, IsOpened, IsRefused, IsTicketOf, LacksBeats, LacksNews, LosesRequest, StaysShut, StaysUnanswered};
 ghost use Rattle.cf_host.specs.Requests.{IsAt, IsOpenAt, IsShutAt, NoneAt};
 ghost use Rattle.cf_host.specs.Tickets.{ticket_of};
 ghost use Rattle.cf_host.specs.declared.ticket.Asked.TheVariants.{Open as OfOpen, Row as OfRow};
@@ -50,7 +50,9 @@ impl Host {
         Ok(())
     }
 
-    /// The answer to a read, and to a put whose place is taken: these entries stand there, each with its note.
+    /// The answer to a read, and to a put whose place is taken: these entries stand there, each with its note. Where others
+    /// have failed a stage there whose claim is this session's, they take it for gone: it claims nothing before a beat of
+    /// its own is answered.
     pub fn entries(
         &mut self,
         now: u64,
@@ -58,7 +60,27 @@ impl Host {
         entries: &[Entry],
         notes: &[Note],
     ) -> Result<(), NoAnswer>
-        ensures ok { OnOk result (AnswersRow (Hearing now entries.now notes.now) self.old ticket self.new) }
+        ensures ok { OnOk result (HearsRow now entries.now notes.now self.old ticket self.new) }
+        ensures why { IfErr result (λ why. IsRefused self.old ticket why) }
+        ensures unfit { IfErr result (λ why.
+            UnfitOnlyIf (¬ FitsEntries entries.now notes.now self.old ticket) why) }
+        ensures memory { IfErr result (λ why. why ≢ NoAnswer.NoMemory) }
+        ensures err { OnErr result (self.new ≡ self.old) }
+    {
+        let lost = self.hear(now, ticket, entries, notes)?;
+        self.is_taken_for_gone = self.is_taken_for_gone || lost;
+        Ok(())
+    }
+
+    /// The same, but it tells whether others take this session for gone.
+    fn hear(
+        &mut self,
+        now: u64,
+        ticket: u64,
+        entries: &[Entry],
+        notes: &[Note],
+    ) -> Result<bool, NoAnswer>
+        ensures ok { IfOk result (λ lost. HearsEntries now entries.now notes.now self.old ticket lost self.new) }
         ensures why { IfErr result (λ why. IsRefused self.old ticket why) }
         ensures unfit { IfErr result (λ why.
             UnfitOnlyIf (¬ FitsEntries entries.now notes.now self.old ticket) why) }
@@ -70,8 +92,9 @@ impl Host {
             return Err(NoAnswer::Unfit);
         }
         self.requests[place].hear(now, entries, notes)?;
+        let lost = self.requests[place].has_lost(entries);
         self.tickets.close(ticket);
-        Ok(())
+        Ok(lost)
     }
 
     /// The put stands.
@@ -150,6 +173,7 @@ impl Host {
             asked: asked.asked,
             now,
         });
+        self.is_taken_for_gone = false;
         self.tickets.close(ticket);
         Ok(())
     }

@@ -32,6 +32,7 @@ pub struct Host {
     pub(crate) lease: u64,
     pub(crate) takes_all: bool,
     pub(crate) is_stopping: bool,
+    pub(crate) is_taken_for_gone: bool,
     pub(crate) watch: Watch,
     pub(crate) pulse: Pulse,
     pub(crate) news: News,
@@ -51,6 +52,7 @@ impl Model for Host {
       lease = h.lease;
       takes_all = h.takes_all;
       is_stopping = h.is_stopping;
+      is_taken_for_gone = h.is_taken_for_gone;
       watch = h.watch;
       pulse = h.pulse;
       news = h.news;
@@ -76,6 +78,7 @@ impl Host {
             lease,
             takes_all,
             is_stopping: false,
+            is_taken_for_gone: false,
             watch: Watch::new(alloc, lease),
             pulse: Pulse::new(),
             news: News::new(),

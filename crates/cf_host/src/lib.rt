@@ -16,6 +16,7 @@ mod busy;
 mod clock;
 mod host;
 pub mod laws;
+mod lost;
 mod news;
 mod order;
 mod pulse;

@@ -1,5 +1,5 @@
 //! When a process beats.
-ghost use Rattle.std.specs.Prelude.{◌≡◌, None, false};
+ghost use Rattle.std.specs.Prelude.{◌≡◌, None, false, min};
 ghost use Rattle.cf_host.specs.Pulses.{beats_answered, beats_asked, beats_at, beats_silent, clock_of};
 
 use crate::clock::Reading;
@@ -59,6 +59,17 @@ impl Pulse {
         Pulse {
             is_asked: true,
             next: now.saturating_add(lease / 5),
+            reading: self.reading,
+        }
+    }
+
+    /// The next one is due by now.
+    pub fn sooner(self, now: u64) -> Pulse
+        ensures { result ≡ record self { next = min self.next now } }
+    {
+        Pulse {
+            is_asked: self.is_asked,
+            next: self.next.min(now),
             reading: self.reading,
         }
     }

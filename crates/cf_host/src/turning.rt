@@ -1,6 +1,6 @@
 //! What a process does next.
 ghost use Rattle.std.specs.Prelude.{◌≡◌, ◌<◌, ◌&&◌, IfNone, IfOk, IfSome, OnErr, length, nat_lt, not};
-ghost use Rattle.cf_host.specs.Hosts.{AllRest, AsksBeats, AsksNews, AsksOpen, BeatsAreDue, FirstTurns, IsToOpen, IsToOpenAt, MayClaim, NoLookIsDue, NoneToOpen, Orders, OrdersTurn, RestsIn, WorksNothing, beats_at_in, until_of};
+ghost use Rattle.cf_host.specs.Hosts.{AllRest, AsksBeats, AsksNews, AsksOpen, BeatsAreDue, FirstTurns, IsToOpen, IsToOpenAt, MayClaim, NoLookIsDue, NoneToOpen, Orders, OrdersTurn, RestsIn, WorksNothing, beats_at_in, beats_sooner, until_of};
 ghost use Rattle.std.specs.Bool.{OnFalse, OnTrue};
 ghost use Rattle.cf_host.specs.Requests.{OnWork};
 ghost use Rattle.cf_host.specs.Tickets.{IsReady};
@@ -9,6 +9,7 @@ ghost use Rattle.cf_turn.specs.Turns.{Turns, moment_of};
 use crate::busy::free_threads;
 use crate::host::Host;
 use crate::order::Order;
+use crate::pulse::Pulse;
 use crate::request::Request;
 use crate::ticket::Asked;
 use crate::tickets::Tickets;
@@ -132,6 +133,7 @@ impl Host {
         let may_claim = self.may_claim();
         let clock = self.pulse.clock();
         let turned = first_turn(&mut self.requests, now, &self.watch, clock, may_claim)?;
+        self.pulse = beats_sooner(self.pulse, self.is_taken_for_gone, now, turned.turn);
         Some(order_of(&mut self.tickets, now, turned.request, turned.turn))
     }
 
@@ -140,7 +142,7 @@ impl Host {
         ensures { MayClaim self.now result }
     {
         let free = free_threads(&self.requests, self.threads);
-        may_claim(self.is_stopping, free)
+        may_claim(self.is_stopping, self.is_taken_for_gone, free)
     }
 
     /// When something is to be done next, without an answer or a call.
@@ -163,10 +165,20 @@ impl Host {
 }
 
 /// Whether a stage may be claimed where so many threads are free.
-fn may_claim(is_stopping: bool, free: usize) -> bool
-    ensures { result ≡ (not is_stopping && nat_lt 0 free) }
+fn may_claim(is_stopping: bool, is_taken_for_gone: bool, free: usize) -> bool
+    ensures { result ≡ (not is_stopping && not is_taken_for_gone && nat_lt 0 free) }
 {
-    !is_stopping && free > 0
+    !is_stopping && !is_taken_for_gone && free > 0
+}
+
+/// When the beats are asked for behind a turn: at once by who is taken for gone, once it has asked about a row.
+fn beats_sooner(pulse: Pulse, is_taken_for_gone: bool, now: u64, turn: Turn) -> Pulse
+    ensures { result ≡ beats_sooner is_taken_for_gone now turn pulse }
+{
+    match turn {
+        Turn::Ask(_) if is_taken_for_gone => pulse.sooner(now),
+        _ => pulse,
+    }
 }
 
 /// The place of the first request that is to be opened.

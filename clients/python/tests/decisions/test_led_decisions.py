@@ -22,7 +22,6 @@ from cf.values import Form  # noqa: E402
 LEFT_OUT = {
     "an act without an answer for a minute may stand": "its put goes on behind the minute for which its user waits",
     "who puts words keeps its stage": "beats alone are signs of life",
-    "who was taken for gone beats before it claims more": "it doesn't heed that another session has failed its stage",
 }
 KINDS = {"complete": ActKind.COMPLETE, "fail": ActKind.FAIL, "cancel": ActKind.CANCEL_IDLE, "abandon": ActKind.CANCEL}
 

@@ -5,7 +5,7 @@ use cf_forms::{Args, Form};
 use cf_host::{Host, Length, Look, NoAnswer, NoCall, Order};
 use cf_notes::{EndsWith, Note};
 use cf_outcome::{Outcome, Value};
-use cf_part::{Fault, Question, Shown};
+use cf_part::{Entry, Fault, Question, Shown};
 use cf_plan::{Plan, PlanBuilder};
 use cf_turn::Told;
 use std::alloc::Global;
@@ -21,6 +21,7 @@ enum Move {
     Reads(u64),
     Stands(u64),
     Refuses(u64, u64),
+    Loses(u64),
     Closes(u64),
     Waits(u64, u64),
     Drops(u64),
@@ -49,6 +50,12 @@ static LENGTHS: [Length; 2] = [
         words: 0,
     },
 ];
+
+/// Session 2 fails stage 0.
+const FAIL: Entry = Entry {
+    word: 2 << 56 | 1 << 48 | 2,
+    token: 2 << 23,
+};
 
 const BEATS: Order = Order::Beats { ticket: 1 };
 
@@ -321,8 +328,93 @@ const MISSES: [Move; 18] = [
     ),
 ];
 
+/// Others have failed a stage of this session's. It claims nothing before it has beaten, which it does at once.
+const LOSES: [Move; 23] = [
+    Tells(0, BEATS),
+    Tells(0, NEWS),
+    Beats(0, 1),
+    News(2, 2),
+    Tells(0, OPEN),
+    Tells(
+        0,
+        Order::Open {
+            ticket: 4,
+            request: 10,
+        },
+    ),
+    Opened(3),
+    Tells(
+        0,
+        Order::Row {
+            ticket: 5,
+            request: 9,
+            question: Question::Read { at: 0 },
+        },
+    ),
+    Reads(5),
+    Tells(
+        0,
+        Order::Row {
+            ticket: 6,
+            request: 9,
+            question: Question::Put { at: 0 },
+        },
+    ),
+    Stands(6),
+    Tells(
+        0,
+        Order::Call {
+            ticket: 7,
+            request: 9,
+            stage: 0,
+            function: 7,
+            args: Args::None,
+        },
+    ),
+    Ends(7),
+    Tells(
+        0,
+        Order::Row {
+            ticket: 8,
+            request: 9,
+            question: Question::Put { at: 1 },
+        },
+    ),
+    Loses(8),
+    Tells(
+        0,
+        Order::Row {
+            ticket: 9,
+            request: 9,
+            question: Question::Put { at: 2 },
+        },
+    ),
+    Tells(0, Order::Beats { ticket: 10 }),
+    Opened(4),
+    Tells(
+        0,
+        Order::Row {
+            ticket: 11,
+            request: 10,
+            question: Question::Read { at: 0 },
+        },
+    ),
+    Reads(11),
+    Tells(0, Order::Sleep { until: 200 }),
+    Beats(0, 10),
+    Tells(
+        0,
+        Order::Row {
+            ticket: 12,
+            request: 10,
+            question: Question::Put { at: 0 },
+        },
+    ),
+];
+
 /// What is done, by name.
-static CASES: [(&str, &[Move]); 5] = [
+static CASES: [(&str, &[Move]); 6] = [
+    ("loses", &LOSES),
     ("misses", &MISSES),
     ("works", &WORKS),
     ("shares", &SHARES),
@@ -388,6 +480,7 @@ fn is_row_answered(host: &mut Host, call: Move) -> bool {
         Reads(ticket) => host.entries(0, ticket, &[], &[]).is_ok(),
         Stands(ticket) => host.stands(ticket).is_ok(),
         Refuses(now, ticket) => host.refused(now, ticket).is_ok(),
+        Loses(ticket) => host.entries(0, ticket, &[FAIL], &[Note::Nothing]).is_ok(),
         Closes(ticket) => host.closed(ticket, true).is_ok(),
         Drops(ticket) => host.dropped(ticket).is_ok(),
         Ends(ticket) => host.ended(ticket, EndsWith::Gives).is_ok(),

@@ -13,5 +13,5 @@ returns c =
     (record {
       busy = free.busy;
       are = subst (λ (l : List Request). AreBusy l free.busy) c.deref.ensures.value free.are;
-      is = c.may_claim.ensures ∙ ap (λ (b : Bool). not c.self.inside.is_stopping && b) (free_tells c.self.inside.threads free.busy c.free_threads-free.result free.is);
+      is = c.may_claim.ensures ∙ ap (λ (b : Bool). not c.self.inside.is_stopping && not c.self.inside.is_taken_for_gone && b) (free_tells c.self.inside.threads free.busy c.free_threads-free.result free.is);
     })

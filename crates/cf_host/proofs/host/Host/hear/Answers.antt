@@ -1,17 +1,15 @@
 use Rattle.std.proofs.Common.{refl}
 use Rattle.std.specs.Prelude.{◌≢◌, None}
-use Rattle.cf_host.specs.Answering.{Hearing}
 use Rattle.cf_host.specs.Fitting.{AsksRow, FitsEntries, TakesEntries, UnfitOnlyIf}
-use Rattle.cf_host.specs.Requests.{OnWork}
 use Rattle.cf_host.specs.declared.ticket.Asked.TheVariants.{Row as OfRow}
-use Rattle.cf_host.proofs.Placed.{answers}
+use Rattle.cf_host.proofs.Placed.{hears_entries}
 use Rattle.cf_host.proofs.Unfit.{fewer, handed_on, not_such, only_if, opened_for_entries, whatever}
-use Rattle.cf_host.proofs.host.Host.entries.Goals as goal
+use Rattle.cf_host.proofs.host.Host.hear.Goals as goal
 
 pub returns-clause-ok : goal.returns-clause-ok
 returns-clause-ok c =
-    answers OfRow (OnWork (Hearing c.args.now c.args.entries.now c.args.notes.now)) c.args.ticket c.in_ok-place.place c.args.self.now _ _ c.index_mut.result.now c.hear.new.self c.self.view_is
-    c.in_ok-place.ensures.is c.index_mut.ensures.value c.in_ok-hear.ensures.ok c.close.ensures refl
+    hears_entries c.args.now c.args.entries.now c.args.notes.now c.args.ticket c.in_ok-place.place c.args.self.now _ _ c.index_mut.result.now c.hear.new.self c.index.result.now c.has_lost-lost.result c.self.view_is
+    c.in_ok-place.ensures.is c.index_mut.ensures.value c.in_ok-hear.ensures.ok c.close.ensures refl c.index.ensures c.has_lost-lost.ensures.lost c.has_lost-lost.ensures.none
 
 pub returns-in_err-place-clause-unfit : goal.returns-in_err-place-clause-unfit
 returns-in_err-place-clause-unfit c =
