@@ -1,10 +1,10 @@
 -- Stages as they are gathered, and a machine's calls behind them.
-use Rattle.std.proofs.Common.{◌≡◌, ℕ, true, zero, suc, ◌+◌, ◌-◌, ◌<◌, ◌≤◌, drop, get_or, length, length-append, length-drop, map, take, Option, Some, None, List, [], ◌∷◌, ◌++◌, All, refl, ap, sym, ◌∙◌, arith, subst, inl, inr, ◌⊎◌}
+use Rattle.std.proofs.Common.{◌≡◌, ℕ, true, ◌+◌, ◌-◌, ◌<◌, ◌≤◌, drop, length, length-append, length-drop, map, take, Option, Some, None, List, [], ◌∷◌, ◌++◌, All, refl, ap, sym, ◌∙◌, arith, subst, inl, inr, ◌⊎◌}
 use Rattle.std.specs.Prelude.{is_some, option_and_then, slice_get, unwrap_or}
 use Rattle.std.proofs.lemmas.List.Elements.{All-head, All-tail, All-weaker}
 use Rattle.cf_outcome.specs.declared.outcome.Outcome.{Outcome}
 use Rattle.cf_forms.specs.declared.forms.Of.{Of}
-use Rattle.cf_forms.specs.declared.forms.Of.TheVariants.{None as NoSource, One, Two}
+use Rattle.cf_forms.specs.declared.forms.Of.TheVariants.{Two}
 use Rattle.cf_forms.specs.Plans.{PlannedStage, attached_stage, sources_of}
 use Rattle.cf_forms.proofs.ListLemmas.{slice_get-longer, slice_get-seam}
 use Rattle.cf_model.specs.declared.events.Event.{Event}
@@ -19,18 +19,18 @@ use Rattle.cf_model.proofs.OpenClaims.{claim_before_push}
 use Rattle.cf_ledger.specs.Ledgers.{Ledger, roomier, stages_of, state_at, state_of, with_more}
 use Rattle.cf_ledger.proofs.Words.{all_claims}
 use Rattle.cf_request.specs.Attaching.{TellsAttach, TellsAttaches}
-use Rattle.cf_request.specs.Gathering.{Gathers, attaches, first_two, form_of, gathered, gathers, joins, stages_for}
+use Rattle.cf_request.specs.Gathering.{Gathers, attaches, first_two, form_of, gathered, joins}
 use Rattle.cf_request.specs.Machines.{Machine, stages_in, state_in}
 use Rattle.cf_request.specs.Rows.{IsLater}
 use Rattle.cf_request.specs.Telling.{Teller, is_settled_in}
 use Rattle.cf_request.specs.declared.gathering.Gathering.{Gathering}
-use Rattle.cf_request.specs.declared.gathering.Gathering.TheVariants.{AllOf}
+use Rattle.cf_request.specs.declared.gathering.Gathering.TheVariants.{AllOf, AnyOf}
 use Rattle.cf_request.proofs.Attached.{attaches_one, outcome_stays, stages_attached, state_attached}
 use Rattle.cf_request.proofs.Gathered.{pair_there, rest_there, row_gathers, gathers_count, two_there}
 use Rattle.cf_request.proofs.Rows.{adds_behind}
-use Rattle.cf_request_laws.specs.Roots.{AllOfRootsAreAsOne, AreGathered, EndsAsOne, RootsAreInTime, RootsEndAsOne, events_in, given}
-use Rattle.cf_request_laws.proofs.Histories.{all_as_one, ends_as_one, in_time, state_last}
-use Rattle.cf_request_laws.proofs.Stages.{IsHeld, IsPending, IsPlanned, IsSound, map_same, waits_by}
+use Rattle.cf_request_laws.specs.Roots.{AllOfRootsAreAsOne, AnyOfRootsHaveTheFirst, AreGathered, RootsAreInTime, RootsEndAsOne, events_in, given}
+use Rattle.cf_request_laws.proofs.Histories.{all_as_one, any_has_the_first, ends_as_one, in_time, state_last}
+use Rattle.cf_request_laws.proofs.Stages.{IsHeld, IsPending, IsSound, map_same, waits_by}
 use Rattle.cf_request_laws.proofs.Trees.{EachJoin, EachOf, beginning, joining, map_each}
 
 -- ---- one stage more
@@ -205,6 +205,9 @@ roots_end_as_one who how sources root old attached new h =
 
 pub all_of_roots_are_as_one : AllOfRootsAreAsOne
 all_of_roots_are_as_one who sources root old attached new h = all_as_one sources (stages_in old) root (events_in attached) new.teller.ledger (roots_end_as_one who AllOf sources root old attached new h)
+
+pub any_of_roots_have_the_first : AnyOfRootsHaveTheFirst
+any_of_roots_have_the_first who sources root old attached new h = any_has_the_first sources (stages_in old) root (events_in attached) new.teller.ledger (roots_end_as_one who AnyOf sources root old attached new h)
 
 pub roots_are_in_time : RootsAreInTime
 roots_are_in_time who how sources root old attached new h some =

@@ -1,21 +1,25 @@
 -- The stages that gather, from one place of a history on.
-use Rattle.std.proofs.Common.{◌≡◌, ℕ, zero, suc, ◌+◌, ◌-◌, ◌<◌, ◌≤◌, Bool, true, false, drop, length, map, take, Option, Some, None, List, [], ◌∷◌, ◌++◌, refl, ap, sym, ◌∙◌, arith, subst, inl, inr, ◌⊎◌, take-append-drop}
-use Rattle.std.specs.Option.{option_map_or}
+use Rattle.std.proofs.Common.{◌≡◌, ℕ, zero, suc, ◌+◌, ◌-◌, ◌<◌, ◌≤◌, Bool, true, false, drop, length, map, take, Option, Some, None, List, [], ◌∷◌, All, Contains, refl, ap, sym, ◌∙◌, arith, subst, inl, inr, ◌⊎◌, take-append-drop}
+use Rattle.std.specs.Option.{option_map, option_map_or}
 use Rattle.std.specs.Prelude.{is_some, slice_get}
+use Rattle.std.proofs.lemmas.List.Elements.{All-cons, All-nil}
 use Rattle.cf_outcome.specs.declared.outcome.Outcome.{Outcome}
+use Rattle.cf_outcome.specs.Outcomes.{wrap}
+use Rattle.cf_forms.specs.declared.forms.Form.TheVariants as forms
+use Rattle.cf_forms.specs.Forms.{due_of_first, first_there}
 use Rattle.cf_forms.specs.Plans.{PlannedStage, sources_at}
 use Rattle.cf_model.specs.declared.events.Event.{Event}
 use Rattle.cf_model.specs.Events.{answered, state_after}
-use Rattle.cf_model.specs.States.{State, outcome_in, start}
+use Rattle.cf_model.specs.States.{State, due_state, outcome_in, outcome_of, start}
 use Rattle.cf_model.proofs.Closed.{reached_closed}
 use Rattle.cf_model.proofs.Histories.{state_after-append}
 use Rattle.cf_model.proofs.Moves.{keeps_outcomes}
 use Rattle.cf_ledger.specs.Ledgers.{Ledger, state_at, state_of}
-use Rattle.cf_request.specs.Linked.{IsTick}
 use Rattle.cf_request.specs.Telling.{is_settled_in}
 use Rattle.cf_request.specs.declared.gathering.Gathering.{Gathering}
-use Rattle.cf_request.specs.declared.gathering.Gathering.TheVariants.{AllOf}
-use Rattle.cf_request_laws.specs.Roots.{EndsAsOne, OneCameFirst, Takes, TookAsOne, Waits, given}
+use Rattle.cf_request.specs.declared.gathering.Gathering.TheVariants.{AllOf, AnyOf}
+use Rattle.cf_request.proofs.Lists.{contains_head, contains_tail}
+use Rattle.cf_request_laws.specs.Roots.{AreAllOpen, EndsAsOne, HasTheFirst, OneCameFirst, Takes, TookAsOne, Waits, given}
 use Rattle.cf_request_laws.proofs.Stages.{ComesFirst, IsHeld, IsSound, Lasts, given_stays, stays_one}
 use Rattle.cf_request_laws.proofs.Trees.{EachOf, OneOf, none_by, root_has, root_settles, tree_held, tree_stays}
 
@@ -144,6 +148,74 @@ all_as_one sources first root from l (inl waits) = inl (none_by (outcome_in (sta
 all_as_one sources first root from l (inr (inl (inl took))) = inl (took_since sources root from l took)
 all_as_one sources first root from l (inr (inl (inr took))) = inl (took_since sources root (took.place + 1) l took.takes)
 all_as_one sources first root from l (inr (inr one)) = inr one
+
+-- ---- anyOf
+
+pub record IsFound (s : State) (sources : List ℕ) (o : Outcome) : Type 0 where
+  pub source : ℕ
+  pub among : Contains sources source
+  pub settled : outcome_in s.stages source ≡ Some o
+
+found_by : (s : State) (j : ℕ) (sources : List ℕ) (x : Option Outcome) (o : Outcome) → outcome_in s.stages j ≡ x → (let q : List (Option Outcome) = x ∷ map (outcome_in s.stages) sources in first_there q ≡ Some o) →
+    (first_there (map (outcome_in s.stages) sources) ≡ Some o → IsFound s sources o) → IsFound s (j ∷ sources) o
+found_by s j sources None o is h rest = let r = rest h in record { source = r.source; among = contains_tail j r.source sources r.among; settled = r.settled }
+found_by s j sources (Some a) o is h rest = record { source = j; among = contains_head j sources; settled = is ∙ h }
+
+-- the first outcome is that of a source
+found : (s : State) (sources : List ℕ) (o : Outcome) → first_there (map (outcome_in s.stages) sources) ≡ Some o → IsFound s sources o
+found s [] o h = cc
+found s (j ∷ sources) o h = found_by s j sources (outcome_in s.stages j) o refl h (found s sources o)
+
+open_by : (s : State) (j : ℕ) (sources : List ℕ) (x : Option Outcome) → outcome_in s.stages j ≡ x → (let q : List (Option Outcome) = x ∷ map (outcome_in s.stages) sources in first_there q ≡ None) →
+    (first_there (map (outcome_in s.stages) sources) ≡ None → All (λ i. is_settled_in s.stages i ≡ false) sources) → All (λ i. is_settled_in s.stages i ≡ false) (j ∷ sources)
+open_by s j sources None is h rest = All-cons (λ i. is_settled_in s.stages i ≡ false) j sources (ap is_some is) (rest h)
+open_by s j sources (Some a) is h rest = cc
+
+-- or all of them are open
+all_open : (s : State) (sources : List ℕ) → first_there (map (outcome_in s.stages) sources) ≡ None → All (λ i. is_settled_in s.stages i ≡ false) sources
+all_open s [] h = All-nil (λ i. is_settled_in s.stages i ≡ false)
+all_open s (j ∷ sources) h = open_by s j sources (outcome_in s.stages j) refl h (all_open s sources)
+
+any_gives : (x : Option Outcome) → outcome_of (due_state (due_of_first forms.AnyOf x)) ≡ option_map wrap x
+any_gives None = refl
+any_gives (Some o) = refl
+
+any_none : (x : Option Outcome) → outcome_of (due_state (due_of_first forms.AnyOf x)) ≡ None → x ≡ None
+any_none None h = refl
+any_none (Some o) h = cc
+
+waits_open : (s : State) (sources : List ℕ) → given AnyOf sources s ≡ None → All (λ i. is_settled_in s.stages i ≡ false) sources
+waits_open s sources h = all_open s sources (any_none (first_there (map (outcome_in s.stages) sources)) h)
+
+-- what the root took is that of a source
+any_took : (sources : List ℕ) (root from place : ℕ) (l : Ledger) (x : Option Outcome) → first_there (map (outcome_in (state_at l place).stages) sources) ≡ x → from ≤ place → Takes AnyOf sources root (state_at l place) →
+    ((k : ℕ) → from ≤ k → k + 1 ≡ place → All (λ i. is_settled_in (state_at l k).stages i ≡ false) sources) → HasTheFirst sources root from l
+any_took sources root from place l None is since h none =
+    (let same = ap is_some (h.same ∙ any_gives (first_there (map (outcome_in (state_at l place).stages) sources)) ∙ ap (option_map wrap) is) in let no : true ≡ false = sym h.settled ∙ same in let never : ⊥ = cc in absurd never)
+any_took sources root from place l (Some o) is since h none =
+    let s = state_at l place in
+    let f = found s sources o is in
+    record {
+      place = place;
+      since = since;
+      source = f.source;
+      among = f.among;
+      outcome = o;
+      settled = f.settled;
+      none_before = none;
+      has = lasts_from l place root (wrap o) (h.same ∙ any_gives (first_there (map (outcome_in s.stages) sources)) ∙ ap (option_map wrap) is);
+    }
+
+pub any_has_the_first : (sources : List ℕ) (first root from : ℕ) (l : Ledger) → EndsAsOne AnyOf sources first root from l → AreAllOpen sources root (state_of l) ⊎ (HasTheFirst sources root from l ⊎ OneCameFirst AnyOf first root from l)
+any_has_the_first sources first root from l (inl waits) = inl (record { root_open = waits.root_open; sources_open = waits_open (state_of l) sources waits.none })
+any_has_the_first sources first root from l (inr (inl (inl took))) =
+    inr (inl (any_took sources root from from l (first_there (map (outcome_in (state_at l from).stages) sources)) refl (omega arith) took (λ k since is. absurd (omega (arith, since, is)))))
+any_has_the_first sources first root from l (inr (inl (inr took))) =
+    let place = took.place in
+    let since = took.since in
+    inr (inl (any_took sources root from (place + 1) l (first_there (map (outcome_in (state_at l (place + 1)).stages) sources)) refl (omega (arith, since)) took.takes
+      (λ k later is. waits_open (state_at l k) sources (ap (λ (i : ℕ). given AnyOf sources (state_at l i)) (let here : k ≡ place = omega (arith, is) in here) ∙ took.waits.none))))
+any_has_the_first sources first root from l (inr (inr one)) = inr (inr one)
 
 -- ---- whichever came first
 

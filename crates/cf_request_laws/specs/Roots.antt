@@ -1,6 +1,7 @@
 -- What the root of gathered stages has, over rows of a machine's calls.
-use Rattle.std.specs.Prelude.{◌≡◌, ◌⊎◌, ℕ, ◌+◌, ◌≤◌, true, false, Option, Some, None, List, is_some, length, map, slice_get}
+use Rattle.std.specs.Prelude.{◌≡◌, ◌⊎◌, ℕ, ◌+◌, ◌≤◌, true, false, Option, Some, None, List, All, Contains, is_some, length, map, slice_get}
 use Rattle.cf_outcome.specs.declared.outcome.Outcome.{Outcome}
+use Rattle.cf_outcome.specs.Outcomes.{wrap}
 use Rattle.cf_forms.specs.Plans.{sources_at}
 use Rattle.cf_model.specs.declared.events.Event.{Event}
 use Rattle.cf_model.specs.States.{State, outcome_in}
@@ -89,6 +90,28 @@ abbrev pub AllOfRootsAreAsOne : Type 0
 AllOfRootsAreAsOne =
     (who : ℕ) (sources : List ℕ) (root : ℕ) (old attached new : Machine) → AreGathered who AllOf sources root old attached new →
     (outcome_in (state_in new).stages root ≡ given AllOf sources (state_in new)) ⊎ OneCameFirst AllOf (stages_in old) root (events_in attached) new.teller.ledger
+
+-- A root of anyOf has the outcome of a source, wrapped, which is settled at this place. At the place before none of them was, unless they were gathered here.
+pub record HasTheFirst (sources : List ℕ) (root from : ℕ) (ledger : Ledger) : Type 0 where
+  pub place : ℕ
+  pub since : from ≤ place
+  pub source : ℕ
+  pub among : Contains sources source
+  pub outcome : Outcome
+  pub settled : outcome_in (state_at ledger place).stages source ≡ Some outcome
+  pub none_before : (k : ℕ) → from ≤ k → k + 1 ≡ place → All (λ i. is_settled_in (state_at ledger k).stages i ≡ false) sources
+  pub has : outcome_in (state_of ledger).stages root ≡ Some (wrap outcome)
+
+-- the root and all sources are open
+pub record AreAllOpen (sources : List ℕ) (root : ℕ) (s : State) : Type 0 where
+  pub root_open : is_settled_in s.stages root ≡ false
+  pub sources_open : All (λ i. is_settled_in s.stages i ≡ false) sources
+
+-- So it has that of a source that was settled first, and is open while none is, unless one came first.
+abbrev pub AnyOfRootsHaveTheFirst : Type 0
+AnyOfRootsHaveTheFirst =
+    (who : ℕ) (sources : List ℕ) (root : ℕ) (old attached new : Machine) → AreGathered who AnyOf sources root old attached new →
+    AreAllOpen sources root (state_in new) ⊎ (HasTheFirst sources root (events_in attached) new.teller.ledger ⊎ OneCameFirst AnyOf (stages_in old) root (events_in attached) new.teller.ledger)
 
 -- It is never late: whichever came first, it is settled once one stage over all sources would be.
 abbrev pub RootsAreInTime : Type 0
