@@ -15,7 +15,7 @@ use Rattle.cf_host.specs.declared.order.Order.TheVariants.{Call, Sleep}
 use Rattle.cf_host.specs.declared.request.Request.{Request}
 use Rattle.cf_host.specs.declared.requests.Length.{Length}
 use Rattle.cf_host.specs.declared.ticket.Asked.TheVariants.{Open as OfOpen}
-use Rattle.cf_host.specs.Answering.{Closing, Hearing, Landing, Refusing}
+use Rattle.cf_host.specs.Answering.{Closing, Landing, Refusing}
 use Rattle.cf_host.specs.Asking.{Asking, Ending, Growing, Wanting}
 use Rattle.cf_host.specs.Hosts.{Answers, AnswersRow, EndsCall, FollowsIn, HearsBeats, HearsNews, Host, IsOpened, LosesRequest, OnRequest, OnRequestFor, Orders, Sleeps, StaysUnanswered, beats_at_in, new_host, HearsRow}
 use Rattle.cf_host.specs.Waking.{patience_of, wake_of}
