@@ -3,7 +3,8 @@ use Rattle.std.proofs.Common.{◌≡◌, ℕ, ◌≤◌, List, [], ◌∷◌, �
 use Rattle.std.specs.Prelude.{min}
 use Rattle.std.proofs.Math.Nat.{min-eq_left, min-eq_right, min-le_left, min-le_right}
 use Rattle.std.proofs.lemmas.List.{at_drop_all}
-use Rattle.cf_host.specs.Waking.{least, never}
+use Rattle.cf_turn.specs.Timers.{never}
+use Rattle.cf_host.specs.Waking.{least}
 
 pub least_low : {A : Type 0} (of : A → ℕ) (xs : List A) → least of xs ≤ never
 least_low of [] = omega arith

@@ -6,7 +6,8 @@ use Rattle.std.proofs.lemmas.List.Elements.{All-cons, All-nil}
 use Rattle.cf_host.specs.declared.news.Look.{Look}
 use Rattle.cf_host.specs.Hosts.{beats_at_in}
 use Rattle.cf_host.specs.Laws.{SleepsInTime}
-use Rattle.cf_host.specs.Waking.{first_patience, first_wake, least, never, patience_of, wake_of}
+use Rattle.cf_turn.specs.Timers.{never}
+use Rattle.cf_host.specs.Waking.{first_patience, first_wake, least, patience_of, wake_of}
 
 least_each : {A : Type 0} (of : A → ℕ) (xs : List A) (until : ℕ) → until ≤ least of xs → All (λ x. until ≤ of x) xs
 least_each of [] until h = All-nil (λ x. until ≤ of x)

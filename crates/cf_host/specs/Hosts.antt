@@ -32,7 +32,8 @@ use Rattle.cf_host.specs.News.{News, answered_by, asked_by, is_whole, look_of, n
 use Rattle.cf_host.specs.Pulses.{beats_answered, beats_asked, beats_at, beats_silent, clock_of, later_by}
 use Rattle.cf_host.specs.Requests.{Begins, Follows, HearsAll, IsAt, IsPartOf, OnWork, looked_for}
 use Rattle.cf_host.specs.Tickets.{AreSame, Opens, Shuts, Tickets, call_in, no_tickets, ticket_of}
-use Rattle.cf_host.specs.Waking.{first_moment, first_patience, first_wake, never}
+use Rattle.cf_turn.specs.Timers.{never}
+use Rattle.cf_host.specs.Waking.{first_moment, first_patience, first_wake}
 
 -- What a contract sees: the session; how many functions may run at once; how long a session may be silent; whether the process takes up all
 -- requests that it hears of; whether it calls no functions any more; whether others take it for gone, and it hasn't beaten since; the sessions; the beats with the store's clock; the looks for news; the

@@ -1,12 +1,7 @@
 //! How many threads a process has left.
-ghost use Rattle.std.specs.Prelude.{◌≡◌, ◌≤◌, length};
-ghost use Rattle.cf_part.specs.Parts.{call_in};
-ghost use Rattle.cf_part.specs.Steps.{IsToCall};
-ghost use Rattle.cf_row.specs.Rows.{stages_of};
-ghost use Rattle.cf_host.specs.Busy.{Counts, Leaves, LeavesBehind, LeavesIn, claims_in, is_new, is_running, running_in};
+ghost use Rattle.cf_host.specs.Busy.{Leaves, LeavesIn};
 
 use crate::request::Request;
-use cf_part::{Entry, Part, Progress, Replica};
 
 /// How many of so many threads are free: one is taken by each function that runs, by each stage that the session has and
 /// whose function wasn't called, and by each claim that is under way.
@@ -24,87 +19,8 @@ pub(crate) fn free_threads(requests: &[Request], threads: usize) -> usize
 fn free_of(request: &Request, threads: usize) -> usize
     ensures { LeavesIn threads request.now.work result }
 {
-    match request.part() {
-        Some(part) => free_behind(part, threads),
+    match &request.work {
+        Some(work) => threads.saturating_sub(work.busy()),
         None => threads,
-    }
-}
-
-/// How many are left of so many threads behind what a part takes.
-fn free_behind(part: &Part, threads: usize) -> usize
-    ensures { LeavesBehind threads part.now result }
-{
-    let running = running_in(part.calls());
-    let claims = claims_in(part.put());
-    let called = count_to_call(part.calls(), part.view());
-    threads
-        .saturating_sub(running)
-        .saturating_sub(claims)
-        .saturating_sub(called)
-}
-
-/// How many of these functions run.
-fn running_in(calls: &[Progress]) -> usize
-    ensures is { result ≡ running_in calls.now }
-    ensures few { result ≤ length calls.now }
-{
-    let mut count = 0;
-    for call in calls {
-        if is_running(*call) {
-            count += 1;
-        }
-    }
-    count
-}
-
-/// Whether a function was called and hasn't ended.
-fn is_running(call: Progress) -> bool
-    ensures { result ≡ is_running call }
-{
-    match call {
-        Progress::Runs | Progress::Stopped => true,
-        Progress::NotCalled | Progress::Ended => false,
-    }
-}
-
-/// How many of these entries are claims.
-fn claims_in(entries: &[Entry]) -> usize
-    ensures is { result ≡ claims_in entries.now }
-    ensures few { result ≤ length entries.now }
-{
-    let mut count = 0;
-    for entry in entries {
-        if entry.word >> 56 == 4 {
-            count += 1;
-        }
-    }
-    count
-}
-
-/// How many stages a session has whose function wasn't called.
-fn count_to_call(calls: &[Progress], view: &Replica) -> usize
-    ensures { Counts (IsToCall calls.now view.now) (stages_of view.now) result }
-{
-    // (there are at most 4,096 stages)
-    let _ = view.ledger().stages();
-    let session = view.session();
-    let mut count = 0;
-    let mut from = 0;
-    while let Some(stage) = view.held(session, from) {
-        if is_new(calls, stage) {
-            count += 1;
-        }
-        from = stage + 1;
-    }
-    count
-}
-
-/// Whether the function of a stage wasn't called.
-fn is_new(calls: &[Progress], stage: u16) -> bool
-    ensures { result ≡ is_new (call_in calls.now stage) }
-{
-    match calls.get(stage as usize) {
-        Some(Progress::NotCalled) | None => true,
-        Some(_) => false,
     }
 }

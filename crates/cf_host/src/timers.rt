@@ -1,12 +1,10 @@
 //! When a process has to look at the store's clock for a timer, and when to wake for a request.
-ghost use Rattle.std.specs.Prelude.{◌≡◌, ◌<◌};
-ghost use Rattle.cf_row.specs.Rows.{stages_of};
-ghost use Rattle.cf_host.specs.Waking.{first_moment, first_patience, first_wake, moment_at, moment_of, moments_below, patience_of, wake_in, wake_of};
+ghost use Rattle.std.specs.Prelude.{◌≡◌};
+ghost use Rattle.cf_host.specs.Waking.{first_moment, first_patience, first_wake, moment_of, patience_of, wake_in, wake_of};
 
 use crate::request::Request;
 use crate::ticket::{Asked, Ticket};
-use cf_notes::{Noted, timer_of};
-use cf_part::{Part, Replica};
+use cf_part::Part;
 
 /// How long a user waits for an act, in milliseconds.
 pub(crate) const PATIENCE: u64 = 60000;
@@ -27,34 +25,9 @@ pub(crate) fn first_moment(requests: &[Request], clock: u64) -> u64
 fn moment_of(request: &Request, clock: u64) -> u64
     ensures { result ≡ moment_of clock request.now.work }
 {
-    match request.part() {
-        Some(part) if part.fault().is_none() => moment_in(part.view(), part.notes(), clock),
-        _ => u64::MAX,
-    }
-}
-
-/// The same of a view.
-fn moment_in(view: &Replica, notes: &[Noted], clock: u64) -> u64
-    ensures { result ≡ moments_below (stages_of view.now) view.now notes.now clock }
-{
-    let mut first = u64::MAX;
-    for stage in 0..view.ledger().stages() {
-        first = first.min(moment_at(view, notes, clock, stage));
-    }
-    first
-}
-
-/// The moment of a stage's timer, if the stage is open and the store's clock hasn't come to it.
-fn moment_at(view: &Replica, notes: &[Noted], clock: u64, stage: u16) -> u64
-    requires { stage < stages_of view.now }
-    ensures { result ≡ moment_at view.now notes.now clock stage }
-{
-    if view.ledger().outcome(stage).is_some() {
-        return u64::MAX;
-    }
-    match timer_of(notes, stage) {
-        Some(timer) if timer.moment > clock => timer.moment,
-        _ => u64::MAX,
+    match &request.work {
+        Some(work) => work.first_timer(clock),
+        None => u64::MAX,
     }
 }
 

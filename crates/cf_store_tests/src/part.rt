@@ -349,7 +349,10 @@ fn tell(part: &mut Part, call: Move) -> bool {
         Hears(words) => part.told_length(words),
         Waits(now) => part.unknown(now),
         Breaks => part.breaks(Fault::Dropped),
-        Unreads(now) if part.has_place(0) => part.unread(now, 0),
+        Unreads(now) if part.has_place(0) => {
+            part.unread(now, 0);
+            return part.wanted().first() == Some(&Some(now.saturating_add(20)));
+        }
         _ => return false,
     }
     true

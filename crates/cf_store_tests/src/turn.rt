@@ -13,7 +13,7 @@ use std::alloc::Global;
 use std::process::Abort;
 
 /// One call: a turn at a moment, with what it tells; or another one. Of entries at a put's place it is told whether they
-/// are the put's own.
+/// are the put's own; of a first timer behind which moment of the store's clock it comes.
 #[derive(Clone, Copy)]
 enum Move {
     AsksRead(u64, usize),
@@ -23,6 +23,10 @@ enum Move {
     Shows(u64, Shown),
     Calls(u64, u16, u32, Args),
     Rests(u64),
+    RestsUnclaimed,
+    AsksPutBy(u64, usize),
+    Busy(usize),
+    TimerBehind(u64, u64),
     Acts(Act),
     Ends,
     Hears(usize),
@@ -48,7 +52,13 @@ const SETTLED: Told = Told::Not(NoAct::Settled { is_as_asked: false });
 
 const COMPLETE: Act = Act::Complete { stage: 0 };
 
-/// The word of that, if nothing stands yet, as session 1 puts it.
+const LIMIT: Act = Act::Limit {
+    stage: 0,
+    moment: 50,
+    gives: false,
+};
+
+/// The word of COMPLETE, if nothing stands yet, as session 1 puts it.
 const OWN: Entry = Entry {
     word: 0x0100000100000001,
     token: TOKENS,
@@ -230,10 +240,36 @@ const ENDED: [Move; 10] = [
     Tells(0, Told::Closed),
 ];
 
+/// What rests goes on once a thread is free, and once a timer has come.
+const TIMED: [Move; 22] = [
+    AsksRead(0, 0),
+    Reads,
+    Acts(LIMIT),
+    AsksPut(0, 0),
+    Stands,
+    Tells(0, STANDS),
+    RestsUnclaimed,
+    RestsUnclaimed,
+    Busy(0),
+    TimerBehind(0, 50),
+    TimerBehind(49, 50),
+    TimerBehind(50, u64::MAX),
+    AsksPut(0, 1),
+    Busy(1),
+    Stands,
+    Calls(0, 0, 7, Args::None),
+    Busy(1),
+    Rests(0),
+    Rests(0),
+    Busy(1),
+    TimerBehind(0, 50),
+    AsksPutBy(50, 2),
+];
+
 /// The name of a case, whether its request is a flow, and what is done.
 type Case = (&'static str, bool, &'static [Move]);
 
-static CASES: [Case; 11] = [
+static CASES: [Case; 12] = [
     ("flows", true, &FLOWS),
     ("closed", true, &CLOSED),
     ("acts", false, &ACTS),
@@ -245,6 +281,7 @@ static CASES: [Case; 11] = [
     ("late", false, &LATE),
     ("broken", false, &BROKEN),
     ("ended", false, &ENDED),
+    ("timed", true, &TIMED),
 ];
 
 /// The work of session 1, where somebody waits for the supply.
@@ -351,6 +388,8 @@ fn is_made(work: &mut Work, call: Move) -> bool {
             work.unknown(now);
             true
         }
+        Busy(threads) => work.busy() == threads,
+        TimerBehind(clock, moment) => work.first_timer(clock) == moment,
         Breaks => {
             work.breaks(Fault::Dropped);
             true
@@ -365,6 +404,17 @@ fn is_made(work: &mut Work, call: Move) -> bool {
 
 /// Makes a turn, and compares what it tells, or makes another call. A stage may be claimed in a flow.
 fn is_answered(work: &mut Work, watch: &Watch, call: Move) -> bool {
+    match call {
+        RestsUnclaimed => work.turn(0, watch, 0, false).is_none(),
+        AsksPutBy(clock, at) => {
+            work.turn(0, watch, clock, true) == Some(Turn::Ask(Question::Put { at }))
+        }
+        _ => is_told(work, watch, call),
+    }
+}
+
+/// The same of a turn before a timer comes, or of another call.
+fn is_told(work: &mut Work, watch: &Watch, call: Move) -> bool {
     match told_in(call) {
         Some((now, wanted)) => {
             let may_claim = work.part().is_flow();

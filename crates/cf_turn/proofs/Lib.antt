@@ -5,3 +5,5 @@ pub mod Standing
 pub mod Truth
 pub mod Telling
 pub mod Fitting
+pub mod Counted
+pub mod Quiets

@@ -1,6 +1,9 @@
 pub mod Works
 pub mod Closing
+pub mod Timers
+pub mod Busy
 pub mod Turns
+pub mod Quiets
 pub mod Answers
 pub mod Rows
 pub mod Truth

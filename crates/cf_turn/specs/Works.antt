@@ -31,6 +31,18 @@ pub record Work : Type 0 where
   pub is_doubtful : Bool
   pub closed_at : Option ℕ
 
+abbrev pub work_of : Part → Users → Bool → Bool → Option ℕ → Work
+work_of part users is_acting is_doubtful closed_at =
+    record {
+      part = part;
+      wishes = users.wishes;
+      ends = users.ends;
+      free = users.free;
+      is_acting = is_acting;
+      is_doubtful = is_doubtful;
+      closed_at = closed_at;
+    }
+
 abbrev pub new_work : Part → Work
 new_work part = record { part = part; wishes = []; ends = []; free = 0; is_acting = false; is_doubtful = false; closed_at = None }
 

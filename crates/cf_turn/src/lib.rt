@@ -9,9 +9,12 @@
 #![tactic(auto)]
 
 mod acting;
+mod busy;
 mod closing;
 pub mod laws;
 mod planning;
+mod quiet;
+mod timers;
 mod turn;
 mod users;
 mod wish;

@@ -2,6 +2,7 @@
 ghost use Rattle.std.specs.Prelude.{◌≡◌, ◌-◌, ◌<◌, [], ◌∷◌, ◌++◌, IfNone, IfSome, OnErr, OnOk, length, max, nat_lt, slice_get};
 ghost use Rattle.std.specs.List.{remove};
 ghost use Rattle.cf_due.specs.Acts.{IsFitting};
+ghost use Rattle.cf_turn.specs.Quiets.{ActsWait, EndsWait};
 ghost use Rattle.cf_turn.specs.Works.{IsEndTold, IsTold, NoEndTold, NoneTold, answered_first, no_users};
 
 use crate::acting::{end_told, wish_told};
@@ -161,6 +162,14 @@ impl Users {
         None
     }
 
+    /// A moment up to which all of them wait.
+    pub(crate) fn wait_till(&self) -> u64
+        ensures acts { ActsWait self.now.wishes result (length self.now.wishes) }
+        ensures ends { EndsWait self.now.ends result (length self.now.ends) }
+    {
+        acts_wait_till(&self.wishes).min(ends_wait_till(&self.ends))
+    }
+
     /// Leaves an act out, whose user is told.
     pub(crate) fn remove_act(&mut self, at: usize)
         requires { at < length self.old.wishes }
@@ -185,4 +194,26 @@ impl Users {
             self.wishes[0].answer = Some(told);
         }
     }
+}
+
+/// A moment up to which these users wait.
+fn acts_wait_till(wishes: &[Wish]) -> u64
+    ensures { ActsWait wishes.now result (length wishes.now) }
+{
+    let mut until = u64::MAX;
+    for at in 0..wishes.len() {
+        until = until.min(wishes[at].until);
+    }
+    until
+}
+
+/// The same of those who end the request.
+fn ends_wait_till(ends: &[End]) -> u64
+    ensures { EndsWait ends.now result (length ends.now) }
+{
+    let mut until = u64::MAX;
+    for at in 0..ends.len() {
+        until = until.min(ends[at].until);
+    }
+    until
 }

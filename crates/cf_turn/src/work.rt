@@ -4,17 +4,24 @@ ghost use Rattle.std.specs.Bool.{OnFalse, OnTrue};
 ghost use Rattle.cf_due.specs.Acts.{IsFitting};
 ghost use Rattle.cf_forms.specs.Plans.{has_place};
 ghost use Rattle.cf_part.specs.Answers.{Breaks, Ends, Grows, IsRunning, Misreads, PlansWords, Reads};
-ghost use Rattle.cf_part.specs.Parts.{IsClose, IsPut, IsRead, MayPlan, later, words_wanted};
+ghost use Rattle.cf_part.specs.Parts.{IsClose, IsPut, IsRead, MayPlan, later, words_wanted, question_of};
 ghost use Rattle.cf_part.specs.Steps.{NothingToTell};
 ghost use Rattle.cf_row.specs.Puts.{IsNoPut};
 ghost use Rattle.cf_turn.specs.Answers.{ClosesWork, LandsWork, MeetsWork, MismeetsWork, RefusesWork, Settles, WaitsWork, is_put};
 ghost use Rattle.cf_turn.specs.Closing.{IsOver};
-ghost use Rattle.cf_turn.specs.Turns.{ActIsPutOff, ActsOn, DoesDue, IsPutOff, Puts, Rests, RestsDue, Steps, TellsEnd, TellsTo, TellsWish, Turns, moment_of, wants_of};
+ghost use Rattle.cf_turn.specs.Busy.{Takes};
+ghost use Rattle.cf_turn.specs.Quiets.{ActsWait, EndsWait, IsAfter, IsAtRest, IsQuiet, IsTillShown};
+ghost use Rattle.cf_turn.specs.Timers.{first_timer};
+ghost use Rattle.cf_watch.specs.Watches.{Watch};
+ghost use Rattle.cf_turn.specs.Turns.{ActIsPutOff, ActsOn, AsksStill, DoesDue, IsPutOff, Puts, Rests, RestsDue, Steps, TellsEnd, TellsTo, TellsWish, Turns, moment_of, wants_of};
 ghost use Rattle.cf_turn.specs.Works.{NoEndTold, NobodyIsTold, NoneTold, is_closed_in, new_work, wish_of};
 
 use crate::acting::stage_of;
+use crate::busy::busy_in;
 use crate::closing::{is_at, is_done};
 use crate::planning::{Putting, putting_for, putting_of};
+use crate::quiet::{Quiet, earlier, only_own, till_shown};
+use crate::timers::first_timer;
 use crate::turn::Turn;
 use crate::users::{Place, Users};
 use crate::wish::{End, Told, Wish};
@@ -33,12 +40,17 @@ pub struct Work {
     is_acting: bool,
     is_doubtful: bool,
     closed_at: Option<usize>,
+    quiet: Option<Quiet>,
 }
 
 impl Model for Work {
     ghost use Rattle.cf_turn.specs.Works.{Work};
 
     ghost Value = { Work };
+
+    ghost use Rattle.std.specs.Prelude.{IfSome};
+    ghost use Rattle.cf_turn.specs.Quiets.{IsQuiet};
+    ghost use Rattle.cf_turn.specs.Works.{work_of};
 
     ghost view = { λ w. record {
       part = w.part;
@@ -49,6 +61,9 @@ impl Model for Work {
       is_doubtful = w.is_doubtful;
       closed_at = w.closed_at;
     } };
+
+    ghost invariant = { λ w. IfSome w.quiet
+        (λ quiet. IsQuiet (work_of w.part w.users w.is_acting w.is_doubtful w.closed_at) quiet) };
 }
 
 impl Work {
@@ -62,6 +77,7 @@ impl Work {
             is_acting: false,
             is_doubtful: false,
             closed_at: None,
+            quiet: None,
         }
     }
 
@@ -72,6 +88,28 @@ impl Work {
         &self.part
     }
 
+    /// How many threads the request takes: one for each function that runs, for each stage that the session has and whose
+    /// function wasn't called, and for each claim that is under way.
+    pub fn busy(&self) -> usize
+        ensures { Takes self.now.part result }
+    {
+        match self.quiet {
+            Some(quiet) => quiet.busy,
+            None => busy_in(&self.part),
+        }
+    }
+
+    /// The first moment of a timer of an open stage that the store's clock hasn't come to, `u64::MAX` without one, and
+    /// where nothing goes on any more.
+    pub fn first_timer(&self, clock: u64) -> u64
+        ensures { result ≡ first_timer clock self.now.part }
+    {
+        match self.quiet {
+            Some(quiet) if clock < quiet.clock => quiet.clock,
+            _ => first_timer(&self.part, clock),
+        }
+    }
+
     /// Finds places for so many users more who ask for an act or end the request. It fails only where there is no memory,
     /// and then changes nothing. While some are left, none is refused for want of memory.
     pub fn reserve(&mut self, more: usize) -> Result<(), AllocError>
@@ -79,6 +117,7 @@ impl Work {
         ensures refused { OnErr result (self.new ≡ self.old) }
         ensures short { OnErr result (self.old.free < more) }
     {
+        self.quiet = None;
         self.users.reserve(more)
     }
 
@@ -93,6 +132,7 @@ impl Work {
         ensures refused { OnErr result (self.new ≡ self.old) }
         ensures short { OnErr result (self.old.free ≡ 0) }
     {
+        self.quiet = None;
         self.users.add_act(Wish {
             number,
             act,
@@ -111,6 +151,7 @@ impl Work {
         ensures refused { OnErr result (self.new ≡ self.old) }
         ensures short { OnErr result (self.old.free ≡ 0) }
     {
+        self.quiet = None;
         self.users.add_end(End { number, until })
     }
 
@@ -121,6 +162,7 @@ impl Work {
           part = record self.old.part { wanted = slice_set self.old.part.wanted stage (Some 0) };
         } }
     {
+        self.quiet = None;
         self.part.wants(stage);
     }
 
@@ -131,6 +173,7 @@ impl Work {
           part = record self.old.part { wanted = slice_set self.old.part.wanted stage None };
         } }
     {
+        self.quiet = None;
         self.part.lets_go(stage);
     }
 
@@ -141,6 +184,7 @@ impl Work {
           part = record self.old.part { wanted = slice_set self.old.part.wanted stage (Some (later now)) };
         } }
     {
+        self.quiet = None;
         self.part.unread(now, stage);
     }
 
@@ -152,6 +196,7 @@ impl Work {
         ensures rest { self.new ≡ record self.old { part = self.new.part } }
         ensures unchanged { OnErr result (self.new ≡ self.old) }
     {
+        self.quiet = None;
         self.part.grow(alloc, more)
     }
 
@@ -161,6 +206,7 @@ impl Work {
           part = record self.old.part { words = max self.old.part.words words };
         } }
     {
+        self.quiet = None;
         self.part.told_length(words);
     }
 
@@ -168,6 +214,7 @@ impl Work {
     pub fn reads_again(&mut self)
         ensures { self.new ≡ record self.old { part = record self.old.part { is_stale = true } } }
     {
+        self.quiet = None;
         self.part.reads_again();
     }
 
@@ -177,6 +224,7 @@ impl Work {
         ensures part { Ends self.old.part stage answer self.new.part }
         ensures rest { self.new ≡ record self.old { part = self.new.part } }
     {
+        self.quiet = None;
         self.part.ended(stage, answer);
     }
 
@@ -184,6 +232,29 @@ impl Work {
     /// sessions are gone, the store's clock has come to `clock` at least, and a claim is put only if the process may claim
     /// a stage. Where there is nothing, it is asked again behind a call, or later.
     pub fn turn(&mut self, now: u64, watch: &Watch, clock: u64, may_claim: bool) -> Option<Turn>
+        ensures turns { IfSome result (λ t.
+            Turns self.old (moment_of now watch.now clock may_claim) t self.new) }
+        ensures rests { IfNone result (Rests self.old (moment_of now watch.now clock may_claim) self.new) }
+    {
+        if self.is_quiet(now, clock, may_claim) {
+            return None;
+        }
+        self.next(now, watch, clock, may_claim)
+    }
+
+    /// Whether it is known that nothing is to be done by now.
+    fn is_quiet(&self, now: u64, clock: u64, may_claim: bool) -> bool
+        ensures { OnTrue result
+            ((watch : Watch) → Rests self.now (moment_of now watch clock may_claim) self.now) }
+    {
+        match self.quiet {
+            Some(quiet) => quiet.covers(now, clock, may_claim),
+            None => false,
+        }
+    }
+
+    /// What is to be done next, where that isn't known.
+    fn next(&mut self, now: u64, watch: &Watch, clock: u64, may_claim: bool) -> Option<Turn>
         ensures turns { IfSome result (λ t.
             Turns self.old (moment_of now watch.now clock may_claim) t self.new) }
         ensures rests { IfNone result (Rests self.old (moment_of now watch.now clock may_claim) self.new) }
@@ -198,13 +269,70 @@ impl Work {
             return Some(turn);
         }
         if !self.part.may_plan(now) {
-            let question = self.part.question(now)?;
-            return Some(Turn::Ask(question));
+            return self.ask(now, watch, clock, may_claim);
         }
         match self.users.first_act() {
             Some(wish) => self.act(now, wish),
             None => self.due(now, watch, clock, may_claim),
         }
+    }
+
+    /// Asks the question that is due, if there is one.
+    fn ask(&mut self, now: u64, watch: &Watch, clock: u64, may_claim: bool) -> Option<Turn>
+        requires told { NobodyIsTold self.old now }
+        requires steps { NothingToTell self.old.part now }
+        requires may { ¬ MayPlan self.old.part now }
+        ensures asks { IfSome result (λ t. AsksStill self.old now t self.new) }
+        ensures none { IfNone result (question_of self.old.part now ≡ None) }
+        ensures unchanged { IfNone result (self.new ≡ self.old) }
+    {
+        self.quiet = None;
+        match self.part.question(now) {
+            Some(question) => Some(Turn::Ask(question)),
+            None => {
+                self.rest(now, watch, clock, may_claim);
+                None
+            }
+        }
+    }
+
+    /// Keeps how long nothing is to be done, where nothing is by now.
+    fn rest(&mut self, now: u64, watch: &Watch, clock: u64, may_claim: bool)
+        requires { IsAtRest self.old (moment_of now watch.now clock may_claim) }
+        ensures { self.new ≡ self.old }
+    {
+        self.quiet = self.quiet_from(now, watch, clock, may_claim);
+    }
+
+    /// How long nothing is to be done, if that is known, where nothing is by now.
+    fn quiet_from(&self, now: u64, watch: &Watch, clock: u64, may_claim: bool) -> Option<Quiet>
+        requires { IsAtRest self.now (moment_of now watch.now clock may_claim) }
+        ensures { IfSome result (λ quiet. IsQuiet self.now quiet) }
+    {
+        // (the contract alone reads these)
+        let _watch = watch;
+        let _clock = clock;
+        if self.part.may_plan(now) && !only_own(self.part.view()) {
+            return None;
+        }
+        Some(Quiet {
+            until: self.till(now),
+            clock: first_timer(&self.part, 0),
+            claims: may_claim,
+            busy: busy_in(&self.part),
+        })
+    }
+
+    /// A moment up to which nobody is to be told anything, and nothing is asked again.
+    fn till(&self, now: u64) -> u64
+        ensures acts { ActsWait self.now.wishes result (length self.now.wishes) }
+        ensures ends { EndsWait self.now.ends result (length self.now.ends) }
+        ensures shown { IsTillShown self.now.part.wanted now result (length self.now.part.wanted) }
+        ensures retry { IsAfter (Some self.now.part.retry) now result }
+    {
+        let users = self.users.wait_till();
+        let shown = till_shown(self.part.wanted(), now);
+        earlier(users.min(shown), Some(self.part.retry()), now)
     }
 
     /// Tells the first user who is to be told something by now.
@@ -226,6 +354,7 @@ impl Work {
         ensures none { IfNone result (NoneTold self.old.part.fault now (length self.old.wishes) self.old.wishes) }
     {
         let place = self.users.act_to_tell(self.part.fault(), now)?;
+        self.quiet = None;
         self.users.remove_act(place.at);
         self.is_acting = stays_first(self.is_acting, place.at);
         Some(place)
@@ -240,6 +369,7 @@ impl Work {
     {
         let is_closed = is_at(self.closed_at, self.part.view().seen().len());
         let place = self.users.end_to_tell(self.part.fault(), is_closed, now)?;
+        self.quiet = None;
         self.users.remove_end(place.at);
         Some(place)
     }
@@ -250,6 +380,7 @@ impl Work {
         ensures unchanged { IfNone result (self.new ≡ self.old) }
         ensures none { IfNone result (NothingToTell self.old.part now) }
     {
+        self.quiet = None;
         match self.part.next(now)? {
             Step::Show { stage, shown } => Some(Turn::Show { stage, shown }),
             Step::Stop { stage } => Some(Turn::Stop { stage }),
@@ -275,6 +406,7 @@ impl Work {
                 Some(Turn::Ask(question))
             }
             Err(why) => {
+                self.quiet = None;
                 self.users.remove_act(0);
                 Some(Turn::Tell {
                     number: wish.number,
@@ -286,11 +418,15 @@ impl Work {
 
     /// Plans what is due, or else closes the request, where it is over.
     fn due(&mut self, now: u64, watch: &Watch, clock: u64, may_claim: bool) -> Option<Turn>
-        requires { MayPlan self.old.part now }
+        requires told { NobodyIsTold self.old now }
+        requires steps { NothingToTell self.old.part now }
+        requires may { MayPlan self.old.part now }
+        requires free { self.old.wishes ≡ [] }
         ensures does { IfSome result (λ t.
             DoesDue self.old (moment_of now watch.now clock may_claim) t self.new) }
         ensures rests { IfNone result (RestsDue self.old (moment_of now watch.now clock may_claim) self.new) }
     {
+        self.quiet = None;
         let part = &self.part;
         match next_due(
             part.view(),
@@ -305,7 +441,10 @@ impl Work {
                 Some(Turn::Ask(question))
             }
             None if self.is_over(watch) => Some(Turn::Ask(self.part.close())),
-            None => None,
+            None => {
+                self.rest(now, watch, clock, may_claim);
+                None
+            }
         }
     }
 
@@ -315,7 +454,9 @@ impl Work {
         ensures puts { IfSome result (λ q. Puts self.old putting q self.new) }
         ensures off { IfNone result (IsPutOff self.old now putting self.new) }
     {
-        if self.plan(putting).is_err() {
+        let planned = self.plan(putting);
+        self.quiet = None;
+        if planned.is_err() {
             self.part.unknown(now);
             return None;
         }
@@ -334,6 +475,7 @@ impl Work {
             (words_wanted (wants_of putting)) fault) }
         ensures rest { self.new ≡ record self.old { part = self.new.part } }
     {
+        self.quiet = None;
         match putting.second {
             Some(second) => self.part.plan(&[putting.first, second], putting.of),
             None => self.part.plan(&[putting.first], putting.of),
@@ -359,6 +501,7 @@ impl Work {
         ensures front { IfErr result (λ m. Misreads self.old.part now entries.now notes.now m self.new.part) }
         ensures rest { self.new ≡ record self.old { part = self.new.part; is_acting = false } }
     {
+        self.quiet = None;
         self.is_acting = false;
         self.part.read(now, entries, notes)
     }
@@ -369,6 +512,7 @@ impl Work {
         ensures { LandsWork self.old self.new }
     {
         let stages = self.part.view().ledger().stages();
+        self.quiet = None;
         self.part.stands();
         self.settle(true, stages);
     }
@@ -383,6 +527,7 @@ impl Work {
         ensures refused { IfErr result (λ m. MismeetsWork self.old now entries.now notes.now m self.new) }
     {
         let stages = self.part.view().ledger().stages();
+        self.quiet = None;
         match self.part.others(now, entries, notes) {
             Ok(landed) => {
                 self.settle(landed, stages);
@@ -400,6 +545,7 @@ impl Work {
         requires { stages ≤ 4096 }
         ensures { Settles self.old landed stages self.new }
     {
+        self.quiet = None;
         if landed && self.is_acting {
             if let Some(wish) = self.users.first_act() {
                 self.users.answer_first(Told::Stands {
@@ -416,6 +562,7 @@ impl Work {
         requires { IsPut self.old.part.asked }
         ensures { RefusesWork self.old now self.new }
     {
+        self.quiet = None;
         if self.is_acting && self.is_doubtful {
             self.part.unknown(now);
             return;
@@ -431,6 +578,7 @@ impl Work {
     pub fn unknown(&mut self, now: u64)
         ensures { WaitsWork self.old now self.new }
     {
+        self.quiet = None;
         self.is_doubtful = self.is_doubtful || is_put(self.part.asked());
         self.part.unknown(now);
     }
@@ -440,6 +588,7 @@ impl Work {
         requires { IsClose self.old.part.asked }
         ensures { ClosesWork self.old is_closed self.new }
     {
+        self.quiet = None;
         self.part.closed(is_closed);
         if is_closed {
             self.closed_at = Some(self.part.view().seen().len());
@@ -451,6 +600,7 @@ impl Work {
         ensures part { Breaks self.old.part fault self.new.part }
         ensures rest { self.new ≡ record self.old { part = self.new.part; is_acting = false } }
     {
+        self.quiet = None;
         self.part.breaks(fault);
         self.is_acting = false;
     }

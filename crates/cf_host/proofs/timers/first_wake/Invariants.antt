@@ -1,6 +1,7 @@
 use Rattle.std.proofs.Common.{◌≡◌, ◌≤◌, drop}
 use Rattle.std.specs.Prelude.{min}
-use Rattle.cf_host.specs.Waking.{first_wake, never}
+use Rattle.cf_turn.specs.Timers.{never}
+use Rattle.cf_host.specs.Waking.{first_wake}
 use Rattle.cf_host.proofs.timers.first_wake.Given as goal
 
 -- the least of all is that so far, or comes behind

@@ -1,6 +1,6 @@
 use Rattle.std.proofs.Common.{◌≡◌, ◌+◌, ◌≤◌, drop}
-use Rattle.cf_host.specs.Busy.{running_in}
-use Rattle.cf_host.proofs.busy.running_in.Given as goal
+use Rattle.cf_turn.specs.Busy.{running_in}
+use Rattle.cf_turn.proofs.busy.running_in.Given as goal
 
 -- those so far are counted
 abbrev pub invariant-loop-call : goal.invariant-loop-call

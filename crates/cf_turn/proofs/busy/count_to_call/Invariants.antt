@@ -1,8 +1,8 @@
 use Rattle.std.proofs.Common.{◌-◌, ◌≤◌}
 use Rattle.cf_part.specs.Steps.{IsToCall}
 use Rattle.cf_row.specs.Rows.{stages_of}
-use Rattle.cf_host.specs.Busy.{Counts}
-use Rattle.cf_host.proofs.busy.count_to_call.Given as goal
+use Rattle.cf_turn.specs.Busy.{Counts}
+use Rattle.cf_turn.proofs.busy.count_to_call.Given as goal
 
 -- those so far are counted
 abbrev pub invariant-loop-stage : goal.invariant-loop-stage

@@ -1,8 +1,8 @@
 use Rattle.std.proofs.Common.{◌∙◌, arith, sym}
-use Rattle.cf_host.specs.Busy.Counts.{none}
-use Rattle.cf_host.proofs.Counted.{counts_end, counts_one, counts_other}
-use Rattle.cf_host.proofs.busy.count_to_call.Goals.{then-is_new, else-is_new}
-use Rattle.cf_host.proofs.busy.count_to_call.Goals as goal
+use Rattle.cf_turn.specs.Busy.Counts.{none}
+use Rattle.cf_turn.proofs.Counted.{counts_end, counts_one, counts_other}
+use Rattle.cf_turn.proofs.busy.count_to_call.Goals.{then-is_new, else-is_new}
+use Rattle.cf_turn.proofs.busy.count_to_call.Goals as goal
 
 pub loop-stage-init : goal.loop-stage-init
 loop-stage-init c = record { counts = none; few = omega arith; low = omega arith }
@@ -32,5 +32,5 @@ loop-stage-preserved c =
       })
     ]
 
-pub returns : goal.returns
-returns c = counts_end c.args.calls.now c.args.view.now c.session-session.result c.loop-stage.from c.loop-stage.count c.session-session.ensures c.loop-stage.invariant.low c.in_default.ensures.none c.loop-stage.invariant.counts
+pub returns-clause-counts : goal.returns-clause-counts
+returns-clause-counts c = counts_end c.args.calls.now c.args.view.now c.session-session.result c.loop-stage.from c.loop-stage.count c.session-session.ensures c.loop-stage.invariant.low c.in_default.ensures.none c.loop-stage.invariant.counts

@@ -1,6 +1,6 @@
 use Rattle.std.proofs.Common.{◌≡◌}
-use Rattle.cf_host.specs.Waking.{moments_below}
-use Rattle.cf_host.proofs.timers.moment_in.Given as goal
+use Rattle.cf_turn.specs.Timers.{moments_below}
+use Rattle.cf_turn.proofs.timers.moment_in.Given as goal
 
 -- the first so far
 abbrev pub invariant-loop-stage : goal.invariant-loop-stage

@@ -1,6 +1,6 @@
 use Rattle.std.proofs.Common.{◌≡◌, ◌+◌, ◌≤◌, drop}
-use Rattle.cf_host.specs.Busy.{claims_in}
-use Rattle.cf_host.proofs.busy.claims_in.Given as goal
+use Rattle.cf_turn.specs.Busy.{claims_in}
+use Rattle.cf_turn.proofs.busy.claims_in.Given as goal
 
 -- those so far are counted
 abbrev pub invariant-loop-entry : goal.invariant-loop-entry
