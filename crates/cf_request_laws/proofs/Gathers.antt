@@ -1,5 +1,5 @@
 -- Stages as they are gathered, and a machine's calls behind them.
-use Rattle.std.proofs.Common.{◌≡◌, ℕ, true, ◌+◌, ◌-◌, ◌<◌, ◌≤◌, drop, length, length-append, length-drop, map, take, Option, Some, None, List, [], ◌∷◌, ◌++◌, All, refl, ap, sym, ◌∙◌, arith, subst, inl, inr, ◌⊎◌}
+use Rattle.std.proofs.Common.{◌≡◌, ℕ, true, ◌+◌, ◌<◌, ◌≤◌, drop, length, length-append, length-drop, map, take, Option, Some, None, List, [], ◌∷◌, ◌++◌, All, refl, ap, sym, ◌∙◌, arith, subst, inl, inr, ◌⊎◌}
 use Rattle.std.specs.Prelude.{is_some, option_and_then, slice_get, unwrap_or}
 use Rattle.std.proofs.lemmas.List.Elements.{All-head, All-tail, All-weaker}
 use Rattle.cf_outcome.specs.declared.outcome.Outcome.{Outcome}
@@ -28,7 +28,7 @@ use Rattle.cf_request.specs.declared.gathering.Gathering.TheVariants.{AllOf, Any
 use Rattle.cf_request.proofs.Attached.{attaches_one, outcome_stays, stages_attached, state_attached}
 use Rattle.cf_request.proofs.Gathered.{pair_there, rest_there, row_gathers, gathers_count, two_there}
 use Rattle.cf_request.proofs.Rows.{adds_behind}
-use Rattle.cf_request_laws.specs.Roots.{AllOfRootsAreAsOne, AnyOfRootsHaveTheFirst, AreGathered, RootsAreInTime, RootsEndAsOne, events_in, given}
+use Rattle.cf_request_laws.specs.Roots.{AllOfRootsAreAsOne, AnyOfRootsHaveTheFirst, AreGathered, RootsAreInTime, RootsEndAsOne, events_in}
 use Rattle.cf_request_laws.proofs.Histories.{all_as_one, any_has_the_first, ends_as_one, in_time, state_last}
 use Rattle.cf_request_laws.proofs.Stages.{IsHeld, IsPending, IsSound, map_same, waits_by}
 use Rattle.cf_request_laws.proofs.Trees.{EachJoin, EachOf, beginning, joining, map_each}

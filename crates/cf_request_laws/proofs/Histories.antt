@@ -57,11 +57,15 @@ lasts_from l k j o h =
 -- so it is at a place, counted from where the stages were attached
 abbrev Stands : Gathering → List ℕ → ℕ → ℕ → ℕ → Ledger → ℕ → Type 0
 Stands how sources first root from l k =
-    (EachOf (λ stage p. IsSound how stage p (state_at l k)) how first sources × (is_settled_in (state_at l k).stages root ≡ false)) ⊎ ((Takes how sources root (state_at l from) ⊎ TookAsOne how sources root from l) ⊎ OneCameFirst how first root from l)
+    (EachOf (λ stage p. IsSound how stage p (state_at l k)) how first sources × (is_settled_in (state_at l k).stages root ≡ false)) ⊎ ((Takes how sources root (state_at l from) ⊎ TookAsOne how sources root from l) ⊎ OneCameFirst how sources first root from l)
+
+-- while the root of sound stages is open it waits as one stage would
+root_waits : (how : Gathering) (sources : List ℕ) (first root : ℕ) (l : Ledger) (k : ℕ) → first + length (drop 2 sources) ≡ root → EachOf (λ stage p. IsSound how stage p (state_at l k)) how first sources → is_settled_in (state_at l k).stages root ≡ false → Waits how sources root (state_at l k)
+root_waits how sources first root l k is each still = record { root_open = still; none = sym (root_has how first root sources (state_at l k) is each) ∙ none_by (outcome_in (state_at l k).stages root) still }
 
 -- the stage that came first
-came_first : (how : Gathering) (first root from k : ℕ) (l : Ledger) (e : Event) → from ≤ k → slice_get l.events k ≡ Some e → OneOf (λ stage p. ComesFirst how stage p (state_at l k) ((answered (state_at l k) e).1) e) first root → OneCameFirst how first root from l
-came_first how first root from k l e since here one =
+came_first : (how : Gathering) (sources : List ℕ) (first root from k : ℕ) (l : Ledger) (e : Event) → Waits how sources root (state_at l k) → from ≤ k → slice_get l.events k ≡ Some e → OneOf (λ stage p. ComesFirst how stage p (state_at l k) ((answered (state_at l k) e).1) e) first root → OneCameFirst how sources first root from l
+came_first how sources first root from k l e waits since here one =
     let t = (answered (state_at l k) e).1 in
     let now : state_at l (k + 1) ≡ t = next_at l k e here in
     let f = one.is.first in
@@ -80,6 +84,7 @@ came_first how first root from k l e since here one =
           | inr tick ↦ inr tick
         ];
       };
+      waited = waits;
     }
 
 -- the root is still open, or has just taken what one stage takes
@@ -88,13 +93,12 @@ root_took : (how : Gathering) (sources : List ℕ) (first root from k : ℕ) (l 
     is_settled_in (state_at l (k + 1)).stages root ≡ b → Stands how sources first root from l (k + 1)
 root_took how sources first root from k l e false is since here before still after now = inl (after, now)
 root_took how sources first root from k l e true is since here before still after now =
-    let none = none_by (outcome_in (state_at l k).stages root) still in
     inr (inl (inr (record {
       place = k;
       since = since;
       event = e;
       settles = record { stands = here; before = still; behind = now };
-      waits = record { root_open = still; none = sym (root_has how first root sources (state_at l k) is before) ∙ none };
+      waits = root_waits how sources first root l k is before still;
       takes = record { settled = now; same = root_has how first root sources (state_at l (k + 1)) is after };
     })))
 
@@ -105,7 +109,7 @@ stands_next how sources first root from k l is since within (inl (each, still)) 
     elim (tree_stays how first root sources (state_at l k) e.0 is (reached_closed l.plan (take k l.events)) each still) [
       | inl after ↦ root_took how sources first root from k l e.0 (is_settled_in (state_at l (k + 1)).stages root) is since e.1 each still
           (subst (λ (s : State). EachOf (λ stage p. IsSound how stage p s) how first sources) (sym (next_at l k e.0 e.1)) after) refl
-      | inr one ↦ inr (inr (came_first how first root from k l e.0 since e.1 one))
+      | inr one ↦ inr (inr (came_first how sources first root from k l e.0 (root_waits how sources first root l k is each still) since e.1 one))
     ]
 
 stands_first : (how : Gathering) (sources : List ℕ) (first root from : ℕ) (l : Ledger) (b : Bool) → first + length (drop 2 sources) ≡ root → EachOf (λ stage p. IsSound how stage p (state_at l from)) how first sources → is_settled_in (state_at l from).stages root ≡ b →
@@ -124,7 +128,7 @@ stands_at how sources first root from l (suc n) k is each at within =
 
 -- at last
 ends_by : (how : Gathering) (sources : List ℕ) (first root from : ℕ) (l : Ledger) (s : State) → s ≡ state_of l → first + length (drop 2 sources) ≡ root →
-    (EachOf (λ stage p. IsSound how stage p s) how first sources × (is_settled_in s.stages root ≡ false)) ⊎ ((Takes how sources root (state_at l from) ⊎ TookAsOne how sources root from l) ⊎ OneCameFirst how first root from l) →
+    (EachOf (λ stage p. IsSound how stage p s) how first sources × (is_settled_in s.stages root ≡ false)) ⊎ ((Takes how sources root (state_at l from) ⊎ TookAsOne how sources root from l) ⊎ OneCameFirst how sources first root from l) →
     EndsAsOne how sources first root from l
 ends_by how sources first root from l s same is (inr ended) = inr ended
 ends_by how sources first root from l s same is (inl (each, still)) =
@@ -143,7 +147,7 @@ took_since sources root k l h =
     let lasts = lasts_from l k in
     stays_one s (state_of l) root lasts h.settled ∙ h.same ∙ sym (given_stays s (state_of l) sources lasts (ap is_some (sym h.same) ∙ h.settled))
 
-pub all_as_one : (sources : List ℕ) (first root from : ℕ) (l : Ledger) → EndsAsOne AllOf sources first root from l → (outcome_in (state_of l).stages root ≡ given AllOf sources (state_of l)) ⊎ OneCameFirst AllOf first root from l
+pub all_as_one : (sources : List ℕ) (first root from : ℕ) (l : Ledger) → EndsAsOne AllOf sources first root from l → (outcome_in (state_of l).stages root ≡ given AllOf sources (state_of l)) ⊎ OneCameFirst AllOf sources first root from l
 all_as_one sources first root from l (inl waits) = inl (none_by (outcome_in (state_of l).stages root) waits.root_open ∙ sym waits.none)
 all_as_one sources first root from l (inr (inl (inl took))) = inl (took_since sources root from l took)
 all_as_one sources first root from l (inr (inl (inr took))) = inl (took_since sources root (took.place + 1) l took.takes)
@@ -206,7 +210,7 @@ any_took sources root from place l (Some o) is since h none =
       has = lasts_from l place root (wrap o) (h.same ∙ any_gives (first_there (map (outcome_in s.stages) sources)) ∙ ap (option_map wrap) is);
     }
 
-pub any_has_the_first : (sources : List ℕ) (first root from : ℕ) (l : Ledger) → EndsAsOne AnyOf sources first root from l → AreAllOpen sources root (state_of l) ⊎ (HasTheFirst sources root from l ⊎ OneCameFirst AnyOf first root from l)
+pub any_has_the_first : (sources : List ℕ) (first root from : ℕ) (l : Ledger) → EndsAsOne AnyOf sources first root from l → AreAllOpen sources root (state_of l) ⊎ (HasTheFirst sources root from l ⊎ OneCameFirst AnyOf sources first root from l)
 any_has_the_first sources first root from l (inl waits) = inl (record { root_open = waits.root_open; sources_open = waits_open (state_of l) sources waits.none })
 any_has_the_first sources first root from l (inr (inl (inl took))) =
     inr (inl (any_took sources root from from l (first_there (map (outcome_in (state_at l from).stages) sources)) refl (omega arith) took (λ k since is. absurd (omega (arith, since, is)))))
@@ -214,7 +218,7 @@ any_has_the_first sources first root from l (inr (inl (inr took))) =
     let place = took.place in
     let since = took.since in
     inr (inl (any_took sources root from (place + 1) l (first_there (map (outcome_in (state_at l (place + 1)).stages) sources)) refl (omega (arith, since)) took.takes
-      (λ k later is. waits_open (state_at l k) sources (ap (λ (i : ℕ). given AnyOf sources (state_at l i)) (let here : k ≡ place = omega (arith, is) in here) ∙ took.waits.none))))
+    (λ k later is. waits_open (state_at l k) sources (ap (λ (i : ℕ). given AnyOf sources (state_at l i)) (let here : k ≡ place = omega (arith, is) in here) ∙ took.waits.none))))
 any_has_the_first sources first root from l (inr (inr one)) = inr (inr one)
 
 -- ---- whichever came first

@@ -34,13 +34,6 @@ pub record CameFirst (how : Gathering) (stage from : ℕ) (ledger : Ledger) : Ty
   pub settles : IsSettledBy stage place event ledger
   pub cause : (let s = state_at ledger (place + 1) in given how (sources_at s.plan.stages stage) s ≡ None) ⊎ IsTick event
 
--- so it was with one of the stages that gather, which are those from the first to the root
-pub record OneCameFirst (how : Gathering) (first root from : ℕ) (ledger : Ledger) : Type 0 where
-  pub stage : ℕ
-  pub not_before : first ≤ stage
-  pub not_behind : stage ≤ root
-  pub came : CameFirst how stage from ledger
-
 -- ---- a root
 
 -- it is open, and one stage over all sources would wait
@@ -62,10 +55,18 @@ pub record TookAsOne (how : Gathering) (sources : List ℕ) (root from : ℕ) (l
   pub waits : Waits how sources root (state_at ledger place)
   pub takes : Takes how sources root (state_at ledger (place + 1))
 
+-- So it was with one of the stages that gather, which are those from the first to the root, and until then the root waited.
+pub record OneCameFirst (how : Gathering) (sources : List ℕ) (first root from : ℕ) (ledger : Ledger) : Type 0 where
+  pub stage : ℕ
+  pub not_before : first ≤ stage
+  pub not_behind : stage ≤ root
+  pub came : CameFirst how stage from ledger
+  pub waited : Waits how sources root (state_at ledger came.place)
+
 -- It waits; or it took at this place, or by an event since, what one stage over all sources takes then; or one of the stages that gather came first.
 abbrev pub EndsAsOne : Gathering → List ℕ → ℕ → ℕ → ℕ → Ledger → Type 0
 EndsAsOne how sources first root from ledger =
-    Waits how sources root (state_of ledger) ⊎ ((Takes how sources root (state_at ledger from) ⊎ TookAsOne how sources root from ledger) ⊎ OneCameFirst how first root from ledger)
+    Waits how sources root (state_of ledger) ⊎ ((Takes how sources root (state_at ledger from) ⊎ TookAsOne how sources root from ledger) ⊎ OneCameFirst how sources first root from ledger)
 
 -- ---- over rows of calls
 
@@ -89,7 +90,7 @@ RootsEndAsOne =
 abbrev pub AllOfRootsAreAsOne : Type 0
 AllOfRootsAreAsOne =
     (who : ℕ) (sources : List ℕ) (root : ℕ) (old attached new : Machine) → AreGathered who AllOf sources root old attached new →
-    (outcome_in (state_in new).stages root ≡ given AllOf sources (state_in new)) ⊎ OneCameFirst AllOf (stages_in old) root (events_in attached) new.teller.ledger
+    (outcome_in (state_in new).stages root ≡ given AllOf sources (state_in new)) ⊎ OneCameFirst AllOf sources (stages_in old) root (events_in attached) new.teller.ledger
 
 -- A root of anyOf has the outcome of a source, wrapped, which is settled at this place. At the place before none of them was, unless they were gathered here.
 pub record HasTheFirst (sources : List ℕ) (root from : ℕ) (ledger : Ledger) : Type 0 where
@@ -111,7 +112,7 @@ pub record AreAllOpen (sources : List ℕ) (root : ℕ) (s : State) : Type 0 whe
 abbrev pub AnyOfRootsHaveTheFirst : Type 0
 AnyOfRootsHaveTheFirst =
     (who : ℕ) (sources : List ℕ) (root : ℕ) (old attached new : Machine) → AreGathered who AnyOf sources root old attached new →
-    AreAllOpen sources root (state_in new) ⊎ (HasTheFirst sources root (events_in attached) new.teller.ledger ⊎ OneCameFirst AnyOf (stages_in old) root (events_in attached) new.teller.ledger)
+    AreAllOpen sources root (state_in new) ⊎ (HasTheFirst sources root (events_in attached) new.teller.ledger ⊎ OneCameFirst AnyOf sources (stages_in old) root (events_in attached) new.teller.ledger)
 
 -- It is never late: whichever came first, it is settled once one stage over all sources would be.
 abbrev pub RootsAreInTime : Type 0
