@@ -287,7 +287,7 @@ const TIMES: [Move; 17] = [
 
 /// A look at all is due with each beat. A request that somebody waits for, and of which it doesn't tell, is read: it was
 /// dropped.
-const MISSES: [Move; 18] = [
+const MISSES: [Move; 19] = [
     Stops,
     Tells(0, BEATS),
     Tells(0, NEWS),
@@ -311,13 +311,20 @@ const MISSES: [Move; 18] = [
     News(6, 0),
     Tells(
         2000,
-        Order::Row {
+        Order::News {
             ticket: 7,
+            look: Look::Since(3),
+        },
+    ),
+    Tells(
+        2000,
+        Order::Row {
+            ticket: 8,
             request: 9,
             question: Question::Read { at: 0 },
         },
     ),
-    Drops(7),
+    Drops(8),
     Tells(
         0,
         Order::Show {
@@ -343,6 +350,7 @@ const LOSES: [Move; 23] = [
         },
     ),
     Opened(3),
+    Opened(4),
     Tells(
         0,
         Order::Row {
@@ -351,57 +359,56 @@ const LOSES: [Move; 23] = [
             question: Question::Read { at: 0 },
         },
     ),
-    Reads(5),
     Tells(
         0,
         Order::Row {
             ticket: 6,
+            request: 10,
+            question: Question::Read { at: 0 },
+        },
+    ),
+    Reads(5),
+    Reads(6),
+    Tells(
+        0,
+        Order::Row {
+            ticket: 7,
             request: 9,
             question: Question::Put { at: 0 },
         },
     ),
-    Stands(6),
+    Stands(7),
     Tells(
         0,
         Order::Call {
-            ticket: 7,
+            ticket: 8,
             request: 9,
             stage: 0,
             function: 7,
             args: Args::None,
         },
     ),
-    Ends(7),
-    Tells(
-        0,
-        Order::Row {
-            ticket: 8,
-            request: 9,
-            question: Question::Put { at: 1 },
-        },
-    ),
-    Loses(8),
+    Ends(8),
     Tells(
         0,
         Order::Row {
             ticket: 9,
             request: 9,
-            question: Question::Put { at: 2 },
+            question: Question::Put { at: 1 },
         },
     ),
-    Tells(0, Order::Beats { ticket: 10 }),
-    Opened(4),
+    Loses(9),
     Tells(
         0,
         Order::Row {
-            ticket: 11,
-            request: 10,
-            question: Question::Read { at: 0 },
+            ticket: 10,
+            request: 9,
+            question: Question::Put { at: 2 },
         },
     ),
-    Reads(11),
+    Tells(0, Order::Beats { ticket: 11 }),
     Tells(0, Order::Sleep { until: 200 }),
-    Beats(0, 10),
+    Beats(0, 11),
     Tells(
         0,
         Order::Row {
