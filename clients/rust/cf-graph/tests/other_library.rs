@@ -51,6 +51,6 @@ fn another_library_is_never_called() {
         assert!(right.is_some(), "{name}");
         names += 1;
     }
-    assert_eq!(names, 189);
+    assert_eq!(names, 188);
     assert!(PlanBuilder::new().unwrap().build().unwrap().graph(0).is_ok());
 }
