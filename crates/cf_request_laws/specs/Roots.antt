@@ -26,7 +26,7 @@ pub record IsSettledBy (stage place : ℕ) (event : Event) (ledger : Ledger) : T
   pub before : is_settled_in (state_at ledger place).stages stage ≡ false
   pub behind : is_settled_in (state_at ledger (place + 1)).stages stage ≡ true
 
--- Not its sources settled it: an event from this place on did, behind which they leave it waiting, or which is a tick, that fires limits.
+-- It wasn't settled by its sources: an event from this place on settled it, behind which they leave it waiting, or which is a tick, and so fires limits.
 pub record CameFirst (how : Gathering) (stage from : ℕ) (ledger : Ledger) : Type 0 where
   pub place : ℕ
   pub since : from ≤ place
