@@ -4,3 +4,5 @@ pub mod WholeRows
 pub mod OverCalls
 pub mod Settled
 pub mod TwoSessions
+pub mod Told
+pub mod Led

@@ -51,7 +51,7 @@ granted_on plan old new c b h = subst (λ (l : List Entry). Contains (granted_in
 
 -- ---- one session
 
-take_drop : (n : ℕ) (xs : List Entry) → take n xs ++ drop n xs ≡ xs
+pub take_drop : (n : ℕ) (xs : List Entry) → take n xs ++ drop n xs ≡ xs
 take_drop zero xs = refl
 take_drop (suc n) [] = refl
 take_drop (suc n) (x ∷ xs) = ap (λ (l : List Entry). x ∷ l) (take_drop n xs)

@@ -4,5 +4,6 @@ pub mod Calls
 pub mod Hosting
 pub mod Keeping
 pub mod Numbers
+pub mod Processes
 pub mod Settled
 pub mod Sharing

@@ -7,7 +7,8 @@
 //! any desk gives, `running` what a run of plain work ends as, and `racing` what a race leaves. `hosting` runs a request
 //! over a machine, for threads, clocks and waiters of any kind, and `keeping` says what the machine keeps meanwhile.
 //! `calls` makes any row of a machine's calls, and lets time pass. `rows` has a store in memory, and asks it again for a
-//! put whose answer was lost, and in `sharing` two sessions claim stages over it.
+//! put whose answer was lost, and in `sharing` two sessions claim stages over it. `processes` leads several hosts at a
+//! request in memory (`stored`), move by move.
 #![tactic(auto)]
 
 pub mod calls;
@@ -15,10 +16,12 @@ mod fault;
 pub mod headline;
 pub mod hosting;
 pub mod keeping;
+pub mod processes;
 pub mod racing;
 pub mod rows;
 pub mod running;
 pub mod sharing;
+pub mod stored;
 
 ghost use Rattle.std.specs.Prelude.{◌≡◌, All, IfOk};
 ghost use Rattle.cf_desk.specs.Closings.{ShowsOneHistory, ToldOneHistory};
