@@ -38,7 +38,7 @@ static ORDERS: [(&str, &[Does], usize); 3] = [
         &[Loses(0), Turns(0), Turns(1), Loses(1), Ends(0), Ends(1)],
         4,
     ),
-    ("late", &[Turns(0), Turns(0), Turns(1), Ends(1)], 3),
+    ("late", &[Turns(0), Turns(0), Turns(1), Ends(1)], 2),
 ];
 
 /// A request of those stages, whose functions are known.
