@@ -1,5 +1,5 @@
 -- Processes that are led over a store.
-use Rattle.std.proofs.Common.{◌≡◌, ◌≢◌, ℕ, Bool, Option, Some, None, List, [], ◌∷◌, ◌++◌, All, true, ◌<◌, get_or, set, refl, ap, sym, ◌∙◌, subst, length, map, append-nil}
+use Rattle.std.proofs.Common.{◌≡◌, ◌≢◌, ℕ, Some, None, List, [], ◌∷◌, ◌++◌, All, true, ◌<◌, get_or, set, refl, ap, sym, ◌∙◌, subst, length, map, append-nil}
 use Rattle.std.specs.Prelude.{Err, Ok, OnErr, OnOk, Result}
 use Rattle.std.proofs.Math.Seq.{map-set_same}
 use Rattle.std.proofs.lemmas.List.{map_push}
@@ -14,7 +14,7 @@ use Rattle.cf_turn.specs.Works.{Work}
 use Rattle.cf_host.specs.declared.order.Order.{Order}
 use Rattle.cf_host.specs.declared.order.Order.TheVariants.{Beats, News as LooksFor, Open, Row, Call, Stop, Show, Tell, Sleep}
 use Rattle.cf_host.specs.Hosts.{Host, IsShownPart, new_host}
-use Rattle.cf_host.specs.Keeping.{AsksBehindSeen, IsAskedFor, IsWorkIn, place_in}
+use Rattle.cf_host.specs.Keeping.{AsksBehindSeen, IsAskedFor, place_in}
 use Rattle.cf_host.specs.Laws.{ComesTo, IsCall, called_in, calls_of}
 use Rattle.cf_host.specs.Laws.IsCall.{turns}
 use Rattle.cf_host.specs.Processes.{AllCallOnce, AreOfOneEach, IsProcess, KnowsTruly, Process, called_by_all as called_by_processes}

@@ -1,5 +1,5 @@
 -- What a process was told of a request stays true by each of its calls.
-use Rattle.std.proofs.Common.{◌≡◌, ◌≢◌, ℕ, ◌<◌, ◌≤◌, ◌⊎◌, inl, inr, Bool, true, false, Option, Some, None, List, [], ◌∷◌, ◌++◌, refl, ap, sym, ◌∙◌, subst, arith, length, length-append, drop, set, take, append-nil, append_assoc}
+use Rattle.std.proofs.Common.{◌≡◌, ◌≢◌, ℕ, ◌<◌, inl, inr, Bool, true, Option, Some, None, List, [], ◌∷◌, ◌++◌, refl, ap, sym, ◌∙◌, subst, arith, length, length-append, drop, set, take, append-nil, append_assoc}
 use Rattle.std.specs.Prelude.{slice_get}
 use Rattle.std.proofs.lemmas.Bool.{cases_lt}
 use Rattle.std.proofs.lemmas.Bool.Decides.{eqb_tells}
@@ -13,13 +13,12 @@ use Rattle.cf_notes.specs.declared.note.Note.{Note}
 use Rattle.cf_notes.specs.declared.wants.EndsWith.{EndsWith}
 use Rattle.cf_notes.specs.Tables.{Table}
 use Rattle.cf_row.specs.declared.entry.Entry.{Entry}
-use Rattle.cf_row.specs.Puts.{Row}
 use Rattle.cf_row.specs.Rows.{BeginsWith}
 use Rattle.cf_part.specs.Answers.{MismeetsBy, Sees}
 use Rattle.cf_part.specs.Parts.{Part, seen_by}
 use Rattle.cf_turn.specs.declared.turn.Turn.{Turn}
 use Rattle.cf_turn.specs.declared.turn.Turn.TheVariants.{Tell as TellTurn, Show as ShowTurn, Stop as StopTurn, Call as CallTurn, Ask as AskTurn}
-use Rattle.cf_turn.specs.Turns.{Moment, Turns}
+use Rattle.cf_turn.specs.Turns.{Moment}
 use Rattle.cf_turn.specs.Works.{Work}
 use Rattle.cf_host.specs.declared.order.Order.{Order}
 use Rattle.cf_host.specs.declared.order.Order.TheVariants.{Beats, News as LooksFor, Open, Row as AsksRow, Call, Stop, Show, Tell, Sleep}
@@ -30,13 +29,13 @@ use Rattle.cf_host.specs.declared.ticket.Asked.TheVariants.{Beats as OfBeats, Ne
 use Rattle.cf_host.specs.Answering.{Breaking, Closing, Hearing, Landing, Meeting, Reading, Waiting}
 use Rattle.cf_host.specs.Answering.Hearing.{read as HearsRead, put as HearsPut}
 use Rattle.cf_host.specs.Asking.{CallEnding, Wanting}
-use Rattle.cf_host.specs.Hosts.{AllRest, Answers, AnswersRow, EndsCall, FirstTurns, HearsBeats, HearsNews, Host, IsDropped, IsOpened, IsShownPart, Lacks, Loses, LosesRequest, OnRequest, Orders, RestsIn, StaysShut, StaysUnanswered, WorksOn, moment_in, new_host}
+use Rattle.cf_host.specs.Hosts.{AllRest, Answers, AnswersRow, EndsCall, FirstTurns, HearsNews, Host, IsDropped, IsOpened, Lacks, Loses, LosesRequest, OnRequest, Orders, RestsIn, StaysShut, StaysUnanswered, WorksOn, moment_in}
 use Rattle.cf_host.specs.Keeping.{IsWorkIn}
 use Rattle.cf_host.specs.Processes.{IsToldTruly, KnowsTruly}
 use Rattle.cf_host.specs.Requests.{Hears, HearsAll, IsAt, IsPartOf, OnWork, fresh, hears, hears_in, told_length}
 use Rattle.cf_host.specs.Requests.Hears.{known as HearsKnown, added as HearsAdded, passed as HearsPassed}
 use Rattle.cf_host.proofs.Effects.{get_set, get_some, length_set, same_some}
-use Rattle.cf_host.proofs.Steady.{SeesSame, TurnSteady, rest_steady, turn_steady}
+use Rattle.cf_host.proofs.Steady.{TurnSteady, rest_steady, turn_steady}
 use Rattle.cf_example.proofs.TwoSessions.{begins_longer, take_drop}
 use Rattle.cf_example.proofs.WholeRows.{all_seen}
 

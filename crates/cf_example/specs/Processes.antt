@@ -1,15 +1,14 @@
 -- Several processes that a store in memory leads.
-use Rattle.std.specs.Prelude.{◌≡◌, ℕ, Option, Some, List, [], ◌∷◌, ◌++◌, All, drop, length, map}
+use Rattle.std.specs.Prelude.{◌≡◌, ℕ, Option, Some, List, [], ◌∷◌, ◌++◌, All, map}
 use Rattle.cf_forms.specs.Plans.{Planned}
 use Rattle.cf_row.specs.declared.entry.Entry.{Entry}
 use Rattle.cf_row.specs.Rows.{BeginsWith}
-use Rattle.cf_part.specs.declared.question.Question.{Question}
 use Rattle.cf_part.specs.Parts.{seen_by}
 use Rattle.cf_turn.specs.Works.{Work}
 use Rattle.cf_host.specs.declared.order.Order.{Order}
 use Rattle.cf_host.specs.declared.order.Order.TheVariants.{Row}
 use Rattle.cf_host.specs.Hosts.{Host, Orders}
-use Rattle.cf_host.specs.Keeping.{IsAskedFor, IsWorkIn, place_in}
+use Rattle.cf_host.specs.Keeping.{IsAskedFor, IsWorkIn}
 use Rattle.cf_host.specs.Laws.{ComesTo, called_in, calls_of}
 use Rattle.cf_host.specs.Processes.{KnowsTruly}
 use Rattle.cf_example.specs.declared.processes.Worker.{Worker}

@@ -1,4 +1,4 @@
-use Rattle.std.proofs.Common.{List, ap, refl, sym, ◌∙◌, drop}
+use Rattle.std.proofs.Common.{ap, refl, sym, ◌∙◌, drop}
 use Rattle.cf_host.specs.Laws.IsCall.{hears}
 use Rattle.cf_example.proofs.Led.{either_led}
 use Rattle.cf_example.proofs.Told.{entries_know}
