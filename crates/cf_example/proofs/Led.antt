@@ -119,14 +119,14 @@ pub put_grows : (s : Stored) (row put : List Entry) → row ≡ s.row ++ put →
 put_grows s row put is = record { number = refl; plan = refl; row = record { rest = put; is = is } }
 
 pub put_leads : (s t : Stored) (w v : Worker) (part : Part) (group : List Entry) (place : ℕ) → IsLed s w → IsShownPart w.host s.number part → HasSeen s.number place w.host → place ≡ length s.row → t ≡ (record s { row = s.row ++ group }) → group ≡ part.row.put →
-    v.session ≡ w.session → ((u : Stored) → HasPut u w.host → IsLed u w → IsLed u v) → Leads s w t v
+    v.session ≡ w.session → ((u : Stored) → u.number ≡ t.number → HasPut u w.host → IsLed u w → IsLed u v) → Leads s w t v
 put_leads s t w v part group place l shown seen whole is same session led =
     let row : List Entry = s.row ++ group in
     let there : row ≡ s.row ++ part.row.put = ap (λ (xs : List Entry). s.row ++ xs) same in
     let u : Stored = record s { row = row } in
     let grown : Grows s u = put_grows s row group refl in
     subst (λ (x : Stored). Leads s w x v) (sym is)
-    (record { grows = grown; session = session; led = led u (has_put s row w.host part place shown seen l.knows whole there) (led_on s u w grown l) })
+    (record { grows = grown; session = session; led = led u (ap (λ (x : Stored). x.number) (sym is)) (has_put s row w.host part place shown seen l.knows whole there) (led_on s u w grown l) })
 
 pub taken_leads : (s t : Stored) (w v : Worker) → t ≡ s → Leads t w t v → Leads s w t v
 taken_leads s t w v same h = subst (λ (x : Stored). Leads x w t v) same h

@@ -1,6 +1,6 @@
 -- What a process was told of a request stays true by each of its calls.
-use Rattle.std.proofs.Common.{◌≡◌, ◌≢◌, ℕ, ◌<◌, inl, inr, Bool, true, Option, Some, None, List, [], ◌∷◌, ◌++◌, refl, ap, sym, ◌∙◌, subst, arith, length, length-append, drop, set, take, append-nil, append_assoc}
-use Rattle.std.specs.Prelude.{slice_get}
+use Rattle.std.proofs.Common.{◌≡◌, ◌≢◌, ℕ, zero, suc, ◌<◌, inl, inr, Bool, false, true, Option, Some, None, List, [], ◌∷◌, ◌++◌, refl, ap, sym, ◌∙◌, subst, arith, length, length-append, drop, set, take, append-nil, append_assoc}
+use Rattle.std.specs.Prelude.{◌||◌, cond, map, not, slice_get}
 use Rattle.std.proofs.lemmas.Bool.{cases_lt}
 use Rattle.std.proofs.lemmas.Bool.Decides.{eqb_tells}
 use Rattle.std.proofs.lemmas.Option.{slice_get_within}
@@ -8,14 +8,16 @@ use Rattle.cf_forms.proofs.ListLemmas.{slice_get-front, slice_get-seam}
 use Rattle.cf_forms.specs.Plans.{Planned, with_room}
 use Rattle.cf_ledger.specs.declared.faults.LedgerFault.{LedgerFault}
 use Rattle.cf_ledger.specs.declared.faults.LedgerFault.TheVariants.{NoMemory, NoEvent, NoStage, NoRoom}
+use Rattle.cf_model.specs.States.{start}
 use Rattle.cf_model.proofs.StateLemmas.{slice_get-set_other}
+use Rattle.cf_ledger.specs.Ledgers.{AreTaken}
 use Rattle.cf_notes.specs.declared.note.Note.{Note}
 use Rattle.cf_notes.specs.declared.wants.EndsWith.{EndsWith}
 use Rattle.cf_notes.specs.Tables.{Table}
 use Rattle.cf_row.specs.declared.entry.Entry.{Entry}
-use Rattle.cf_row.specs.Rows.{BeginsWith}
+use Rattle.cf_row.specs.Rows.{BeginsWith, history_of}
 use Rattle.cf_part.specs.Answers.{MismeetsBy, Sees}
-use Rattle.cf_part.specs.Parts.{Part, seen_by}
+use Rattle.cf_part.specs.Parts.{Part, is_waited, seen_by}
 use Rattle.cf_turn.specs.declared.turn.Turn.{Turn}
 use Rattle.cf_turn.specs.declared.turn.Turn.TheVariants.{Tell as TellTurn, Show as ShowTurn, Stop as StopTurn, Call as CallTurn, Ask as AskTurn}
 use Rattle.cf_turn.specs.Turns.{Moment}
@@ -29,13 +31,15 @@ use Rattle.cf_host.specs.declared.ticket.Asked.TheVariants.{Beats as OfBeats, Ne
 use Rattle.cf_host.specs.Answering.{Breaking, Closing, Hearing, Landing, Meeting, Reading, Waiting}
 use Rattle.cf_host.specs.Answering.Hearing.{read as HearsRead, put as HearsPut}
 use Rattle.cf_host.specs.Asking.{CallEnding, Wanting}
-use Rattle.cf_host.specs.Hosts.{AllRest, Answers, AnswersRow, EndsCall, FirstTurns, HearsNews, Host, IsDropped, IsOpened, Lacks, Loses, LosesRequest, OnRequest, Orders, RestsIn, StaysShut, StaysUnanswered, WorksOn, moment_in}
+use Rattle.cf_host.specs.Hosts.{AllRest, Answers, AnswersRow, EndsCall, FirstTurns, HearsNews, HearsRow, Host, IsDropped, IsOpened, IsShownPart, Lacks, Loses, LosesRequest, OnRequest, Orders, RestsIn, StaysShut, StaysUnanswered, WorksOn, moment_in}
 use Rattle.cf_host.specs.Keeping.{IsWorkIn}
+use Rattle.cf_host.specs.News.{is_whole}
 use Rattle.cf_host.specs.Processes.{IsToldTruly, KnowsTruly}
-use Rattle.cf_host.specs.Requests.{Hears, HearsAll, IsAt, IsPartOf, OnWork, fresh, hears, hears_in, told_length}
+use Rattle.cf_host.specs.Requests.{Hears, HearsAll, IsAt, IsOpenIn, IsPartOf, OnWork, fresh, hears, hears_in, is_told, looked_for, missed, missed_in, read_again, told_length}
 use Rattle.cf_host.specs.Requests.Hears.{known as HearsKnown, added as HearsAdded, passed as HearsPassed}
 use Rattle.cf_host.proofs.Effects.{get_set, get_some, length_set, same_some}
 use Rattle.cf_host.proofs.Steady.{TurnSteady, rest_steady, turn_steady}
+use Rattle.cf_example.specs.Processes.{HasTaken}
 use Rattle.cf_example.proofs.TwoSessions.{begins_longer, take_drop}
 use Rattle.cf_example.proofs.WholeRows.{all_seen}
 
@@ -46,7 +50,12 @@ abbrev ViewsSame : Part → Part → Type 0
 ViewsSame p q = (q.row.replica.plan ≡ p.row.replica.plan) × (q.row.replica.seen ≡ p.row.replica.seen)
 
 told_same : (plan : Planned) (row : List Entry) (p q : Part) → ViewsSame p q → IsToldTruly plan row p → IsToldTruly plan row q
-told_same plan row p q same t = record { plan_is = same.0 ∙ t.plan_is; true_seen = subst (BeginsWith row) (sym same.1) t.true_seen }
+told_same plan row p q same t = record {
+  plan_is = subst (λ (x : Planned). x ≡ with_room plan x.room) (sym same.0) t.plan_is;
+  true_seen = subst (BeginsWith row) (sym same.1) t.true_seen;
+  taken = subst (λ (x : Planned). AreTaken (start x) (history_of q.row.replica.seen)) (sym same.0)
+      (subst (λ (l : List Entry). AreTaken (start p.row.replica.plan) (history_of l)) (sym same.1) t.taken);
+}
 
 views_as : (p q x : Part) → q ≡ x → ViewsSame p x → ViewsSame p q
 views_as p q x is same = (ap (λ (x : Part). x.row.replica.plan) is ∙ same.0, ap (λ (x : Part). x.row.replica.seen) is ∙ same.1)
@@ -63,24 +72,31 @@ seen_longer : (row seen es : List Entry) → BeginsWith row seen → BeginsWith 
 seen_longer row seen es h more =
     record { rest = more.rest; is = sym (all_seen row seen h) ∙ ap (λ (l : List Entry). seen ++ l) more.is ∙ sym (append_assoc seen es more.rest) }
 
-told_more : (plan : Planned) (row : List Entry) (p q : Part) (notes noted : Table) (es : List Entry) (said : List Note) → Sees p.row notes es said q.row noted → BeginsWith row (p.row.replica.seen ++ es) → IsToldTruly plan row p → IsToldTruly plan row q
-told_more plan row p q notes noted es said s there t =
-    record { plan_is = s.replays.plan ∙ t.plan_is; true_seen = subst (BeginsWith row) (sym s.replays.seen) there }
+-- its graph took all that it has seen
+abbrev TookAll : Part → Type 0
+TookAll p = AreTaken (start p.row.replica.plan) (history_of p.row.replica.seen)
+
+told_more : (plan : Planned) (row : List Entry) (p q : Part) (notes noted : Table) (es : List Entry) (said : List Note) → Sees p.row notes es said q.row noted → BeginsWith row (p.row.replica.seen ++ es) → TookAll q → IsToldTruly plan row p → IsToldTruly plan row q
+told_more plan row p q notes noted es said s there taken t = record {
+  plan_is = subst (λ (x : Planned). x ≡ with_room plan x.room) (sym s.replays.plan) t.plan_is;
+  true_seen = subst (BeginsWith row) (sym s.replays.seen) there;
+  taken = taken;
+}
 
 begins_front : (n : ℕ) (xs : List Entry) → BeginsWith xs (take n xs)
 begins_front n xs = record { rest = drop n xs; is = sym (take_drop n xs) }
 
 -- ---- what answers do to it
 
-by_fault : (why : LedgerFault) (plan : Planned) (row : List Entry) (p q : Part) (now : ℕ) (es : List Entry) (said : List Note) (place : ℕ) → MismeetsBy why p now es said place q → BeginsWith row (p.row.replica.seen ++ take place es) → IsToldTruly plan row p → IsToldTruly plan row q
-by_fault NoMemory plan row p q now es said place h there t = told_same plan row p q (views_as p q _ h (refl, refl)) t
-by_fault NoEvent plan row p q now es said place h there t = told_more plan row p q p.notes q.notes _ _ h.sees there t
-by_fault NoStage plan row p q now es said place h there t = told_more plan row p q p.notes q.notes _ _ h.sees there t
-by_fault NoRoom plan row p q now es said place h there t = told_more plan row p q p.notes q.notes _ _ h.sees there t
+by_fault : (why : LedgerFault) (plan : Planned) (row : List Entry) (p q : Part) (now : ℕ) (es : List Entry) (said : List Note) (place : ℕ) → MismeetsBy why p now es said place q → BeginsWith row (p.row.replica.seen ++ take place es) → TookAll q → IsToldTruly plan row p → IsToldTruly plan row q
+by_fault NoMemory plan row p q now es said place h there taken t = told_same plan row p q (views_as p q _ h (refl, refl)) t
+by_fault NoEvent plan row p q now es said place h there taken t = told_more plan row p q p.notes q.notes _ _ h.sees there taken t
+by_fault NoStage plan row p q now es said place h there taken t = told_more plan row p q p.notes q.notes _ _ h.sees there taken t
+by_fault NoRoom plan row p q now es said place h there taken t = told_more plan row p q p.notes q.notes _ _ h.sees there taken t
 
 -- entries that stand in the row behind what was seen
-hearing_told : (plan : Planned) (row : List Entry) (w v : Work) (now : ℕ) (es : List Entry) (said : List Note) → Hearing now es said w v → es ≡ drop (length w.part.row.replica.seen) row → IsToldTruly plan row w.part → IsToldTruly plan row v.part
-hearing_told plan row w v now es said h is t = by_case h
+hearing_told : (plan : Planned) (row : List Entry) (w v : Work) (now : ℕ) (es : List Entry) (said : List Note) → Hearing now es said w v → es ≡ drop (length w.part.row.replica.seen) row → TookAll v.part → IsToldTruly plan row w.part → IsToldTruly plan row v.part
+hearing_told plan row w v now es said h is taken t = by_case h
   where
     seen : List Entry
     seen = w.part.row.replica.seen
@@ -93,20 +109,20 @@ hearing_told plan row w v now es said h is t = by_case h
 
     by_reading : Reading now es said w v → IsToldTruly plan row v.part
     by_reading r = elim r.part [
-      | inl reads ↦ told_more plan row w.part v.part w.part.notes v.part.notes es said reads.sees all t
-      | inr m ↦ told_more plan row w.part v.part w.part.notes v.part.notes _ _ m.1.sees (front m.0.place) t
+      | inl reads ↦ told_more plan row w.part v.part w.part.notes v.part.notes es said reads.sees all taken t
+      | inr m ↦ told_more plan row w.part v.part w.part.notes v.part.notes _ _ m.1.sees (front m.0.place) taken t
     ]
 
     by_meeting : Meeting now es said w v → IsToldTruly plan row v.part
-    by_meeting (inl (landed, meets)) = told_more plan row w.part v.part w.part.notes v.part.notes es said meets.part.sees all t
-    by_meeting (inr (m, mismeets)) = by_fault m.why plan row w.part v.part now es said m.place mismeets.part.done (front m.place) t
+    by_meeting (inl (landed, meets)) = told_more plan row w.part v.part w.part.notes v.part.notes es said meets.part.sees all taken t
+    by_meeting (inr (m, mismeets)) = by_fault m.why plan row w.part v.part now es said m.place mismeets.part.done (front m.place) taken t
 
     by_case : Hearing now es said w v → IsToldTruly plan row v.part
     by_case (HearsRead is_read r) = by_reading r
     by_case (HearsPut is_put m) = by_meeting m
 
-landing_told : (plan : Planned) (row : List Entry) (w v : Work) → Landing w v → BeginsWith row (w.part.row.replica.seen ++ w.part.row.put) → IsToldTruly plan row w.part → IsToldTruly plan row v.part
-landing_told plan row w v l there t = told_more plan row w.part v.part w.part.notes v.part.notes _ _ l.part.sees there t
+landing_told : (plan : Planned) (row : List Entry) (w v : Work) → Landing w v → BeginsWith row (w.part.row.replica.seen ++ w.part.row.put) → TookAll v.part → IsToldTruly plan row w.part → IsToldTruly plan row v.part
+landing_told plan row w v l there taken t = told_more plan row w.part v.part w.part.notes v.part.notes _ _ l.part.sees there taken t
 
 -- ---- one request
 
@@ -134,6 +150,22 @@ heard_told plan row words r told = by_work r.work refl
         let same : Some (told_length words w) ≡ Some shown.0 = sym (ap (hears_in words) is) ∙ shown.1 in
         let it : told_length words w ≡ shown.0 = cc in
         subst (IsToldTruly plan row) (ap (λ (x : Work). x.part) it ∙ shown.2) (told_same plan row w.part (told_length words w).part (refl, refl) (told w.part (w, is, refl)))
+
+views_again : (known : Bool) (w : Work) → ViewsSame w.part (cond known w (read_again w)).part
+views_again true w = (refl, refl)
+views_again false w = (refl, refl)
+
+missed_told : (plan : Planned) (row : List Entry) (lengths : List Length) (r : Request) → IsTold plan row r → IsTold plan row (missed lengths r)
+missed_told plan row lengths r told = by_work r.work refl
+  where
+    by_work : (work : Option Work) → r.work ≡ work → IsTold plan row (missed lengths r)
+    by_work None is = none_told plan row (missed lengths r) (ap (missed_in lengths r.number) is)
+    by_work (Some w) is = λ part shown.
+        let known : Bool = is_told lengths r.number || not (is_waited w.part.wanted) in
+        let again : Work = cond known w (read_again w) in
+        let same : Some again ≡ Some shown.0 = sym (ap (missed_in lengths r.number) is) ∙ shown.1 in
+        let it : again ≡ shown.0 = cc in
+        subst (IsToldTruly plan row) (ap (λ (x : Work). x.part) it ∙ shown.2) (told_same plan row w.part again.part (views_again known w) (told w.part (w, is, refl)))
 
 -- ---- all requests
 
@@ -210,6 +242,25 @@ all_hear : (request : ℕ) (plan : Planned) (row : List Entry) (takes_all : Bool
 all_hear request plan row takes_all [] old after is known = subst (AllKnow request plan row) (sym is) known
 all_hear request plan row takes_all (told ∷ lengths) old after (between, one, rest) known =
     all_hear request plan row takes_all lengths between after rest (hears_know request plan row takes_all told old between one known)
+
+-- a look was answered
+got_missed : (lengths : List Length) (requests : List Request) (k : ℕ) (r : Request) → slice_get (map (missed lengths) requests) k ≡ Some r → (b : Request) × (slice_get requests k ≡ Some b) × (missed lengths b ≡ r)
+got_missed lengths [] k r there = (let no : ⊥ = cc in absurd no)
+got_missed lengths (x ∷ requests) zero r there = (x, refl, same_some (missed lengths x) r there)
+got_missed lengths (x ∷ requests) (suc k) r there = got_missed lengths requests k r there
+
+length_missed : (lengths : List Length) (requests : List Request) → length (map (missed lengths) requests) ≡ length requests
+length_missed lengths [] = refl
+length_missed lengths (x ∷ requests) = ap suc (length_missed lengths requests)
+
+looked_know : (request : ℕ) (plan : Planned) (row : List Entry) (is_whole : Bool) (lengths : List Length) (old : List Request) → AllKnow request plan row old → AllKnow request plan row (looked_for is_whole lengths old)
+looked_know request plan row false lengths old known = known
+looked_know request plan row true lengths old known = all_stay request plan row old (map (missed lengths) old) (length_missed lengths old) stays known
+  where
+    stays : (k : ℕ) (r : Request) → slice_get (map (missed lengths) old) k ≡ Some r → Stays request plan row old k r
+    stays k r there =
+        let b = got_missed lengths old k r there in
+        subst (Stays request plan row old k) b.2 (record { before = b.0; there = b.1; named = refl; told = λ n t. missed_told plan row lengths b.0 t })
 
 -- ---- turns
 
@@ -311,17 +362,44 @@ pub answered_work : {of : ℕ → Asked} {call : Work → Work → Type 0} → (
 answered_work request old number new a named =
     record { place = a.place; at = record { request = a.is.at.request; is = a.is.at.is; named = named; first = λ j b low there same. a.is.at.first j b low there (same ∙ sym named ∙ a.is.at.named) }; is = a.changes.is }
 
-pub entries_know : (request : ℕ) (plan : Planned) (row : List Entry) (old : Host) (now : ℕ) (es : List Entry) (said : List Note) (number : ℕ) (new : Host) → (a : AnswersRow (Hearing now es said) old number new) →
-    ((w : Work) → IsWorkIn old request w → es ≡ drop (seen_by w.part) row) → KnowsTruly request plan row old → KnowsTruly request plan row new
-entries_know request plan row old now es said number new a there k =
-    row_knows (Hearing now es said) OfRow request plan row old number new a
-    (λ named h t. hearing_told plan row a.changes.before a.changes.after now es said h (there a.changes.before (answered_work request old number new a named)) t) k
+-- the part of an answer's request, once it is answered
+answered_part : {of : ℕ → Asked} {call : Work → Work → Type 0} → (request : ℕ) (old : Host) (number : ℕ) (new : Host) → (a : Answers of (OnWork call) old number new) → a.is.at.request.number ≡ request → IsShownPart new request a.changes.after.part
+answered_part request old number new a named = record {
+  place = a.place;
+  at = record {
+    request = a.after;
+    is = ap (λ (l : List Request). slice_get l a.place) all ∙ get_set old.requests a.place a.after (slice_get_within old.requests a.place a.is.at.request a.is.at.is);
+    named = ap (λ (x : Request). x.number) a.changes.rest ∙ named;
+    first = λ j b low there same.
+        let other : j ≢ a.place = λ e. omega (arith, e, low) in
+        let was : slice_get old.requests j ≡ Some b = sym (slice_get-set_other old.requests a.place j a.after other) ∙ ap (λ (l : List Request). slice_get l j) (sym all) ∙ there in
+        a.is.at.first j b low was (same ∙ sym named ∙ a.is.at.named);
+  };
+  is = (a.changes.after, ap (λ (x : Request). x.work) a.changes.rest, refl);
+}
+  where
+    all : new.requests ≡ set old.requests a.place a.after
+    all = ap (λ (h : Host). h.requests) a.rest
+
+pub entries_know : (request : ℕ) (plan : Planned) (row : List Entry) (old : Host) (now : ℕ) (es : List Entry) (said : List Note) (number : ℕ) (new : Host) → HearsRow now es said old number new →
+    ((w : Work) → IsWorkIn old request w → es ≡ drop (seen_by w.part) row) → HasTaken request new → KnowsTruly request plan row old → KnowsTruly request plan row new
+entries_know request plan row old now es said number new e there taken k =
+    let a = e.hears.answers in
+    let same : new.requests ≡ e.heard.requests = ap (λ (h : Host). h.requests) e.rest in
+    all_known request plan row new e.heard.requests same (knows_all request plan row e.heard
+    (row_knows (Hearing now es said) OfRow request plan row old number e.heard a
+    (λ named h t. hearing_told plan row a.changes.before a.changes.after now es said h (there a.changes.before (answered_work request old number e.heard a named))
+    (taken a.changes.after.part (shown (answered_part request old number e.heard a named))) t) k))
+  where
+    shown : {part : Part} → IsShownPart e.heard request part → IsShownPart new request part
+    shown {part} s = subst (λ (h : Host). IsShownPart h request part) (sym e.rest) (record { place = s.place; at = s.at; is = s.is })
 
 pub stands_knows : (request : ℕ) (plan : Planned) (row : List Entry) (old : Host) (number : ℕ) (new : Host) → (a : AnswersRow Landing old number new) →
-    ((w : Work) → IsWorkIn old request w → BeginsWith row (w.part.row.replica.seen ++ w.part.row.put)) → KnowsTruly request plan row old → KnowsTruly request plan row new
-stands_knows request plan row old number new a there k =
+    ((w : Work) → IsWorkIn old request w → BeginsWith row (w.part.row.replica.seen ++ w.part.row.put)) → HasTaken request new → KnowsTruly request plan row old → KnowsTruly request plan row new
+stands_knows request plan row old number new a there taken k =
     row_knows Landing OfRow request plan row old number new a
-    (λ named h t. landing_told plan row a.changes.before a.changes.after h (there a.changes.before (answered_work request old number new a named)) t) k
+    (λ named h t. landing_told plan row a.changes.before a.changes.after h (there a.changes.before (answered_work request old number new a named))
+    (taken a.changes.after.part (answered_part request old number new a named)) t) k
 
 pub closed_knows : (request : ℕ) (plan : Planned) (row : List Entry) (old : Host) (is_closed : Bool) (number : ℕ) (new : Host) → AnswersRow (Closing is_closed) old number new → KnowsTruly request plan row old → KnowsTruly request plan row new
 closed_knows request plan row old is_closed number new a k =
@@ -368,7 +446,8 @@ beats_know request plan row old new same k = all_known request plan row new old.
 
 pub news_knows : (request : ℕ) (plan : Planned) (row : List Entry) (old : Host) (now number mark : ℕ) (lengths : List Length) (new : Host) → HearsNews old now number lengths mark new → KnowsTruly request plan row old → KnowsTruly request plan row new
 news_knows request plan row old now number mark lengths new n k =
-    all_known request plan row new new.requests refl (all_hear request plan row old.takes_all lengths old.requests new.requests n.hears (knows_all request plan row old k))
+    all_known request plan row new (looked_for (is_whole old.news.asked) lengths n.heard) n.looked
+    (looked_know request plan row (is_whole old.news.asked) lengths n.heard (all_hear request plan row old.takes_all lengths old.requests n.heard n.hears (knows_all request plan row old k)))
 
 pub wants_know : (request : ℕ) (plan : Planned) (row : List Entry) (stage : ℕ) (from : Option ℕ) (of : ℕ) (old new : Host) → OnRequest (Wanting stage from) of old new → KnowsTruly request plan row old → KnowsTruly request plan row new
 wants_know request plan row stage from of old new o k =
@@ -386,10 +465,17 @@ opened_knows request plan row of notes room is_flow old number new a same k =
     let work : Some _ ≡ Some shown.0 = sym (ap (λ (x : Request). x.work) b) ∙ shown.1 in
     let is : _ ≡ shown.0 = same_work _ shown.0 work in
     let whole : _ ≡ part = ap (λ (w : Work). w.part) is ∙ shown.2 in
-    record { plan_is = sym (ap (λ (p : Part). p.row.replica.plan) whole) ∙ same; true_seen = record { rest = row; is = ap (λ (l : List Entry). l ++ row) (ap (λ (p : Part). p.row.replica.seen) whole) } }) k
+    record {
+      plan_is = subst (λ (p : Planned). part.row.replica.plan ≡ with_room p part.row.replica.plan.room) same (roomy part.row.replica.plan (sym (ap (λ (p : Part). p.row.replica.plan) whole)));
+      true_seen = record { rest = row; is = ap (λ (l : List Entry). l ++ row) (ap (λ (p : Part). p.row.replica.seen) whole) };
+      taken = subst TookAll whole tt;
+    }) k
   where
     same_work : (x y : Work) → Some x ≡ Some y → x ≡ y
     same_work x y e = cc
+
+    roomy : (x : Planned) → x ≡ with_room of room → x ≡ with_room (with_room of room) x.room
+    roomy x is = subst (λ (y : Planned). y ≡ with_room (with_room of room) y.room) (sym is) refl
 
 -- ---- a process's beginning, and a row that grows
 
@@ -397,7 +483,7 @@ pub new_knows : (request : ℕ) (plan : Planned) (row : List Entry) (h : Host) �
 new_knows request plan row h none = all_known request plan row h [] none (λ place at part shown. (let there = at.is in let no : ⊥ = cc in absurd no))
 
 pub knows_on : (request : ℕ) (plan : Planned) (old row : List Entry) (h : Host) → BeginsWith row old → KnowsTruly request plan old h → KnowsTruly request plan row h
-knows_on request plan old row h grown k = λ part shown. let t = k part shown in record { plan_is = t.plan_is; true_seen = begins_longer part.row.replica.seen old row t.true_seen grown }
+knows_on request plan old row h grown k = λ part shown. let t = k part shown in record { plan_is = t.plan_is; true_seen = begins_longer part.row.replica.seen old row t.true_seen grown; taken = t.taken }
 
 -- ---- one work of a request
 
@@ -416,3 +502,18 @@ one_work h request w v a b =
         | inr less ↦ omega (arith, high, less)
       ]
     ]
+
+-- if this part is shown, and its graph took what it has seen, that is so of whichever is shown
+pub one_taken : (h : Host) (request : ℕ) (p : Part) → IsShownPart h request p → AreTaken (start p.row.replica.plan) (history_of p.row.replica.seen) → HasTaken request h
+one_taken h request p shown taken q other =
+    let w = shown.is.0 in
+    let v = other.is.0 in
+    let one : w ≡ v = one_work h request w v (record { place = shown.place; at = shown.at; is = shown.is.1 }) (record { place = other.place; at = other.at; is = other.is.1 }) in
+    subst TookAll (sym shown.is.2 ∙ ap (λ (x : Work). x.part) one ∙ other.is.2) taken
+
+-- none is shown where the request isn't open
+pub none_taken : (h : Host) (request : ℕ) → ¬ IsOpenIn request h.requests → HasTaken request h
+none_taken h request shut q other = absurd (shut (record { place = other.place; at = other.at; opened = (other.at.request, other.at.is, is_some) }))
+  where
+    is_some : other.at.request.work ≢ None
+    is_some none = (let there = other.is.1 in let no : ⊥ = cc in absurd no)

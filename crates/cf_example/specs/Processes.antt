@@ -1,13 +1,15 @@
 -- Several processes that a store in memory leads.
 use Rattle.std.specs.Prelude.{◌≡◌, ℕ, Option, Some, List, [], ◌∷◌, ◌++◌, All, map}
 use Rattle.cf_forms.specs.Plans.{Planned}
+use Rattle.cf_model.specs.States.{start}
+use Rattle.cf_ledger.specs.Ledgers.{AreTaken}
 use Rattle.cf_row.specs.declared.entry.Entry.{Entry}
-use Rattle.cf_row.specs.Rows.{BeginsWith}
-use Rattle.cf_part.specs.Parts.{seen_by}
+use Rattle.cf_row.specs.Rows.{BeginsWith, history_of}
+use Rattle.cf_part.specs.Parts.{Part, seen_by}
 use Rattle.cf_turn.specs.Works.{Work}
 use Rattle.cf_host.specs.declared.order.Order.{Order}
 use Rattle.cf_host.specs.declared.order.Order.TheVariants.{Row}
-use Rattle.cf_host.specs.Hosts.{Host, Orders}
+use Rattle.cf_host.specs.Hosts.{Host, IsShownPart, Orders}
 use Rattle.cf_host.specs.Keeping.{IsAskedFor, IsWorkIn}
 use Rattle.cf_host.specs.Laws.{ComesTo, called_in, calls_of}
 use Rattle.cf_host.specs.Processes.{KnowsTruly}
@@ -63,6 +65,10 @@ HasSeen request many h = (w : Work) → IsWorkIn h request w → seen_by w.part 
 -- its put stands behind all that it has seen
 abbrev pub HasPut : Stored → Host → Type 0
 HasPut s h = (w : Work) → IsWorkIn h s.number w → BeginsWith s.row (w.part.row.replica.seen ++ w.part.row.put)
+
+-- the session's graph took all that it has seen of the request
+abbrev pub HasTaken : ℕ → Host → Type 0
+HasTaken request h = (part : Part) → IsShownPart h request part → AreTaken (start part.row.replica.plan) (history_of part.row.replica.seen)
 
 -- ---- all processes
 

@@ -1,19 +1,16 @@
 //! Several processes at one request of a store in memory, led move by move in any order: answers may be lost, functions end
 //! late or never. What is concluded follows from the contracts of a host's calls, and from laws of hosts.
-ghost use Rattle.std.specs.Prelude.{◌≡◌, ℕ, ◌<◌, [], ◌∷◌, All, IfNone, IfOk, IfSome, OnOk, Some, drop};
+ghost use Rattle.std.specs.Prelude.{◌≡◌, ◌<◌, ◌≤◌, [], ◌∷◌, All, IfNone, IfOk, IfSome, OnOk, Some, length};
 ghost use Rattle.cf_part.specs.Rows.{IsApart};
 ghost use Rattle.cf_host.specs.Keeping.{IsAskedFor};
 ghost use Rattle.cf_host.specs.Laws.{called_in};
-ghost use Rattle.cf_example.specs.Processes.{AreLed, GoesOn, Grows, HasPut, HasSeen, IsAsked, IsLed, Leads, Stored, Turns, called_by_all};
+ghost use Rattle.cf_example.specs.Processes.{AreLed, GoesOn, Grows, HasPut, HasSeen, HasTaken, IsAsked, IsLed, Leads, Stored, Turns, called_by_all};
 
 use crate::stored::Stored;
 use cf_host::laws::{
     one_process_calls_each_function_of_a_request, questions_are_behind_all_that_is_seen,
 };
 use cf_host::{EndsWith, Host, Length, Order, Question};
-use cf_notes::Note;
-use cf_plan::Plan;
-use cf_row::Entry;
 use std::alloc::{AllocError, Global};
 
 /// How many functions of a process run at once, and for how long a session may be silent, in milliseconds.
@@ -246,7 +243,7 @@ fn serve_put(
         return Ok(());
     };
     if stored.put(place, part.put(), part.wants_of_put())? {
-        worker.stands(now, ticket, is_answered);
+        worker.stands(now, ticket, stored.number(), is_answered);
         return Ok(());
     }
     serve_read(stored, worker, now, ticket, place, is_answered);
@@ -270,7 +267,7 @@ fn serve_read(
         worker.lacks(now, ticket);
         return;
     }
-    worker.hears(now, ticket, stored.read(place), stored.said(place));
+    worker.hears(now, ticket, stored, place);
 }
 
 /// The stage of a request whose function is to be called.
@@ -383,24 +380,40 @@ impl Worker {
         }
     }
 
-    /// These entries stand behind all that it has seen.
-    fn hears(&mut self, now: u64, ticket: u64, entries: &[Entry], notes: &[Note])
-        ensures session { self.new.session ≡ self.old.session }
-        ensures led { (s : Stored) (place : ℕ) → HasSeen s.number place self.old.host → entries.now ≡ drop place s.row →
-            IsLed s self.old → IsLed s self.new }
+    /// It hears what stands behind so many entries, which are all that it has seen.
+    fn hears(&mut self, now: u64, ticket: u64, stored: &Stored, place: usize)
+        requires place { place ≤ length stored.now.row }
+        requires led { IsLed stored.now self.old }
+        requires seen { HasSeen stored.now.number place self.old.host }
+        ensures { Leads stored.now self.old stored.now self.new }
     {
+        let entries = stored.read(place);
+        let notes = stored.said(place);
         let _ = self.host.entries(now, ticket, entries, notes);
+        self.took_what_it_saw(stored.number());
     }
 
-    /// Its put stands.
-    fn stands(&mut self, now: u64, ticket: u64, is_answered: bool)
+    /// Its put stands in the row of a request.
+    fn stands(&mut self, now: u64, ticket: u64, number: u64, is_answered: bool)
         ensures session { self.new.session ≡ self.old.session }
-        ensures led { (s : Stored) → HasPut s self.old.host → IsLed s self.old → IsLed s self.new }
+        ensures led { (s : Stored) → s.number ≡ number → HasPut s self.old.host → IsLed s self.old → IsLed s self.new }
     {
         if is_answered {
             let _ = self.host.stands(ticket);
+            self.took_what_it_saw(number);
         } else {
             self.lacks(now, ticket);
+        }
+    }
+
+    /// Its graph took all that it has seen of a request.
+    fn took_what_it_saw(&self, number: u64)
+        ensures { HasTaken number self.now.host }
+    {
+        if let Some(part) = self.host.part(number) {
+            // (the contract of `ledger` says so)
+            let replica = part.view();
+            let _ = replica.ledger();
         }
     }
 }
