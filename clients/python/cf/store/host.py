@@ -15,10 +15,13 @@ class Host:
 
     Attributes:
         leaves: What passes through a service where it would be kept or logged.
-        stage: The class of stages, where it isn't `DurableStage`."""
+        stage: The class of stages, where it isn't `DurableStage`.
+        holds: Whether a thread that has called a function stays until what that came to stands.
+        glances: Whether somebody looks at lists, for which glances are kept."""
 
     leaves: Tuple[Type[BaseException], ...] = ()
     stage: Optional[Type[Any]] = None
+    holds = glances = True
 
     def monotonic(self) -> float:
         """Seconds that never go back."""
@@ -35,6 +38,10 @@ class Host:
     def rest(self, stops: threading.Event, seconds: float) -> None:
         """Lets some seconds pass, or fewer where the service stops."""
         stops.wait(seconds)
+
+    def wait(self, change: threading.Condition, seconds: float) -> None:
+        """Lets some seconds pass, or fewer where something changes. Its lock is held."""
+        change.wait(seconds)
 
     def number(self, bits: int) -> int:
         """A number of so many bits, by chance."""

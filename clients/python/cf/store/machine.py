@@ -20,13 +20,20 @@ from .._library import (
     CNoted,
     CStage,
     in_range,
-    library,
 )
 from ..handle import Handle
 from ..plan import Plan
+from ..service.words import OutcomeNumbers
 from ..values import Args, Form, Outcome, args_out, check, outcome_out
+from .replica import bound, told_of
 
 MOST_WANTS = 8  # that a put has
+_new, _follow, _act, _end = bound("cf_host_new"), bound("cf_host_follow"), bound("cf_host_act"), bound("cf_host_end")
+_wants, _lets_go, _stirred, _stop = bound("cf_host_wants"), bound("cf_host_lets_go"), bound("cf_host_stirred"), bound("cf_host_stop")
+_turn, _put, _opened, _read = bound("cf_host_turn"), bound("cf_host_put"), bound("cf_host_opened"), bound("cf_host_read")
+_beats, _news, _answered, _ended = bound("cf_host_beats"), bound("cf_host_news"), bound("cf_host_answered"), bound("cf_host_ended")
+_grow = bound("cf_host_grow")
+_stage, _seen = bound("cf_host_stage"), bound("cf_host_seen")
 
 
 class OrderKind(enum.IntEnum):
@@ -105,11 +112,13 @@ class Order(NamedTuple):
     have is 0 or empty.
 
     Attributes:
+        machine: Whose order it is.
         moment: Until when nothing is to be done, in milliseconds; or the mark behind which news are asked for.
         place: How many words the question takes as seen.
         args: What a function is called with: places of payloads, or an outcome of such.
         outcome: What a stage came to that is shown, or None where `told` says why nothing goes on."""
 
+    machine: "Machine"
     kind: OrderKind
     ticket: int
     request: int
@@ -132,7 +141,7 @@ class Seen(NamedTuple):
 
 class Machine(Handle):
     """A process at work on the requests of a store. Each call is short, and raises `Refused` as cf.h says. Moments are
-    milliseconds on a clock that never goes back.
+    milliseconds on a clock that never goes back. One thread at a time uses it.
 
     Args:
         session: The session's number, below 2^39, by chance.
@@ -142,104 +151,118 @@ class Machine(Handle):
 
     def __init__(self, session: int, workers: int, lease: int, takes_all: bool) -> None:
         super().__init__()
+        self.session: int = session
         opening = CHostOpening(session, in_range(workers, 2**32 - 1), in_range(lease, 2**64 - 1), takes_all)
-        check(library.cf_host_new(c.byref(opening), self._at))
-        self._order = CHostOrder()  # (each turn writes it whole)
+        check(_new(c.byref(opening), self._at))
+        # (what calls are given and write is made once: to make it costs more than a call does)
+        self._order, self._ticket, self._many = CHostOrder(), c.c_uint64(), c.c_size_t()
+        self._told, self._seen, self._puts = CStage(), CHostView(), (CHostWant * MOST_WANTS)()
+        self._to, self._to_order, self._to_ticket = self._at, c.byref(self._order), c.byref(self._ticket)
+        self._to_many, self._to_told, self._to_seen = c.byref(self._many), c.byref(self._told), c.byref(self._seen)
 
     def turn(self, now: int) -> Order:
         """What is to be done next by now. It is told once."""
-        with self._lock:
-            told = self._call_for("cf_host_turn", self._order, now)
-            return Order(
-                OrderKind(told.kind),
-                told.ticket,
-                told.request,
-                told.stage,
-                told.function,
-                told.place,
-                told.moment,
-                Told(told.told),
-                args_out(told.args),
-                outcome_out(told.outcome),
-            )
+        check(_turn(self._to, now, self._to_order))
+        told = self._order
+        kind = _KINDS[told.kind]
+        if kind is OrderKind.SLEEP:
+            return Order(self, kind, 0, 0, 0, 0, 0, told.moment, Told.STANDS, (), None)
+        args = args_out(told.args) if kind is OrderKind.CALL else ()
+        outcome = outcome_out(told.outcome) if kind is OrderKind.SHOW else None
+        return Order(self, kind, told.ticket, told.request, told.stage, told.function, told.place, told.moment, _TOLD[told.told], args, outcome)
 
     def put(self, request: int) -> List[Want]:
         """The entries of a request's put that is under way."""
-        wants, many = (CHostWant * MOST_WANTS)(), c.c_size_t()
-        self._call("cf_host_put", request, wants, MOST_WANTS, c.byref(many))
-        return [Want(_entry_out(it.entry), Source(it.source), it.stage) for it in wants[: many.value]]
+        check(_put(self._to, request, self._puts, MOST_WANTS, self._to_many))
+        return [Want(_entry_out(it.entry), Source(it.source), it.stage) for it in self._puts[: self._many.value]]
 
     # What users ask.
 
     def follow(self, request: int) -> None:
         """Works on a request from now on."""
-        self._call("cf_host_follow", request)
+        check(_follow(self._to, request))
 
     def act(self, now: int, request: int, act: Act) -> int:
         """A user asks this. The number of the order that tells what became of it."""
         first, second = [in_range(stage, 0xFFFF) for stage in (*act.of, 0, 0)[:2]]
         function = NO_FUNCTION if act.function is None else in_range(act.function, NO_FUNCTION - 1)
         asked = CHostActing(act.kind, in_range(act.stage, 0xFFFF), in_range(act.moment, 2**64 - 1), act.form, len(act.of), first, second, function)
-        return self._call_for("cf_host_act", c.c_uint64(), now, request, c.byref(asked)).value
+        check(_act(self._to, now, request, c.byref(asked), self._to_ticket))
+        return self._ticket.value
 
     def end(self, now: int, request: int) -> int:
         """A user ends a request. The number of the order that tells that it is closed."""
-        return self._call_for("cf_host_end", c.c_uint64(), now, request).value
+        check(_end(self._to, now, request, self._to_ticket))
+        return self._ticket.value
 
     def wants(self, request: int, stage: int) -> None:
         """Somebody waits for a stage, which is to be shown once."""
-        self._call("cf_host_wants", request, stage)
+        check(_wants(self._to, request, stage))
 
     def lets_go(self, request: int, stage: int) -> None:
         """Nobody waits for a stage any more."""
-        self._call("cf_host_lets_go", request, stage)
+        check(_lets_go(self._to, request, stage))
+
+    def grow(self, request: int, more: int) -> None:
+        """Makes room in a request for so many more stages."""
+        check(_grow(self._to, request, more))
 
     def stirred(self, now: int) -> None:
         """The store says that something is new."""
-        self._call("cf_host_stirred", now)
+        check(_stirred(self._to, now))
 
     def stop(self) -> None:
         """Claims no stage from now on."""
-        self._call("cf_host_stop")
+        check(_stop(self._to))
 
     # Answers. Each is to an order's ticket, and closes it.
 
     def opened(self, ticket: int, plan: Plan, room: int, is_flow: bool, notes: Sequence[Note]) -> None:
         """The plan of a request, with a note for each stage, and with room for so many stages that are attached later."""
         with plan.build()._lock:
-            self._call("cf_host_opened", ticket, plan._at, room, is_flow, (CNote * len(notes))(*[CNote(*it) for it in notes]), len(notes))
+            check(_opened(self._to, ticket, plan._at, room, is_flow, (CNote * len(notes))(*[CNote(*it) for it in notes]), len(notes)))
 
     def read(self, now: int, ticket: int, entries: Sequence[NotedEntry]) -> None:
         """The entries that stand behind the place of the question."""
         row = (CNoted * len(entries))(*[CNoted(word, token, CNote(*note)) for word, token, note in entries])
-        self._call("cf_host_read", now, ticket, row, len(entries))
+        check(_read(self._to, now, ticket, row, len(entries)))
 
     def beats(self, now: int, ticket: int, clock: int, beats: Mapping[int, int]) -> None:
         """All sessions' beats, and the store's clock in milliseconds."""
-        self._call("cf_host_beats", now, ticket, clock, (CHostBeat * len(beats))(*[CHostBeat(*it) for it in beats.items()]), len(beats))
+        check(_beats(self._to, now, ticket, clock, (CHostBeat * len(beats))(*[CHostBeat(*it) for it in beats.items()]), len(beats)))
 
     def news(self, now: int, ticket: int, mark: int, lengths: Mapping[int, int]) -> None:
         """How many words each request has that is open or has changed, up to a mark."""
-        self._call("cf_host_news", now, ticket, mark, (CHostLength * len(lengths))(*[CHostLength(*it) for it in lengths.items()]), len(lengths))
+        check(_news(self._to, now, ticket, mark, (CHostLength * len(lengths))(*[CHostLength(*it) for it in lengths.items()]), len(lengths)))
 
     def answered(self, now: int, ticket: int, answer: Answer) -> None:
         """An answer without a list."""
-        self._call("cf_host_answered", now, ticket, answer)
+        check(_answered(self._to, now, ticket, answer))
 
     def ended(self, ticket: int, kind: Ends, code: int = 0, stage: int = 0) -> None:
         """The function of a call has ended."""
-        self._call("cf_host_ended", ticket, kind, code, stage)
+        check(_ended(self._to, ticket, kind, code, stage))
 
     # What it has seen.
 
     def outcome(self, request: int, stage: int) -> Optional[Outcome]:
         """The outcome of a stage, or None where it is open."""
-        return outcome_out(self._call_for("cf_host_stage", CStage(), request, stage).outcome)
+        check(_stage(self._to, request, stage, self._to_told))
+        return outcome_out(self._told.outcome)
+
+    def stage(self, request: int, stage: int) -> Tuple[int, OutcomeNumbers]:
+        """The kind of a stage's state, and its outcome in numbers."""
+        check(_stage(self._to, request, stage, self._to_told))
+        return self._told.kind, told_of(self._told)
 
     def seen(self, request: int) -> Seen:
         """What it has seen of a request."""
-        told = self._call_for("cf_host_seen", CHostView(), request)
+        check(_seen(self._to, request, self._to_seen))
+        told = self._seen
         return Seen(told.words, told.stages, Told(told.fault) if told.fault else None)
+
+
+_KINDS, _TOLD = tuple(OrderKind), tuple(Told)
 
 
 def _entry_out(entry: CNoted) -> NotedEntry:

@@ -22,7 +22,7 @@ ABANDONS = Note(_ABANDONS << _KIND, 0)
 
 class FunctionNumbers:
     """The numbers that functions have in notes: from 1 on, and 0 for one that the machine is to leave to others, since it isn't
-    registered here or is transactional: the machine knows no finish that stands with a function's effect. Any thread may ask."""
+    registered here. Any thread may ask."""
 
     def __init__(self, functions: Functions) -> None:
         self._functions, self._lock = functions, threading.Lock()
@@ -32,7 +32,7 @@ class FunctionNumbers:
     def number(self, name: str, version: int) -> int:
         """The number of a function, or 0."""
         known = self._functions.find(name, version)
-        if known is None or known.is_transactional:
+        if known is None:
             return 0
         with self._lock:
             if (name, version) not in self._numbers:
@@ -105,24 +105,25 @@ def note_of_definition(said: Mapping[str, Any], form: int, called: Mapping[str, 
     return Note(_CALLS << _KIND | function, 0)
 
 
-def note_of_word(word: int, payload: Optional[bytes], codec: Json) -> Note:
-    """The note of a word other than an attach, by its payload. `ValueError` where that says nothing of the kind."""
+def note_of_word(word: int, payload: Optional[bytes], codec: Json, stages: int) -> Note:
+    """The note of a word other than an attach, by its payload, where so many stages are there. `ValueError` where that says nothing
+    of the kind."""
     kind = word >> _KIND
     if payload is None:
         return NOTHING
     if kind == TICK:
         timer = read_timer(payload)
-        return Note((_GIVES_AT if timer.gives else _TIMES_OUT) << _KIND | _named(timer.stage), timer.moment)
+        return Note((_GIVES_AT if timer.gives else _TIMES_OUT) << _KIND | _named(timer.stage, stages), timer.moment)
     if kind == FINISH:
-        return Note(_GIVES << _KIND | _named(int(json.loads(payload)["stage"])), 0)
+        return Note(_GIVES << _KIND | _named(int(json.loads(payload)["stage"]), stages), 0)
     try:
         return ABANDONS if isinstance(codec.read_error(payload), Abandoned) else NOTHING
     except Exception:  # who is shown it is told so
         return NOTHING
 
 
-def _named(stage: int) -> int:
-    if not 0 <= stage <= 0xFFFF:
+def _named(stage: int, stages: int) -> int:
+    if not 0 <= stage < stages:
         raise ValueError(f"there is no stage {stage}")
     return stage << _STAGE
 

@@ -27,10 +27,7 @@ class Payloads:
     def noted(self, request: Followed, at: int, entries: Sequence[Entry], numbers: FunctionNumbers) -> List[ReadEntry]:
         """The entries behind `at` others, with their notes, which are in their payloads."""
         found = self._at(request, [place for place, (word, _) in enumerate(entries, at + 1) if says_more(word)])
-        try:
-            return request.read_notes(entries, [found.get(at + k) for k in range(1, len(entries) + 1)], self._codec, numbers)
-        except (ValueError, KeyError, TypeError) as error:
-            raise Broken(request.name, at + 1, f"what stands beside a word can't be read: {error!r}") from None
+        return request.read_notes(at, entries, found, self._codec, numbers)
 
     def outcome(self, request: Followed, told: Outcome) -> Tuple[Any, Optional[BaseException]]:
         """The value and the exception of an outcome."""
@@ -106,6 +103,8 @@ class Payloads:
             return write_given(stage_of(note))
         if want.source == Source.FUNCTION:
             return under_way.results[want.stage]
+        if want.source == Source.ERROR and want.stage in request.transacted and request.transacted[want.stage].error:
+            return request.transacted[want.stage].error
         if want.source == Source.ERROR:
             refused = request.refused or StoreError("its function gave no stage of the request")
             return self.error(RemoteError(type(refused).__name__, str(refused)[:LONGEST_WHY]))

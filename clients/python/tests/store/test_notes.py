@@ -44,7 +44,7 @@ class Notes(unittest.TestCase):
 
     def test_functions(self):
         """They are numbered from 1 on, as they are asked for, by name and version."""
-        self.assertEqual([self.numbers.number(name, 1) for name in ("f", "g", "f", "h", "pays")], [1, 2, 1, 0, 0])
+        self.assertEqual([self.numbers.number(name, 1) for name in ("f", "g", "f", "h", "pays")], [1, 2, 1, 0, 3])
         self.assertEqual(self.numbers.number("f", 2), 0)
         self.assertEqual(self.numbers.function(2).name, "g")
 
@@ -60,20 +60,20 @@ class Notes(unittest.TestCase):
 
     def test_words(self):
         def told(word, payload):
-            return note_of_word(word, payload, self.codec)
+            return note_of_word(word, payload, self.codec, 10)
 
         self.assertEqual(told(FINISH * KIND + LINKS * STAGE + 5, write_given(9)), Note(4 * KIND + 9 * STAGE, 0))
         self.assertEqual(told(FAIL * KIND + 1, self.codec.write_error(Abandoned("gone"))), ABANDONS)
         self.assertEqual(told(FAIL * KIND + 1, self.codec.write_error(KeyError("x"))), NOTHING)
         self.assertEqual(told(FAIL * KIND + 1, b"no json"), NOTHING)
         self.assertEqual(told(FAIL * KIND + 1, None), NOTHING)
-        for word, payload in ((FINISH * KIND + LINKS * STAGE + 5, write_given(2**16)), (TICK * KIND, b"[]"), (TICK * KIND, b'{"stage": 1}')):
+        for word, payload in ((FINISH * KIND + LINKS * STAGE + 5, write_given(10)), (TICK * KIND, b"[]"), (TICK * KIND, b'{"stage": 1}')):
             self.assertRaises(ValueError, told, word, payload)
 
     def test_timers(self):
         for said in (TimerSaid(3, 70, False, None), TimerSaid(3, 70, True, b"[1,\n2]"), TimerSaid(0, 2**40, True, None)):
             self.assertEqual(read_timer(write_timer(said)), said)
-            note = note_of_word(TICK * KIND, write_timer(said), self.codec)
+            note = note_of_word(TICK * KIND, write_timer(said), self.codec, 10)
             self.assertEqual(note, Note((6 if said.gives else 5) * KIND + said.stage * STAGE, said.moment))
             self.assertEqual((stage_of(note), moment_of(note)), (said.stage, said.moment))
         self.assertIsNone(moment_of(ABANDONS))
