@@ -122,11 +122,6 @@ def rows_of_python(tools: Tools, made: Path) -> List[Row]:
             [["env", "CF_REQUESTS=2000", python, "-m", "unittest", "discover", "-s", "clients/python/tests/service"]],
         ),
         Row("what Python's service decides over a store", [MODULE, "python3"], [[python, "clients/python/tests/decisions/test_decisions.py"]]),
-        Row(
-            "what the machine of a process decides over a store",
-            [MODULE, "python3"],
-            [[python, "clients/python/tests/decisions/test_led_decisions.py"]],
-        ),
         Row("what waits in Python's service, in every order", [MODULE, "python3"], [[python, "clients/python/tests/waits/test_waits.py"]]),
         Row(
             "Python's service as its wheel installs it",

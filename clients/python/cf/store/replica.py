@@ -13,19 +13,19 @@ from ..values import Code, check
 _loaded = c.PyDLL(path)  # it keeps the interpreter's lock: to let it go and take it again costs more than a call does
 
 
-def _bound(name: str, address: int = -1) -> Callable[..., int]:
-    """A call of the library that takes an address in one place."""
+def bound(name: str, address: int = -1) -> Callable[..., int]:
+    """A call of the library, which may take an address in one place."""
     call: Any = getattr(_loaded, name)
     call.argtypes = [c.c_void_p if place == address else kind for place, kind in enumerate(CALLS[name])]
     call.restype = c.c_uint32
     return call  # type: ignore[no-any-return]
 
 
-_plan, _met, _give_up = _bound("cf_row_plan", 1), _bound("cf_row_met"), _bound("cf_row_give_up")
-_saw, _grow = _bound("cf_row_saw"), _bound("cf_row_grow")
-_number, _stage = _bound("cf_row_number"), _bound("cf_ledger_stage")
-_open_claim, _held, _abandon = _bound("cf_row_open_claim"), _bound("cf_row_held"), _bound("cf_row_abandon")
-_finish, _next_claim = _bound("cf_row_finish"), _bound("cf_row_next_claim")
+_plan, _met, _give_up = bound("cf_row_plan", 1), bound("cf_row_met"), bound("cf_row_give_up")
+_saw, _grow = bound("cf_row_saw"), bound("cf_row_grow")
+_number, _stage = bound("cf_row_number"), bound("cf_ledger_stage")
+_open_claim, _held, _abandon = bound("cf_row_open_claim"), bound("cf_row_held"), bound("cf_row_abandon")
+_finish = bound("cf_row_finish")
 NO_VALUE = 0  # what a finish says that gives none
 _ANSWERS = {NO_VALUE: _library.GIVE, GIVES: _library.GIVE, THROWS: _library.THROW, LINKS: _library.LINK}
 
@@ -136,14 +136,6 @@ class Replica(Handle):
         """The word that finishes a stage, or None where this session has no open claim of it."""
         word = c.c_uint64()
         return word.value if _is_there(_finish(self._to, c.byref(_task_of(ended)), c.byref(word))) else None
-
-    def next_claims(self, ended: Optional[FinishAnswer]) -> Iterator[int]:
-        """The stages that the session could claim next, rising: the ready ones, and those that become ready by this
-        finish."""
-        task, told, first = c.byref(_task_of(ended)), c.c_uint16(), 0
-        while _is_there(_next_claim(self._to, task, first, c.byref(told))):
-            yield told.value
-            first = told.value + 1
 
 
 def _task_of(ended: Optional[FinishAnswer]) -> CTask:

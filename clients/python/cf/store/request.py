@@ -2,62 +2,38 @@
 
 The design of `cf.store`, which this file leads through:
 
-A request is a row of words in a store. Each process that works on it replays the words on its own graph, so all graphs
-are the same. A change is a word that is put at the end of the row. If two processes put at the same place, the store
-takes one put; the other process reads that word and decides again. So the row is the one order of all changes, and the
-proved library computes their consequences. docs/ENGINES.md says what that demands of a store.
+A request is a row of words in a store. Each process that works on it does the words on its own graph, so all graphs are
+the same. A change is a word that is put at the end of the row. If two processes put at the same place, the store takes
+one put; the other process reads that word and decides again. So the row is the one order of all changes. docs/ENGINES.md
+says what that demands of a store.
+
+Who decides
+    The proved machine of a process at work on a store (machine.py): what is put, which function is called, whose session is
+    gone, what is due, who is told what. It has no thread, clock, store or payload. `Leader` (leader.py) does what it orders.
 
 What is kept where
     - A `Store` (rows.py) has rows, payloads, timers and the beats of sessions. A payload is a value, an exception, or the
       definition of an attached stage. It is put with its word, and named by the word's place.
-    - A `RowView` (view.py) is one session's view of one row: the library's view (`Replica`), words, and the state of each
-      stage. It reads (`catch_up`) and puts (`act`), and has no futures.
-    - `DurableRequest` has one view, and the futures that somebody has asked for. A `DurableStage` shows the words read so
-      far. It is a plain `concurrent.futures.Future`, which is settled once.
-    - `DurableService` (service.py) has the requests that this process works on, a pool of threads that runs functions,
-      and the pump, a thread that looks for news.
+    - A `Followed` (followed.py) is what the leader keeps of a request beside the machine.
+    - `DurableRequest` has the futures that somebody has asked for. A `DurableStage` is a plain
+      `concurrent.futures.Future`, which is settled once.
+    - `DurableService` (service.py) has the leader, its threads, and the requests by their names.
+    - A `RowView` (view.py) reads a row for histories and lists.
 
-What guards what
-    `_lock` guards the view. A thread that reads or puts holds it while the store answers. A thread that puts takes
-    `_writes` first. A transactional function of a store that admits no other put meanwhile (SQLite) runs with `_writes`:
-    this process's other threads then wait for that, and not in the store with `_lock`, which the function's finish
-    needs. A codec, a callback, `describe` and any other function run without either lock. `DurableService._lock` guards
-    the table of requests, and isn't held during a call of the store.
-
-What happens at a change (`_act`)
-    1. `decide` returns the wanted words, by the words seen. It may be called again, so it changes nothing.
-    2. The view puts them with their payloads, in one step of the store: all or none.
-    3. If they stand, the graph does them. If other words stand there, the graph does those, and step 1 comes again. A put
-       without an answer is recognised later by its token.
-    4. Without a lock, `_show` settles the futures of settled stages: it reads their payloads, the codec makes objects of
-       them, and callbacks run. If a callback raises, the others still run. A stage whose payload can't be read yet stays
-       in `_unshown`, and is shown later.
-
-A function from ready to finished
-    `_serve` hands a request to the pool. `DurableService._work` catches up, and claims one stage whose function is
-    registered here. It calls the function without a lock. The finish and the claim of the next stage are one put. A
-    transactional function puts its finish in its own transaction (`_act_within`). A session that is silent for too long
-    counts as gone: other sessions fail its claimed stages with `Abandoned`, and `again` attaches further tries.
-
-Relays
-    A stage that composes has a promise for its result. Its finish links to that promise, and the finish's payload names
-    the stage that the function returned. Any process that sees that stage settled settles the promise alike (`_relay`).
-
-Deadlines
-    `_set_timer` sets a timer in the store. The pump of any process that works on the request fires it (`_fire`), as a
-    change like any other, and deletes it. A stage has one timer.
-
-Room
-    A request has at most 4,096 stages. `RowView.make_room` makes room as needed. `RequestFull` is raised before
-    anything is put.
+What happens at a change
+    1. `_ask` asks the machine for an act, and waits until that tells what became of it.
+    2. The thread that waits, and those of the service, do what the machine orders meanwhile: they put the words with their
+       payloads, in one step of the store, read those of others, and put again.
+    3. The one who asked shows the stages that were settled by then: a future is settled, and callbacks run, without a lock.
+       If a callback raises, the others still run. Whom the words of others settle is shown by a thread of its own.
 
 Errors
     `Unknown`: the store didn't answer for a minute; the change may stand. `Broken`: the row is damaged. `Gone`, a
     `Broken`: the request was dropped. `StoreError`: the store refuses the call.
 
 Which methods call a user's code
-    `DurableService._call_for_result`, `_call_composing` and `_try_in_transaction` (functions), `DurableStage._invoke_callbacks`, the codec in
-    `_outcome` and `_value`, and `history` (codec and `describe`).
+    `ServiceHooks.call` (functions), `DurableStage._invoke_callbacks`, the codec in `Payloads`, and `history` (codec and
+    `describe`).
 """
 import asyncio
 import concurrent.futures
@@ -65,44 +41,27 @@ import contextlib
 import json
 import logging
 import threading
-from concurrent.futures import CancelledError, InvalidStateError
-from typing import TYPE_CHECKING, Any, Callable, ContextManager, Dict, Generator, Generic, Iterable, List, Optional, Sequence, Set, Tuple, TypeVar
+from concurrent.futures import InvalidStateError
+from typing import TYPE_CHECKING, Any, Callable, Dict, Generator, Generic, List, Mapping, Optional, Sequence, Set, Tuple, TypeVar
 
 from ..service.flow import FurtherTry, Step, _alone
 from ..service.history import Describe, History, escaped
 from ..service.stage import ASYNCIOS
-from ..service.words import (
-    ANSWER,
-    ATTACH,
-    CANCEL,
-    CANCELLED,
-    COMPLETE,
-    FAIL,
-    FAIL_AS,
-    FAILURES,
-    GIVES,
-    MOST_STAGES,
-    NUMBER,
-    THROWN,
-    TIMED_OUT,
-    VALUE,
-    RequestFull,
-    OutcomeNumbers,
-)
-from ..values import BadAnswer, Form
-from .view import DoneWord, RowView
+from ..service.words import MOST_STAGES, RequestFull
+from ..values import Form
 from .codec import Abandoned, json_of
 from .contexts import capture_all
+from .earlier import called_definition
+from .followed import Became, Followed, Shown
 from .functions import definition_of
+from .machine import Act, ActKind, Told
 from .plans import comparable_definition
-from .glances import GlanceContent, glance_of
-from .glances import read as read_glance
-from .rows import Glance, Put, StoreError, Timer, Transaction, Unknown
+from .view import RowView
 
 if TYPE_CHECKING:
     from typing_extensions import ParamSpec
 
-    from .service import DurableService, FunctionResult
+    from .service import DurableService
 
     P = ParamSpec("P")
 
@@ -110,6 +69,7 @@ T = TypeVar("T")
 U = TypeVar("U")
 V = TypeVar("V")
 LOGGER = logging.getLogger("concurrent.futures")
+MOST_AT_ONCE = 32  # acts that are asked for together
 
 if TYPE_CHECKING:
 
@@ -149,7 +109,7 @@ class DurableStage(_Future[T]):
     @property
     def name(self) -> str:
         """The stage's name in histories: that of its function or of the promise."""
-        return str(self.request._view.definition(self.number)["name"])
+        return str(self.request._definition(self.number)["name"])
 
     def then(self, fn: Callable[[T], U]) -> "DurableStage[U]":
         """As `cf.service.Stage.then`, with a registered function."""
@@ -205,7 +165,7 @@ class DurableStage(_Future[T]):
         Returns:
             The last try. It passes on the value of an earlier one."""
         stage, name = self, f"{self.name} again"
-        composes = "to" in self.request._view.definition(self.number)
+        composes = "to" in self.request._definition(self.number)
         for _ in range(times):
             if composes:
                 stage = self.request._compose(stage, FurtherTry(self.number), name)
@@ -215,22 +175,21 @@ class DurableStage(_Future[T]):
 
     def complete(self, value: T) -> bool:
         """Settles the stage with a value, unless it is settled. True if this call settled it."""
-        given = self.request._service.codec.write(value) if value is not None else None
-        return self.request._settle(COMPLETE, self.number, given)
+        return self.request._settle(ActKind.COMPLETE, self.number, self.request._service.codec.write(value))
 
     def fail(self, error: BaseException) -> bool:
         """Settles the stage with an exception, unless it is settled. True if this call settled it."""
-        return self.request._settle(FAIL, self.number, self.request._service.codec.write_error(error))
+        return self.request._settle(ActKind.FAIL, self.number, self.request._service.codec.write_error(error))
 
     def cancel(self) -> bool:
         """Cancels the stage, unless it is settled or its function runs in some process. True if it is cancelled
         after the call."""
-        return self.request._settle(CANCEL, self.number, None, waits=True)
+        return self.request._settle(ActKind.CANCEL_IDLE, self.number)
 
     def abandon(self) -> bool:
         """Cancels the stage, unless it is settled, also while its function runs, whose answer comes too late then.
         True if it is cancelled after the call."""
-        return self.request._settle(CANCEL, self.number, None)
+        return self.request._settle(ActKind.CANCEL, self.number)
 
     def or_timeout(self, seconds: float) -> "DurableStage[T]":
         """Sets a timer in the store, by which the stage fails with a `TimeoutError` unless it is settled. Any process
@@ -290,23 +249,23 @@ class DurableStage(_Future[T]):
     @property
     def _ended(self) -> int:
         """The kind of its outcome, by the words read."""
-        return self.request._view.outcomes[self.number].kind
+        return self.request._service.leader.stage_now(self.request._followed, self.number)[1].kind
 
-    def _show(self, value: Any, error: Optional[BaseException], is_cancelled: bool) -> None:
+    def _show(self, shown: Shown) -> None:
         """Settles this future and wakes its waiters, once."""
         if self.done():
             return
-        if is_cancelled:
+        if shown.is_cancelled:
             super().cancel()
             with self._condition:
                 if self._state == "CANCELLED":  # (another thread may show it, too)
                     super().set_running_or_notify_cancel()
             return
         with contextlib.suppress(InvalidStateError):  # (so it may)
-            if error is not None:
-                super().set_exception(error)
+            if shown.error is not None:
+                super().set_exception(shown.error)
             else:
-                super().set_result(value)
+                super().set_result(shown.value)
 
     def _invoke_callbacks(self) -> None:
         """Calls all callbacks, and raises at the end the first error that isn't an `Exception`."""
@@ -322,6 +281,10 @@ class DurableStage(_Future[T]):
             raise ended
 
 
+class NotStill(Exception):
+    """What was to be put isn't wanted any more, by what others have put meanwhile."""
+
+
 class Composing:
     """A stage whose function attaches stages while it runs.
 
@@ -334,20 +297,15 @@ class Composing:
         self.stage, self.first = stage, stage if first is None else first
         self.taken: Set[int] = set()
 
-    def check_goes_on(self, view: RowView) -> None:
-        """Raises `Abandoned` where this session has lost the stage: another try attaches stages."""
-        if view.is_settled(self.stage) or view.holder(self.stage) != view.session:
-            raise Abandoned(f"{view.definition(self.first)['name']} is settled, and its function attaches nothing any more")
-
-    def stages_of_earlier_tries(self, view: RowView, form: Tuple[int, Tuple[int, ...]], said: Dict[str, Any]) -> List[int]:
+    def stages_of_earlier_tries(self, request: Followed, form: Tuple[int, Tuple[int, ...]], said: Mapping[str, Any]) -> List[int]:
         """The stages of this form and definition that earlier tries have attached and that weren't taken yet."""
         if self.first == self.stage:
             return []
         wanted = comparable_definition(json.loads(json.dumps(said)))
         return [
             number
-            for number in view.attach_places
-            if view.forms[number] == form and number not in self.taken and comparable_definition(view.definition(number)) == wanted
+            for number in range(request.planned, len(request.definitions))
+            if request.forms[number] == form and number not in self.taken and comparable_definition(dict(request.definitions[number])) == wanted
         ]
 
 
@@ -357,31 +315,23 @@ class DurableRequest:
 
     Each method that changes something raises what `DurableStage` says."""
 
-    def __init__(self, service: "DurableService", view: RowView) -> None:
-        self._service, self._view = service, view
-        view.on_taken_for_gone = service._note_taken_for_gone
-        self.name: str = view.name
-        self.number: int = view.opened.number
+    def __init__(self, service: "DurableService", followed: Followed) -> None:
+        self._service, self._followed = service, followed
+        self.name: str = followed.name
+        self.number: int = followed.number
         self._lock = service._host.lock()
-        self._writes = service._host.lock()  # taken before the other one by who puts
-        self._transacts: Set[int] = set()  # the threads that run a transactional function of it
         self._stages: Dict[int, DurableStage[Any]] = {}
-        self.is_queued = self.is_leaving = False
-        self.kept = 0  # how often it was asked for again
-        self._rested = -1  # how many words were seen at the last beat
-        self.glanced: int = -1  # how many the glance has seen that was kept
-        self._glance_seen: Optional[GlanceContent] = None  # what the last glance says
         self._composed_by: Dict[int, Composing] = {}  # by threads, the stages whose functions attach stages
-        self._unshown: Set[int] = set()  # settled stages whose payload couldn't be read yet
         self._describe: Describe = service._describe
+        self._reader: Optional[RowView] = None
 
     def __repr__(self) -> str:
-        return f"<{type(self).__name__} {self.name!r} of {len(self._view.outcomes)} stages>"
+        return f"<{type(self).__name__} {self.name!r} of {len(self._followed.forms)} stages>"
 
     @property
     def words_seen(self) -> int:
         """How many words of it this process has read."""
-        return self._view.words_seen
+        return self._followed.words
 
     # Stages.
 
@@ -428,11 +378,12 @@ class DurableRequest:
         """The stage of a flow's step, the one of a number, or the first one of a name. `KeyError` if there is none, or
         if the request wasn't begun with the step's flow: one of its name, with these steps."""
         self._catch_up()
-        if isinstance(which, Step) and not self._view.plan.is_plan_of(which.flow):
+        plan = self._followed.plan
+        if isinstance(which, Step) and (plan is None or not plan.is_plan_of(which.flow)):
             raise KeyError(f"{which.name} is a step of another flow")
-        many = len(self._view.forms)
+        many = len(self._followed.forms)
         if isinstance(which, str):
-            which = next((k for k in range(many) if self._view.definition(k)["name"] == which), many)
+            which = next((k for k in range(many) if self._definition(k)["name"] == which), many)
         number = which.number if isinstance(which, Step) else which
         if not 0 <= number < many:
             raise KeyError(which)
@@ -445,55 +396,54 @@ class DurableRequest:
 
     def _history(self) -> History:
         """The history of the words seen."""
-        return self._view.history(self._service.codec, self._lock)._with_descriptions(self._describe)
+        return self._row().history(self._service.codec, self._lock)._with_descriptions(self._describe)
 
     def cancel(self) -> None:
         """Cancels all stages that aren't settled, as `abandon` does: also those whose functions run, in whichever process. It
         begins with the last one, so no function that takes exceptions (`handle`, `recover`) is called for it. What is
-        attached meanwhile isn't cancelled. Each 32 stages are one put; if one of these isn't answered, the stages before
-        it stay cancelled. A flow's request is closed once its functions have ended, and `end` closes another.
+        attached meanwhile isn't cancelled. Each stage is one put; if one of these isn't answered, the stages before it stay
+        cancelled. A flow's request is closed once its functions have ended, and `end` closes another.
 
             try:
                 return await answer
             finally:  # also if the client hangs up
                 await asyncio.to_thread(request.cancel)"""
         self._catch_up()  # what others have attached
-        stages = len(self._view.kinds)
-        try:
-            while self._act(lambda view: view.words_that_cancel(stages)):
-                pass
-        finally:
-            self._service._serve(self)
+        left = [Act(ActKind.CANCEL, stage) for stage in reversed(range(len(self._followed.forms)))]
+        self._ask_each([(act, None) for act in left])
 
     def end(self) -> None:
         """Closes the request: workers look at it no more, and its timers are dropped. A flow's request is closed by
         itself once all its stages are settled. Attaching a stage opens a request again."""
         self._catch_up()
-        if self._view.retrying_for_a_minute(lambda: self._service.store.end(self.name, self.words_seen, self.number)):
-            self._service._tell_end(self)
+        self._service._end(self)
 
-    # Acting on the row.
+    # What is asked of the machine.
 
-    def _act(self, decide: Callable[[RowView], Any], opens: bool = False) -> Optional[List[DoneWord]]:
-        if threading.get_ident() in self._transacts:
-            raise StoreError(f"request {self.name!r}: its transactional function can't put to it: that takes the place of its finish")
-        try:
-            with self._writes, self._lock:
-                done, others = self._view.act(decide, opens)
-        except BaseException:
-            self._show_settled()
-            raise
-        self._show(others + (done or []))
-        return done
+    def _ask(
+        self, act: Act, payload: Optional[bytes] = None, definition: Optional[Mapping[str, Any]] = None, still: Optional[Callable[[], bool]] = None
+    ) -> Became:
+        return self._service._told(self, self._service._asked(self, act, payload, definition, still), still)
+
+    def _ask_each(self, acts: Sequence[Tuple[Act, Optional[bytes]]]) -> None:
+        """Asks for some acts at a time, in this order."""
+        for k in range(0, len(acts), MOST_AT_ONCE):
+            faulty: Optional[BaseException] = None
+            for asked in [self._service._asked(self, act, payload) for act, payload in acts[k : k + MOST_AT_ONCE]]:
+                try:
+                    self._service._told(self, asked)
+                except BaseException as error:
+                    faulty = faulty or error
+            if faulty is not None:
+                raise faulty
+
+    def _settle(self, kind: ActKind, stage: int, payload: Optional[bytes] = None) -> bool:
+        """Whether this call has settled a stage, or it is cancelled as was asked."""
+        return self._ask(Act(kind, stage), payload).told in (Told.STANDS, Told.AS_ASKED)
 
     def _catch_up(self) -> None:
-        try:
-            with self._lock:
-                news = self._view.catch_up()
-        except BaseException:
-            self._show_settled()
-            raise
-        self._show(news)
+        """Does the words of others that stand by now."""
+        self._service._catch_up(self)
 
     def _attach(
         self,
@@ -504,44 +454,37 @@ class DurableRequest:
         kwargs: Optional[Dict[str, Any]] = None,
         name: str = "",
     ) -> "DurableStage[Any]":
-        if any(stage.request._view is not self._view for stage in of):
-            raise TypeError("no stage of this request")
-        said = self._definition_of(call, args, kwargs or {})
+        said = self._definition_of(call, of, args, kwargs or {})
         said = {"name": name or said.get("fn", form.name.lower()), **said}
-        payload = json_of(said).encode()
         sources = tuple(stage.number for stage in of)
-
-        def words(view: RowView) -> Any:
-            view.make_room(1)
-            number, (first, second) = len(view.forms), (*sources, 0, 0)[:2]
-            low = form << 24 | second << 12 | (0 if call is None else number)
-            return [(ATTACH << 56 | view.caller_number << 48 | first << 36 | len(sources) << 32 | low, payload)]
-
-        return self._attach_or_find(form, sources, said, words)
+        if isinstance(call, FurtherTry):
+            act = Act(ActKind.AGAIN, sources[0])
+        else:
+            act = Act(ActKind.ATTACH, form=form, of=sources, function=self._number_of(said))
+        return self._attach_or_find(act, form, sources, said)
 
     def _compose(self, source: "DurableStage[Any]", call: Callable[..., Any], name: str = "") -> "DurableStage[Any]":
         """Attaches a stage that composes, or a further try of one (`FurtherTry`), and the promise for its result."""
-        if source.request._view is not self._view:
-            raise TypeError("no stage of this request")
-        form = Form.EXCEPTIONALLY_COMPOSE if isinstance(call, FurtherTry) else Form.COMPOSE
-        said = self._definition_of(call, (), {})
+        said = self._definition_of(call, (source,), (), {})
         said = {"name": name or said["fn"], **said}
+        form, called = Form.COMPOSE, said
+        if isinstance(call, FurtherTry):
+            form, called = Form.EXCEPTIONALLY_COMPOSE, dict(called_definition(self._followed.definitions, call.of))
+        act = Act(ActKind.ATTACH, form=form, of=(source.number,), function=self._number_of(called))
+        return self._attach_or_find(act, form, act.of, said)
 
-        def words(view: RowView) -> Any:
-            view.make_room(2)
-            number, head = len(view.forms), ATTACH << 56 | view.caller_number << 48
-            promise = json.dumps({"name": f"what {said['name']} gives"}).encode()
-            return [
-                (head | Form.SOURCE << 24, promise),
-                (head | source.number << 36 | 1 << 32 | form << 24 | number + 1, json_of({**said, "to": number}).encode()),
-            ]
+    def _number_of(self, said: Mapping[str, Any]) -> Optional[int]:
+        return self._service.leader.numbers.number(said["fn"], said["version"]) if "fn" in said else None
 
-        return self._attach_or_find(form, (source.number,), said, words)
-
-    def _definition_of(self, call: Optional[Callable[..., Any]], args: Tuple[Any, ...], kwargs: Dict[str, Any]) -> Dict[str, Any]:
+    def _definition_of(
+        self, call: Optional[Callable[..., Any]], of: "Sequence[DurableStage[Any]]", args: Tuple[Any, ...], kwargs: Dict[str, Any]
+    ) -> Dict[str, Any]:
         """The definition of an attached stage: its function, and the stage whose function attaches it."""
+        if any(stage.request is not self for stage in of):
+            raise TypeError("no stage of this request")
         said = definition_of(self._service.functions, call, args, kwargs)
         said.update(capture_all(self._service.contexts) if call is not None else {})
+        json_of(said)  # (where JSON hasn't something, who attaches is told)
         composing = self._composing_here()
         return said if composing is None else {**said, "by": composing.first}
 
@@ -558,259 +501,82 @@ class DurableRequest:
         finally:
             del self._composed_by[threading.get_ident()]
 
-    def _attach_or_find(self, form: Form, sources: Tuple[int, ...], said: Dict[str, Any], words: Callable[[RowView], Any]) -> "DurableStage[Any]":
-        """Puts words that attach stages, and gives the last of these, which is of this form, or gives the one that an
-        earlier try of the function has attached. A request that is closed in the store is opened again with that."""
+    def _attach_or_find(self, act: Act, form: Form, sources: Tuple[int, ...], said: Dict[str, Any]) -> "DurableStage[Any]":
+        """Attaches a stage of this form, or gives the one that an earlier try of the function has attached. A request that
+        is closed in the store is opened again with that."""
         composing = self._composing_here()
-        found: List[int] = []
-
-        def decide(view: RowView) -> Any:
-            if composing is not None:
-                composing.check_goes_on(view)
-                found[:] = composing.stages_of_earlier_tries(view, (int(form), sources), said)[:1]
-            return None if found else words(view)
-
-        try:
-            done = self._act(decide, opens=True)
-        except Unknown:  # it may stand
-            self._service._keep(self)
-            raise
-        finally:
-            self._service._serve(self)
-        self._service._keep(self)  # (behind that: who thought it closed before doesn't forget it)
-        number = done[-1].reply[NUMBER] if done else found[0]
-        if composing is not None:
-            composing.taken.add(number)
+        if composing is None:
+            return self._stage(self._ask(act, None, said).stage)
+        number = self._found_or_attached(composing, act, form, sources, said)
+        composing.taken.add(number)
         return self._stage(number)
 
-    def _relay(self) -> None:
-        """Settles the promises of composing stages as the stages that their functions returned, once those are settled.
-        Cancels the promises of composing stages that were settled otherwise."""
-        view = self._view
+    def _found_or_attached(self, composing: Composing, act: Act, form: Form, sources: Tuple[int, ...], said: Dict[str, Any]) -> int:
+        """The stage that an earlier try has attached, or one that is attached now, while the composing stage is open."""
 
-        def given_in(said: bytes) -> int:
-            given = int(json.loads(said)["stage"])
-            if not 0 <= given < len(view.forms):
-                raise ValueError(f"there is no stage {given}")
-            return given
+        def found() -> List[int]:
+            return composing.stages_of_earlier_tries(self._followed, (int(form), sources), said)
 
-        for stage in list(view.unlinked_stages):
-            promise = int(view.definition(stage).get("to", stage))
-            if promise not in view.links and not view.is_settled(promise):
-                self._settle(CANCEL, promise, None)
-            view.unlinked_stages.discard(stage)
-        for promise, place in list(view.links.items()):
-            given = view.read_payload(place, given_in) if not view.is_settled(promise) else promise
-            if given == promise:
-                view.links.pop(promise, None)
-            elif view.is_settled(given):
-                kind, payload = self._settling_as(given)
-                self._settle(kind, promise, payload, failure=view.outcomes[given].kind)
+        def is_open() -> bool:
+            return self._service.leader.outcome(self._followed, composing.stage) is None
 
-    def _settling_as(self, stage: int) -> Tuple[int, Optional[bytes]]:
-        """The kind of word that settles a promise as this stage is settled, and its payload."""
-        told = self._view.outcomes[stage]
-        if told.kind == VALUE:
-            return COMPLETE, self._view.payload(told.number) if told.some else None
-        if told.kind == CANCELLED and not told.wrapped:
-            return CANCEL, None
-        if told.kind == THROWN:
-            return FAIL, self._view.payload(told.code)
-        if told.kind in FAILURES:
-            return FAIL_AS, self._view.payload(told.code) if told.code else None
-        return FAIL, self._service._error(CancelledError())
+        self._catch_up()
+        while is_open():
+            known = found()
+            if known:
+                return known[0]
+            with contextlib.suppress(NotStill):
+                return self._ask(act, None, said, lambda: is_open() and not found()).stage
+        name = self._definition(composing.first)["name"]  # another try attaches stages
+        raise Abandoned(f"{name} is settled, and its function attaches nothing any more")
 
     def _attach_tree(self, form: Form, of: "Sequence[DurableStage[Any]]", name: str) -> "DurableStage[Any]":
         """Attaches a tree of stages with at most two sources each, which ends as one stage of all sources would."""
-        if len(self._view.forms) + max(len(of) - 1, 1) > MOST_STAGES:
+        if len(self._followed.forms) + max(len(of) - 1, 1) > MOST_STAGES:
             raise RequestFull("a request has at most 4,096 stages")
         row = list(of)
         while len(row) > 2:
             row = [self._attach(form, row[k : k + 2], None, name=name) if k + 1 < len(row) else row[k] for k in range(0, len(row), 2)]
         return self._attach(form, row, None, name=name)
 
-    def _settle(self, kind: int, stage: int, payload: Optional[bytes], waits: bool = False, failure: int = TIMED_OUT) -> bool:
-        """Completes, fails or cancels a stage, and returns whether this call settled it. With `waits` not while its
-        function runs. `failure` is the kind of failure of FAIL_AS."""
-
-        def decide(view: RowView) -> Any:
-            if view.is_settled(stage) or waits and view.holder(stage) is not None:
-                return None
-            low = 0 if payload is None else (GIVES << 32 if kind == COMPLETE else 0) | view.next_place
-            if kind == FAIL_AS:
-                low |= FAILURES.index(failure) << 32
-            return [(kind << 56 | view.caller_number << 48 | stage << 36 | low, payload)]
-
-        try:
-            done = self._act(decide)
-        finally:
-            self._service._serve(self)
-        if done is None:
-            return kind == CANCEL and self._view.outcomes[stage].kind == CANCELLED and not self._view.outcomes[stage].wrapped
-        return bool(done[0].reply[ANSWER])
-
-    def _complete_all(self, given: "List[Tuple[int, Optional[bytes]]]") -> None:
-        """Completes a flow's open promises, up to 32 in one put."""
-        if given[32:]:
-            self._complete_all(given[32:])
-
-        def decide(view: RowView) -> Any:
-            left = [(stage, payload) for stage, payload in given[:32] if not view.is_settled(stage)]
-            return [
-                (COMPLETE << 56 | view.caller_number << 48 | stage << 36 | (0 if payload is None else GIVES << 32 | view.next_place + k), payload)
-                for k, (stage, payload) in enumerate(left)
-            ]
-
-        self._act(decide)
+    def _complete_all(self, given: "List[Tuple[int, bytes]]") -> None:
+        """Completes a flow's promises. Those that are settled stay as they are."""
+        self._ask_each([(Act(ActKind.COMPLETE, stage), payload) for stage, payload in given])
 
     def _set_timer(self, stage: "DurableStage[T]", seconds: float, payload: bytes) -> "DurableStage[T]":
         if not stage.done():
-            store = self._service.store
-            self._view.retrying_for_a_minute(lambda: store.set_timer(Timer(self.name, stage.number, store.now() + seconds, payload, self.number)))
+            self._service._set_timer(self, stage.number, seconds, payload)
         return stage
 
-    def _fire(self, timer: Timer) -> None:
-        kind, payload = timer.payload[:1], timer.payload[1:]
-        if not 0 <= timer.stage < len(self._view.forms):
-            raise StoreError(f"place {self._view.next_place}: a timer is set for stage {timer.stage}, which isn't there")
-        self._settle(FAIL_AS if kind == b"E" else COMPLETE, timer.stage, None if kind == b"N" else payload)
-
-    @contextlib.contextmanager
-    def _transacting(self) -> Generator[None, None, None]:
-        """Marks this thread as running a transactional function. If the store admits no other put meanwhile, keeps this
-        process's other threads from waiting with the request's lock, which the finish takes."""
-        writes: ContextManager[Any] = contextlib.nullcontext()
-        if self._service.store.locks_out:
-            writes = self._writes
-        with writes:
-            self._transacts.add(threading.get_ident())
-            try:
-                yield
-            finally:
-                self._transacts.discard(threading.get_ident())
-
-    def _glance(self, session: int, now: float) -> Optional[Glance]:
-        """A new glance for lists, if the request has rested since the last beat, its last word is this session's, and the
-        lock is free. Else another session or a later beat makes it."""
-        if not self._lock.acquire(blocking=False):
-            return None
-        try:
-            rests, self._rested = self.words_seen == self._rested, self.words_seen
-            if not rests or self.words_seen == self.glanced or self._view.last_session != session:
-                return None
-            made = glance_of(self._view, now, self._glance_seen)
-            self._glance_seen = read_glance(made)
-            return made
-        finally:
-            self._lock.release()
-
-    def _act_within(self, transaction: Transaction, finish: "FunctionResult") -> bool:
-        """Puts a finish within a transaction, and returns whether it stands. `Unknown` where it may. Shows nothing
-        yet."""
-        with self._lock:
-            wanted = None if self._view.is_settled(finish.stage) else finish.word_to_put(self._view)
-            if wanted is None:
-                return False
-            put: Put = self._view.plan_put([wanted])
-            try:
-                stands = transaction.append(put)
-                if stands:
-                    transaction.commit()
-            except BaseException:
-                self._view.leave_in_doubt(put)
-                raise
-            if not stands:
-                self._view.give_up_put()
-                return False
-            self._view.take_in_put(put, put.entries)
-            return True
-
-    def _read(self) -> None:
-        """Replays the words of others, without showing them yet."""
-        with self._lock:
-            self._view.catch_up()
-
-    def _is_held(self, stage: int) -> bool:
-        """Whether this session holds the open claim of a stage, by the words seen."""
-        return self._view.holder(stage) == self._service.session
-
-    def _is_over(self) -> bool:
-        """Whether it is a flow's request with nothing left to do."""
-        return bool(self._view.plan.rows) and self._view.is_done(self._service._is_gone)
-
-    def _end_if_done(self) -> None:
-        with self._lock:  # (another thread may be reading a word)
-            seen = self.words_seen if self._is_over() else None
-        if seen is not None and self._service.store.end(self.name, seen, self.number):
-            self._service._tell_end(self)
-
     def _cancel_all(self) -> None:
+        """Cancels the stages of its flow that were asked for here and that nobody has claimed."""
         for number, stage in self._stages.copy().items():
-            if not stage.done() and self._view.plan.rows[number:] and self._view.holder(number) is None:
+            if not stage.done() and number < self._followed.planned:
                 stage.cancel()
 
-    def _fail_all(self, error: BaseException) -> None:
-        self._show_each(list(self._stages), lambda stage: stage._show(None, error, False))
-
-    # What the row's numbers stand for.
+    # What is read.
 
     def _stage(self, number: int) -> "DurableStage[Any]":
         with self._lock:
             stage = self._stages.get(number)
-            if stage is None:
-                stage = self._stages[number] = (self._service._host.stage or DurableStage)(self, number)
-        self._show_these([number])
+            if stage is not None:
+                return stage
+            stage = self._stages[number] = (self._service._host.stage or DurableStage)(self, number)
+        self._service.leader.wait_for(self._followed, number, stage._show)
         return stage
 
-    def _show(self, news: List[DoneWord]) -> None:
-        self._service._note_signs_of_life(news)
-        self._show_these([*self._unshown, *(number for done in news for number in done.settled)])
+    def _definition(self, stage: int) -> Mapping[str, Any]:
+        return self._followed.definitions[stage]
 
-    def _show_settled(self) -> None:
-        """Shows all settled stages, after a call that failed part-way."""
-        self._show_these(list(self._stages))
-
-    def _show_these(self, numbers: Iterable[int]) -> None:
-        """Shows the settled ones of these stages."""
-        self._show_each(numbers, self._show_one)
-
-    def _show_each(self, numbers: Iterable[int], show: "Callable[[DurableStage[Any]], None]") -> None:
-        """Shows each of these stages, also after a callback of another one has raised."""
-        raised: Optional[BaseException] = None
-        for number in numbers:
-            stage = self._stages.get(number)
-            try:
-                if stage is not None:
-                    show(stage)
-            except BaseException as error:
-                raised = raised or error
-                if stage is not None and not stage.done():
-                    self._unshown.add(number)
-        if raised is not None:
-            self._service._report_raised(raised)
-
-    def _show_one(self, stage: "DurableStage[Any]") -> None:
-        if stage.done() or not self._view.is_settled(stage.number):
-            return
-        told = self._view.outcome(stage.number)
-        is_cancelled = told.kind == CANCELLED and not told.wrapped
-        try:
-            value, error = (None, None) if is_cancelled else self._outcome(told)
-        except StoreError as broken:
-            value, error = None, broken
-        except Unknown:
-            self._unshown.add(stage.number)
-            return
-        self._unshown.discard(stage.number)
-        stage._show(value, error, is_cancelled)
-
-    def _outcome(self, told: OutcomeNumbers) -> Tuple[Any, Optional[BaseException]]:
-        """The value and the exception of an outcome."""
-        if told.kind == VALUE:
-            return self._value(told.some, told.number), None
-        if told.kind == THROWN or told.code:
-            return None, self._view.read_payload(told.code, self._service.codec.read_error)
-        return None, CancelledError() if told.kind == CANCELLED else TimeoutError() if told.kind == TIMED_OUT else BadAnswer()
-
-    def _value(self, some: int, place: int) -> Any:
-        return self._view.read_payload(place, self._service.codec.read) if some else None
+    def _row(self) -> RowView:
+        """The row, by the words seen."""
+        followed = self._followed
+        with self._lock:
+            if self._reader is None:
+                self._reader = RowView(self._service.store, followed.opened, self._service.session)
+            reader, words = self._reader, followed.words
+            reader.catch_up(followed.entries[reader.words_seen : words])
+            reader.know_definitions(dict(enumerate(followed.definitions)))
+            if self._service._ends is not None:
+                reader.know_times(followed.times[:words])
+            return reader

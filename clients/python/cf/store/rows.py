@@ -238,7 +238,6 @@ class Store(abc.ABC):
     which is a `Broken`, also where another request has the name. The number 0 is for any request of the name."""
 
     is_transactional = False  # whether it has `transaction`
-    locks_out = False  # whether nobody else can put while a transaction is open
 
     @abc.abstractmethod
     def open(self, name: str, plan: str) -> Opened:
@@ -588,7 +587,6 @@ class Grouped(Store):
     def __init__(self, store: Store, most: int = 64) -> None:
         self._store, self._most = store, most
         self.is_transactional: bool = store.is_transactional
-        self.locks_out: bool = store.locks_out
         self._waiting: List[Tuple[Put, "_Slot"]] = []
         self._change = threading.Condition()
         self._is_closed = False

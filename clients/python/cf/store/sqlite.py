@@ -26,7 +26,7 @@ class SQLite(TableStore):
     system's on `PATH-line`, which a killed process leaves. A stopped one keeps it: who waits for long is told
     `Unknown`."""
 
-    is_transactional = locks_out = True
+    is_transactional = True
     SQL = sql
 
     def __init__(self, path: str, is_unsafe: bool = False, may_create: bool = True) -> None:

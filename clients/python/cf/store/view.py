@@ -3,7 +3,7 @@ another put came first, it replays that and decides again."""
 import contextlib
 import json
 from array import array
-from typing import Any, Callable, ContextManager, Dict, Iterable, Iterator, List, Mapping, NamedTuple, Optional, Sequence, Set, Tuple, TypeVar
+from typing import Any, Callable, ContextManager, Dict, Iterable, List, Mapping, NamedTuple, Optional, Sequence, Set, Tuple, TypeVar
 
 from .. import values
 from .._library import CNews
@@ -12,7 +12,6 @@ from ..service.words import (
     ANSWER,
     ATTACH,
     CANCEL,
-    CLAIM,
     COMPLETE,
     COMPOSE_FORMS,
     FAIL,
@@ -114,18 +113,10 @@ class RowView:
         session: The session whose view it is.
         patience: For how many seconds the store may be silent, before `Unknown` is raised.
         note: Called with each answer that this view got; for tests.
-        host: Has the clock and makes random numbers.
-        is_timed: Whether it remembers when it read each word."""
+        host: Has the clock and makes random numbers."""
 
     def __init__(
-        self,
-        store: Store,
-        opened: Opened,
-        session: int,
-        patience: float = 60,
-        note: Optional[Callable[..., None]] = None,
-        host: Host = HOST,
-        is_timed: bool = False,
+        self, store: Store, opened: Opened, session: int, patience: float = 60, note: Optional[Callable[..., None]] = None, host: Host = HOST
     ) -> None:
         self.store: Store = store
         self.name: str = opened.name
@@ -148,7 +139,7 @@ class RowView:
         self.ready: Set[int] = {number for number, kind in enumerate(self.kinds) if kind == IS_READY}
         self.words: "array[int]" = array("Q")
         self._sessions = array("Q")
-        self._times: "Optional[array[int]]" = array("q") if is_timed else None
+        self._times: "Optional[array[int]]" = None
         self.lost = self.unknown = 0
         self._patience = patience
         self._note = note or (lambda *_: None)
@@ -156,9 +147,6 @@ class RowView:
         self._definitions: Dict[int, Dict[str, Any]] = {}
         # the tokens of words of which it isn't known whether they stand, and the places where they would
         self._in_doubt: Dict[int, int] = {}
-        self.found_claims: Dict[int, DoneWord] = {}  # claims of this session's that were granted, as it found when it read them
-        self.granted_replies: Dict[int, Tuple[int, ...]] = {}  # what each claim that was granted was replied
-        self.on_taken_for_gone: Callable[[], None] = lambda: None  # called where others have failed a stage that this session runs
 
     @property
     def caller_number(self) -> int:
@@ -208,11 +196,6 @@ class RowView:
         """The word that finishes a stage, or None where this session has no open claim of it."""
         return self._replica.finish_word(ended)
 
-    def next_claims(self, ended: Optional[FinishAnswer]) -> Iterator[int]:
-        """The stages that this session could claim next, rising: the ready ones, and those that this finish makes
-        ready."""
-        return self._replica.next_claims(ended)
-
     def words_that_cancel(self, stages: int) -> "WantedWords":
         """The words that cancel the open ones of the first so many stages, the last one first, so that no function becomes
         ready for the end of a cancelled source. They are as many as one put takes."""
@@ -228,13 +211,12 @@ class RowView:
             entries = self.retrying_for_a_minute(lambda: self.store.read(self.name, self.words_seen, self.opened.number))
         return [self._take_in(*entry) for entry in entries]
 
-    def act(self, decide: "Callable[[RowView], Optional[WantedWords]]", opens: bool = False) -> Tuple[Optional[List[DoneWord]], List[DoneWord]]:
+    def act(self, decide: "Callable[[RowView], Optional[WantedWords]]") -> Tuple[Optional[List[DoneWord]], List[DoneWord]]:
         """Puts words at the end of the row, and does them.
 
         Args:
             decide: Returns the wanted words, each with its payload, or None. It is called again each time another
                 session's words came first.
-            opens: Whether the put opens a closed request again.
 
         Returns:
             What the words did, or None if none was wanted; and what other sessions' words did before.
@@ -248,7 +230,7 @@ class RowView:
             wanted = decide(self)
             if not wanted:
                 return None, others
-            put = self.plan_put(wanted)._replace(opens=opens)
+            put = self.plan_put(wanted)
             stands = self._append(put) or put.entries
             done = self.take_in_put(put, stands)
             others += [self._take_in(*entry) for entry in stands[len(done or []) :]]
@@ -341,7 +323,6 @@ class RowView:
 
     def _take_in(self, word: int, token: int) -> DoneWord:
         kind, session = word >> 56, token >> COUNT_BITS
-        fails_own = kind == FAIL and session != self.session == self.holder(word >> 36 & 0xFFF)
         try:
             if kind == ATTACH:
                 self.make_room(1)
@@ -350,29 +331,17 @@ class RowView:
             raise Broken(self.name, self.next_place, f"the word {word} can't be done: {refused}") from None
         reply, place = tuple(self._replica.reply), self.next_place
         self.words.append(word)
-        if self._times is not None:
-            self._times.append(int(self._host.monotonic() * 1e9))
         self._sessions.append(session)
-        if fails_own and reply[ANSWER]:
-            self.on_taken_for_gone()
         if kind == ATTACH and not reply[ANSWER]:
             self._add_stage(reply[NUMBER], word, place)
-        if kind == CLAIM and not reply[ANSWER]:
-            self.granted_replies[word >> 36 & 0xFFF] = reply
         if kind == FINISH and word >> 32 & 0xF == LINKS and not reply[ANSWER]:
             self.links[word & 0xFFF] = place
         done = DoneWord(place, word, token, reply, self._take_news(news, place))
         if token in self._in_doubt:
-            self._keep_found_claim(done)
+            self._note("did", self.name, place, word, reply)
         if self._in_doubt:  # what was to stand here and doesn't never will
             self._in_doubt = {token: its for token, its in self._in_doubt.items() if its > place}
         return done
-
-    def _keep_found_claim(self, done: DoneWord) -> None:
-        """Keeps the claim of a word of this view that landed without an answer: this view runs the function."""
-        self._note("did", self.name, done.place, done.word, done.reply)
-        if done.word >> 56 == CLAIM and not done.reply[ANSWER]:
-            self.found_claims[done.word >> 36 & 0xFFF] = done
 
     def _add_stage(self, number: int, word: int, place: int) -> None:
         low = word & 0xFFFFFFFF
@@ -456,13 +425,6 @@ class RowView:
         first = self.first_try_of(stage)
         return self.definition(stage if first is None else first)
 
-    def carried_context(self, stage: int) -> Dict[str, Any]:
-        """The context that a stage's function gets, from the place where the stage was attached."""
-        if stage < len(self.plan.definitions):
-            return self.plan.carried_context
-        found: Dict[str, Any] = self.definition(stage).get("context", {})
-        return found
-
     def read_definitions(self, stages: Iterable[int]) -> None:
         """Reads the missing definitions of these stages, in one call. `definition` raises for those that can't be read.
         `Unknown` at once where the store is silent."""
@@ -480,6 +442,14 @@ class RowView:
         for place in stages.keys() & payloads.keys():
             with contextlib.suppress(ValueError):
                 self._definitions[stages[place]] = checked_definition(json.loads(payloads[place].decode()), stages[place])
+
+    def know_times(self, times: "array[int]") -> None:
+        """Takes when each word was read, in nanoseconds, as its histories tell then."""
+        self._times = times
+
+    def know_definitions(self, stages: Mapping[int, Mapping[str, Any]]) -> None:
+        """Takes the definitions of these stages as they were read."""
+        self._definitions.update((stage, dict(said)) for stage, said in stages.items())
 
     def read_payload(self, place: int, reader: Callable[[bytes], T]) -> T:
         """Reads a payload. `Broken` where it can't be read."""
@@ -513,11 +483,6 @@ class RowView:
         told = self.outcomes[stage]
         self._note("saw", self.name, self.words_seen, stage, told)
         return told
-
-    @property
-    def last_session(self) -> Optional[int]:
-        """The session that put the last word seen."""
-        return self._sessions[-1] if self._sessions else None
 
     def history(self, codec: Json, lock: ContextManager[Any] = contextlib.nullcontext(), unread: Optional[Callable[[Broken], Any]] = None) -> History:
         """The history of the words seen. Takes its own state under the lock, and calls the codec without it. `unread`

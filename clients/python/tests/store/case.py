@@ -23,6 +23,7 @@ if not os.environ.get("CF_INSTALLED"):
     sys.path.insert(0, str(CLIENT))
 import shared_functions as f  # noqa: E402
 from cf.store import DurableService, Functions, Memory, connect, new_session  # noqa: E402
+from cf.store.host import Host  # noqa: E402
 from cf.store.plans import text_of  # noqa: E402
 
 logging.getLogger("cf.store").addHandler(logging.NullHandler())  # (what functions raise isn't shown)
@@ -48,8 +49,8 @@ class Case(unittest.TestCase):
             service.shutdown()
         self.folder.cleanup()
 
-    def service(self, address=None, **more):
-        made = DurableService(connect(address or self.address), 2, functions=f.functions, lease=self.lease, **more)
+    def service(self, address=None, workers=2, **more):
+        made = DurableService(connect(address or self.address), workers, functions=f.functions, lease=self.lease, **more)
         self.services.append(made)
         return made
 
@@ -84,17 +85,10 @@ class Case(unittest.TestCase):
                 yield self.service(address, **more), self.name + address
 
 
-class Watched(list):
-    """A list that lets others look after each change."""
+class Hurried(Host):
+    """A process whose clock can be set ahead: its patience with a store is over then."""
 
-    def __init__(self, things, look):
-        super().__init__(things)
-        self._look = look
+    ahead = 0.0
 
-    def append(self, thing):
-        super().append(thing)
-        self._look()
-
-    def __setitem__(self, at, thing):
-        super().__setitem__(at, thing)
-        self._look()
+    def monotonic(self):
+        return super().monotonic() + self.ahead

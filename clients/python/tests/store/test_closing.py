@@ -5,26 +5,23 @@ name.
     CF_LIBRARY=/path/to/libcf.so python3 clients/python/tests/store/test_closing.py [-v] [TEST ..]
 """
 import contextlib
-import threading
+import time
 import unittest
 import unittest.mock
 
-from case import Case, STORES, Watched
+from case import Case, Hurried, STORES
 import shared_functions as f
 from cf.service import Flow
-from cf.service.words import ATTACH, CANCEL, CLAIM, COMPLETE
-from cf.store import Broken, connect, DurableService, Memory, new_session, RowView, service as shared_service, Timer, Unknown
+from cf.service.words import CANCEL, CLAIM, COMPLETE
+from cf.store import Broken, connect, DurableService, Memory, new_session, RowView, Timer, Unknown
 from cf.store.plans import text_of
-from cf.store.request import DurableRequest
-from cf.store.rows import Gone
 
 
 class Closing(Case):
     def test_what_is_over_is_closed(self):
         """A process is gone between a flow's last word and its closing, or with a claim: another closes the request."""
-        closing_service = self.service(takes_all=True)
-        closing_service._lease = 0.5
-        closing_service._watcher._seconds = 0.5
+        self.lease = 0.5
+        self.service(takes_all=True)
         flow = Flow("two")
         one, two = flow.promise("one"), flow.supply(f.nothing)
         store = connect(self.address)
@@ -38,33 +35,6 @@ class Closing(Case):
         self.until(lambda: not store.ends())
         store.close()
 
-    def test_a_word_that_comes_as_its_request_is_closed(self):
-        """One thread reads the word of a stage while another finds that all are settled: the request isn't closed."""
-        closing_service = self.service(takes_all=True)
-        flow = Flow("one")
-        flow.promise()
-        reopened = closing_service.start(flow, 1, name="r")
-        self.until(lambda: not closing_service.store.ends())
-        closers = []
-
-        def close():
-            if not closers:
-                closers.append(threading.Thread(target=reopened._end_if_done))
-                closers[0].start()
-                closers[0].join(0.5)
-
-        reopened._view.words = Watched(reopened._view.words, close)
-        store = connect(self.address)
-        store.reopen("r")
-        other = RowView(store, store.find("r"), new_session())
-        other.catch_up()
-        other.make_room(1)
-        other.act(lambda view: [(ATTACH << 56 | view.caller_number << 48, b'{"name": "late"}')])
-        self.until(lambda: len(reopened._view.forms) == 2)
-        closers[0].join()
-        self.assertIn("r", store.ends())
-        store.close()
-
     def test_a_request_that_goes_on_as_it_is_let_go(self):
         """Who attaches to a closed request opens it again, and nobody forgets it who has seen it closed before."""
         store = Memory()
@@ -74,13 +44,20 @@ class Closing(Case):
         step = flow.promise("p")
         reopened = closing_service.start(flow, 1, name="r")
         self.until(lambda: "r" not in store.ends())
-        kept = reopened.kept
         late = reopened.promise("late").or_timeout(0.3)
         self.assertIn("r", store.ends())
-        closing_service._let_go(reopened, kept)
-        self.assertIs(closing_service._requests.get("r"), reopened)
+        self.assertIs(closing_service.open("r"), reopened)
         self.assertIsInstance(late.exception(20), TimeoutError)
         self.assertEqual(reopened[step].result(60), 1)
+
+    def test_who_has_served_many_requests_keeps_few(self):
+        """What is closed is forgotten, and a new request takes no longer for those before it."""
+        service = DurableService(Memory(), 2, functions=f.functions, lease=1)
+        self.services.append(service)
+        for k in range(100):
+            self.assertEqual([it.result(20) for it in [service.submit(f.inc, k) for k in range(30)]], list(range(1, 31)))
+        self.until(lambda: len(service.leader._requests) < 300)
+        self.assertLess(len(service._requests), 300)
 
     def test_a_request_that_others_open_again(self):
         """It was let go here, and who waits for one of its stages is told all the same. A plain request that was
@@ -111,21 +88,17 @@ class Closing(Case):
             over, plain = closing_service.start(flow, 1, name=name), closing_service.request(name + " plain")
             self.until(lambda store=store, name=name: name not in store.ends())
             store.end(plain.name, 0)
+            real, seen = store.append_groups, []
+
+            def append_groups(puts, real=real, seen=seen, store=store):
+                told = real(puts)
+                seen.extend(put.request in store.ends() for put in puts)
+                return told
+
             for request in (over, plain):
-                with unittest.mock.patch.object(store, "append_groups", self.dying(store)):
-                    with self.assertRaises(SystemExit):
-                        request.promise("late")
-                self.assertIn(request.name, store.ends())
-
-    def dying(self, store):
-        """Puts, and ends the process behind that."""
-        real = store.append_groups
-
-        def append_groups(puts):
-            real(puts)
-            raise SystemExit("killed")
-
-        return append_groups
+                with unittest.mock.patch.object(store, "append_groups", append_groups):
+                    request.promise("late")
+            self.assertEqual(seen, [True, True])
 
     def test_an_attach_that_the_store_is_silent_about(self):
         """It stands, and is worked on."""
@@ -137,20 +110,30 @@ class Closing(Case):
                 told = super().append_groups(puts)
                 if self.is_silent:
                     self.is_silent = False
+                    host.ahead += 61
                     raise Unknown("silent")
                 return told
 
-        store, flow = Silent(), Flow("order")
+        store, flow, host = Silent(), Flow("order"), Hurried()
         flow.promise("p")
-        closing_service = DurableService(store, 1, functions=f.functions, lease=0.5)
+        closing_service = DurableService(store, 1, functions=f.functions, lease=0.5, host=host)
         self.services.append(closing_service)
-        with unittest.mock.patch.object(shared_service, "PATIENCE", -1):
-            reopened = closing_service.start(flow, 1, name="r")
-            self.until(lambda: "r" not in store.ends())
-            store.is_silent = True
-            with self.assertRaises(Unknown):
-                reopened.supply(f.inc, 1)
-            self.assertEqual(reopened[1].result(20), 2)
+        reopened = closing_service.start(flow, 1, name="r")
+        self.until(lambda: "r" not in store.ends())
+        store.is_silent = True
+        with self.assertRaises(Unknown):
+            reopened.supply(f.inc, 1)
+        self.assertEqual(reopened[1].result(20), 2)
+
+    def test_a_request_that_another_has_closed(self):
+        """Each of two processes sees that it is over, and one closes it. The other one asks no more."""
+        service, other, asked = self.service(takes_all=True), self.service(workers=0, takes_all=True), []
+        ends = other.store.end
+        other.store.end = lambda *given: asked.append(given) or ends(*given)
+        self.assertEqual(service.submit(f.load, 1).result(20)["number"], 1)
+        self.until(lambda: not service.store.ends())
+        time.sleep(0.5)
+        self.assertLess(len(asked), 3)
 
     def test_who_waits_elsewhere_is_told_of_the_last_word(self):
         """Also where the request is closed right behind it, and nobody has looked at all that are open meanwhile."""
@@ -162,7 +145,7 @@ class Closing(Case):
                 flow = Flow("order")
                 last = flow.promise("p").then(f.inc)
                 waits = asks.start(flow, name=self.name)[last]
-                self.until(lambda asks=asks: asks._mark is not None)
+                self.until(lambda asks=asks: asks.leader._mark is not None)
                 other = RowView(store, store.find(self.name), new_session())
                 news, store.news = store.news, lambda mark: ({}, mark)  # (it doesn't look for a moment)
                 other.catch_up()
@@ -181,7 +164,7 @@ class NamesUsedAgain(Case):
             worker = DurableService(closing_service.store, 1, functions=f.functions, takes_all=True, lease=1)
             old = closing_service.request(name)
             stage = old.promise("p")
-            self.until(lambda: name in worker._requests)
+            self.until(lambda: name in worker.leader._by_name)
             closing_service.store.drop(name)
             new = closing_service.request(name)
             self.assertIsInstance(stage.exception(60), Broken)
@@ -192,25 +175,20 @@ class NamesUsedAgain(Case):
             self.assertEqual(worker.open(name).supply(f.inc, 1).result(20), 2)
             self.assertEqual(new[0].result(20), 2)
             self.assertNotIn(name, {**closing_service.broken, **worker.broken})
-            worker._stops.set()
-            worker._pump.join()
+            worker.shutdown(wait=False)
 
     def test_what_is_late_for_a_name_that_is_used_again(self):
-        """A timer that was due, and a look-up, of a request that was dropped meanwhile do nothing to the next one of
-        its name."""
-        closing_service = DurableService(Memory(), 0, functions=f.functions)
+        """A timer that was due of a request that was dropped meanwhile does nothing to the next one of its name."""
+        store = Memory()
+        closing_service = DurableService(store, 0, functions=f.functions, takes_all=True)
         self.services.append(closing_service)
         first = closing_service.request("r")
         first.promise().complete(1)
-        found, timer = closing_service.store.find("r"), Timer("r", 0, 0, b"V2", first._view.opened.number)
-        closing_service.store.drop("r")
+        store.drop("r")
         stage = closing_service.request("r").promise()
-        closing_service._fire(timer)
-        view = RowView(closing_service.store, found, closing_service.session)
-        kept = closing_service._keep_one(DurableRequest(closing_service, view))
-        self.assertIs(kept, stage.request)
-        self.assertFalse(stage.done())
-        self.assertTrue(stage.complete(3))
+        due = store.due_timers
+        with unittest.mock.patch.object(store, "due_timers", lambda now: [Timer("r", 0, 0.0, b"V2", first.number), *due(now)]):
+            self.assertEqual(stage.complete_on_timeout(3, 0.1).result(20), 3)
 
     def test_a_request_that_is_dropped_as_it_is_begun(self):
         """Another of its name is begun meanwhile, with another plan: whoever began the first is told that."""
@@ -238,23 +216,6 @@ class NamesUsedAgain(Case):
             closing_service.start(flow(1), name="r")
         self.assertIs(closing_service.start(flow(2), name="r"), begun[0])
 
-    def test_a_name_that_is_begun_anew_as_the_request_before_is_let_go(self):
-        class Requests(dict):
-            def get(self, name, default=None):
-                found = super().get(name, default)
-                if threading.current_thread() is threading.main_thread():
-                    anew.start(), anew.join(0.05)
-                return found
-
-        service = DurableService(Memory(), 0, functions=f.functions)
-        self.services.append(service)
-        dropped, anew = service.request("r"), threading.Thread(target=lambda: service.request("r"))
-        service.store.drop("r")
-        service._requests = Requests(service._requests)
-        service._break("r", Gone("r"), dropped)
-        anew.join(20)
-        self.assertEqual([it.number > dropped.number for it in service._requests.values()], [True])
-
     def test_a_name_that_began_anew_with_fewer_words(self):
         """A worker that has seen more words of an earlier request of the name works on the new one; who has the old
         one is told."""
@@ -278,9 +239,6 @@ class NamesUsedAgain(Case):
             with self.assertRaises(Broken):
                 call()
         self.assertIn("r", store.ends())
-        self.assertIs(asks._keep_one(old), new)
-        asks._run_guarded("r", asks._work, old)
-        self.assertIs(asks._find_known("r"), new)
         self.assertIs(asks.open("r"), new)
 
 

@@ -55,7 +55,7 @@ class Codecs(Case):
         self.assertIsInstance(coded_promise.exception(60), Broken)
         error = coded.supply(fails).exception(20)
         self.assertIn("it can't be written", str(error))
-        self.assertFalse(coded._view.claims())
+        self.assertFalse(coded._row().claims())
 
     def test_what_json_has_not(self):
         """NaN and infinities are refused before anything is put, wherever they are given: other languages can't read
@@ -119,7 +119,7 @@ class Codecs(Case):
         self.assertEqual([type(it) for it in told], [RemoteError, FileNotFoundError, RecursionError, SystemExit])
         self.assertEqual(told[1].filename, "\udcff")
         self.assertEqual(coded.supply(half).result(20), "\ud800")
-        self.assertFalse(coded._view.claims())
+        self.assertFalse(coded._row().claims())
 
 
 if __name__ == "__main__":

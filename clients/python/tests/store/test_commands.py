@@ -131,7 +131,7 @@ class Commands(Case):
         self.assertEqual(declined.recover(f.kind).result(20), "Declined")
         self.assertIsInstance(declined.exception(20), f.Declined)
         durable.supply(f.hold)
-        self.until(lambda: durable._view.claims())
+        self.until(lambda: durable._row().claims())
         ended.terminate()
         self.assertEqual(ended.wait(20), 1)
         said = ended.stderr.read().decode()

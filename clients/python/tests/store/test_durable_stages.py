@@ -4,16 +4,19 @@
     CF_LIBRARY=/path/to/libcf.so python3 clients/python/tests/store/test_durable_stages.py [-v] [TEST ..]
 """
 import asyncio
+import signal
 import threading
+import time
 import unittest
 import unittest.mock
 from concurrent.futures import CancelledError
 
-from case import Case, Watched
+from case import Case
 import shared_functions as f
 from cf.service import Flow, RequestFull
-from cf.service.words import CLAIM, FINISH, VALUE
+from cf.service.words import CLAIM, FINISH, IS_SETTLED
 from cf.store import Abandoned, Broken, DurableService, Functions, Memory
+from cf.store.followed import Shown
 
 
 class DurableStages(Case):
@@ -83,10 +86,10 @@ class DurableStages(Case):
             first = durable.promise("first")
             last = first.compose(f.waiting).then(f.inc)
             first.complete(1)
-            self.until(lambda durable=durable: durable._view.links)
+            self.until(lambda durable=durable: durable._row().links)
             durable["late"].complete(17)
             self.assertEqual(last.result(20), 18)
-            claims = [word for word in durable._view.words if word >> 56 == CLAIM and word >> 36 & 0xFFF == last.number]
+            claims = [word for word in durable._row().words if word >> 56 == CLAIM and word >> 36 & 0xFFF == last.number]
             self.assertEqual(len(claims), 1)
 
     def test_compose(self):
@@ -99,18 +102,18 @@ class DurableStages(Case):
             self.assertIsInstance(number.compose(f.both).exception(20), TypeError)
             self.assertIsInstance(durable.supply(f.fails).compose(f.loading).exception(20), PermissionError)
             late = number.compose(f.waiting)
-            self.until(lambda durable=durable: any(it["name"] == "late" for it in map(durable._view.definition, range(len(durable._view.forms)))))
+            self.until(lambda durable=durable: any(it["name"] == "late" for it in map(durable._row().definition, range(len(durable._row().forms)))))
             self.assertFalse(late.done())
             durable["late"].complete(None)
             self.assertIsNone(late.result(20))
             again = number.compose(f.waiting)
             self.until(
-                lambda durable=durable: [it["name"] for it in map(durable._view.definition, range(len(durable._view.forms)))].count("late") == 2
+                lambda durable=durable: [it["name"] for it in map(durable._row().definition, range(len(durable._row().forms)))].count("late") == 2
             )
-            names = [it["name"] for it in map(durable._view.definition, range(len(durable._view.forms)))]
+            names = [durable[k].name for k in range(len(durable._row().forms))]
             self.assertTrue(durable[len(names) - 1 - names[::-1].index("late")].cancel())
             self.assertIsInstance(again.exception(20) if not again.cancelled() else CancelledError(), CancelledError)
-            self.until(lambda durable=durable: not durable._view.links and not durable._view.unlinked_stages)
+            self.until(lambda durable=durable: all(kind == IS_SETTLED for kind in durable._row().kinds))
 
     def test_a_promise_that_nothing_comes_of(self):
         """Where a stage that composes fails, its promise is cancelled: a flow's request is closed all the same."""
@@ -221,8 +224,8 @@ class DurableStages(Case):
         request = lives.open("r")
         self.assertEqual(request[last.number].result(20), 41)
         goes.set()
-        self.until(lambda: not request._view.claims())
-        said = [request._view.definition(k) for k in range(len(request._view.forms))]
+        self.until(lambda: not request._row().claims())
+        said = [request._row().definition(k) for k in range(len(request._row().forms))]
         self.assertEqual(sorted(self.calls), [20, 20])
         self.assertEqual([it["name"] for it in said if it.get("by") == behind.number], ["counted", "note", "counted", "add"])
         self.assertIsInstance(request[behind.number].exception(20), Abandoned)
@@ -240,11 +243,11 @@ class DurableStages(Case):
         self.until(lambda: self.told)
         request = lives.open("r")
         self.assertIsInstance(request[behind.number].exception(20), Abandoned)
-        many = len(request._view.forms)
+        many = len(request._row().forms)
         goes.set()
-        self.until(lambda: not request._view.claims())
+        self.until(lambda: not request._row().claims())
         request._catch_up()
-        self.assertEqual(len(request._view.forms), many)
+        self.assertEqual(len(request._row().forms), many)
 
     def test_further_tries_of_what_composes_that_arent_needed(self):
         """They pass on what there is: a value, and an error that isn't of a death. A flow's request is closed then."""
@@ -333,27 +336,7 @@ class DurableStages(Case):
                 promise.complete(1)
             self.until(lambda: len(heard) == 8 and logs.output)
         self.assertEqual(stages[3].result(20), 3)
-        self.assertFalse(durable._view.claims())
-        waits = [durable.promise() for _ in range(3)]
-        waits[0].add_done_callback(ends)
-        with self.assertRaises(SystemExit):
-            durable._fail_all(KeyError("all"))
-        self.assertEqual([repr(it.exception(0)) for it in waits], ["KeyError('all')"] * 3)
-
-    def test_who_looks_while_a_word_is_read(self):
-        """Another thread sees no stage that isn't there yet, and none settled whose outcome isn't there yet."""
-        service = DurableService(Memory(), 0, functions=f.functions)
-        self.services.append(service)
-        durable = service.request("r")
-        promise, view, seen = durable.promise(), durable._view, []
-
-        def look():
-            seen.extend((view.is_settled(k), view.outcomes[k].kind == VALUE) for k in range(len(view.forms)))
-
-        for name in ("forms", "kinds", "outcomes", "places"):
-            setattr(view, name, Watched(getattr(view, name), look))
-        promise.complete(1), durable.promise()
-        self.assertEqual({(False, False), (True, True)}, set(seen) - {(False, True)})
+        self.assertFalse(durable._row().claims())
 
     def test_two_threads_that_show_a_stage(self):
         """Both have found it cancelled: none raises."""
@@ -370,7 +353,7 @@ class DurableStages(Case):
 
         def show():
             try:
-                stage._show(None, None, True)
+                stage._show(Shown(None, None, True))
             except BaseException as error:
                 wrong.append(error)
 
@@ -381,6 +364,29 @@ class DurableStages(Case):
             for thread in threads:
                 thread.join(20)
         self.assertEqual((wrong, stage.cancelled(), stage._state), ([], True, "CANCELLED_AND_NOTIFIED"))
+
+    def test_who_is_interrupted_as_it_puts(self):
+        """What the put has settled is shown all the same."""
+
+        class Slow(Memory):
+            is_slow = False
+
+            def append_groups(self, puts):
+                if self.is_slow:
+                    self.is_slow = False
+                    signal.raise_signal(signal.SIGINT)
+                    time.sleep(0.05)
+                return super().append_groups(puts)
+
+        service = DurableService(Slow(), 0, functions=f.functions)
+        self.services.append(service)
+        durable = service.request("r")
+        for _ in range(10):
+            promise = durable.promise()
+            service.store.is_slow = True
+            with self.assertRaises(KeyboardInterrupt):
+                promise.complete(1)
+            self.assertEqual(promise.result(20), 1)
 
     def test_it_is_awaited(self):
         service = self.service()
@@ -464,6 +470,19 @@ class DurableStages(Case):
             for which in ("fraud score", -1, 2):
                 with self.subTest(which=which), self.assertRaises(KeyError):
                     durable[which]
+
+    def test_a_request_that_grows(self):
+        """One without a plan takes as many stages as one with a plan of that many."""
+        store = Memory()
+        service, other = (DurableService(store, 0, functions=f.functions, takes_all=True) for _ in range(2))
+        self.services += [service, other]
+        durable = service.request("r")
+        for _ in range(4096):
+            durable.promise()
+        with self.assertRaises(RequestFull):
+            durable.promise()
+        self.assertTrue(other.open("r")[4095].complete(1))
+        self.assertEqual(durable[4095].result(20), 1)
 
     def test_a_full_request(self):
         service = DurableService(Memory(), 0, functions=f.functions)

@@ -6,14 +6,13 @@ that fail.
 """
 import threading
 import unittest
-import unittest.mock
 
 from case import Case, EMPTY
 import shared_functions as f
 from cf import BadAnswer, run_script
 from cf.service import Service
 from cf.service.words import ATTACH, BAD_ANSWER, FAIL, FAIL_AS, TIMED_OUT
-from cf.store import Broken, DurableService, Json, Memory, new_session, RowView, service as shared_service, Timer, Unknown
+from cf.store import Broken, DurableService, Json, Memory, new_session, RowView, Timer, Unknown
 
 
 class DurableTimeouts(Case):
@@ -37,13 +36,21 @@ class DurableTimeouts(Case):
             text = "TimeoutError('late took longer than 0.05 s')"
             for part in (f" times out 0 late, {text}\n", f"0 late ends: timed out, {text}\n", f" ends: timed out, {text}, passed on\n"):
                 self.assertIn(part, str(history))
-            place = next(place for place, word in enumerate(stored._view.words, 1) if word >> 56 == FAIL_AS)
+            place = next(place for place, word in enumerate(stored._row().words, 1) if word >> 56 == FAIL_AS)
             self.assertIn(f'["failAs",0,"timeout",{place}]', history.script())
             self.assertEqual(run_script(history.script()), history.report())
             with Service(1) as plain:
                 relay = plain.request().adopt(late)
                 self.assertIs(relay.exception(0), late.exception())
                 self.assertIn(f"relay times out 0 relay of a DurableStage, {text}\n", str(relay.request.history()))
+
+    def times_out(self, stored, stage, given, failure):
+        """Puts the word by which another process lets a stage time out, or end with a bad answer."""
+        store = stored._service.store
+        view = RowView(store, store.find(stored.name), new_session())
+        view.catch_up()
+        head = FAIL_AS << 56 | stage << 36 | failure - TIMED_OUT << 32
+        view.act(lambda view: [(head | view.caller_number << 48 | (0 if given is None else view.next_place), given)])
 
     def test_promises_of_what_timed_out(self):
         """A stage that composes ends as the one does that its function gives: as timed out, with that one's
@@ -59,13 +66,13 @@ class DurableTimeouts(Case):
                 number = stored.promise("number")
                 composed = number.compose(f.waiting)
                 number.complete(1)
-                self.until(lambda: any(it["name"] == "late" for it in map(stored._view.definition, range(len(stored._view.forms)))))
-                self.assertTrue(stored._settle(FAIL_AS, stored["late"].number, given, failure=failure))
+                self.until(lambda: any(it["name"] == "late" for it in map(stored._row().definition, range(len(stored._row().forms)))))
+                self.times_out(stored, stored["late"].number, given, failure)
                 for stored_stage in (stored["late"], composed, composed.then(f.inc)):
                     self.assertEqual((type(stored_stage.exception(20)), str(stored_stage.exception())), (kind, text))
-                words = [(word >> 32 & 0xF, word & 0xFFFFFFFF, place) for place, word in enumerate(stored._view.words, 1) if word >> 56 == FAIL_AS]
-                self.assertEqual(words, [(failure - TIMED_OUT, 0 if given is None else place, place) for _, _, place in words])
-                self.assertEqual(len(words), 2)
+                words = [(word >> 32 & 0xF, word & 0xFFFFFFFF, place) for place, word in enumerate(stored._row().words, 1) if word >> 56 == FAIL_AS]
+                first = 0 if given is None else words[0][2]  # (the promise names the same payload)
+                self.assertEqual([it[:2] for it in words], [(failure - TIMED_OUT, first)] * 2)
 
     def test_a_promise_that_timed_out_before_it_was_linked_to(self):
         for service, name in self.each():
@@ -136,15 +143,14 @@ class DurableTimeouts(Case):
                 super().drop_timer(request, stored_stage, number)
 
         late_store, dropped = Away(), []
-        with unittest.mock.patch.object(shared_service, "PATIENCE", 0):
-            service = DurableService(late_store, 1, functions=f.functions, lease=5)
-            self.services.append(service)
-            stored_limit = service.request("r").promise()
-            with self.assertLogs("cf.store", "WARNING"):
-                late_store.left = 3
-                self.assertIsInstance(stored_limit.or_timeout(0.01).exception(20), TimeoutError)
-            self.until(lambda: not late_store._timers)
-            self.assertEqual(dropped, [-1])
+        service = DurableService(late_store, 1, functions=f.functions, lease=5)
+        self.services.append(service)
+        stored_limit = service.request("r").promise()
+        with self.assertLogs("cf.store", "WARNING"):
+            late_store.left = 3
+            self.assertIsInstance(stored_limit.or_timeout(0.01).exception(20), TimeoutError)
+        self.until(lambda: not late_store._timers)
+        self.assertEqual(dropped, [-1])
 
 
 if __name__ == "__main__":

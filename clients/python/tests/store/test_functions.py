@@ -61,6 +61,16 @@ class NamedFunctions(Case):
         self.assertEqual(stage.result(20), 101)
         self.assertEqual(second.open("r")["order"].then(newer).result(20), 200)
 
+    def test_a_function_that_is_registered_later(self):
+        """It is called in requests that have begun, too, from the next beat on."""
+        _, asks, works = self.memory_that_two_share()
+        late = asks.function("late")(lambda: 3)
+        with self.assertLogs("cf.store", "WARNING") as logs:
+            stage = asks.request("r").supply(late)
+            self.until(lambda: logs.output)
+        works.function("late")(late)
+        self.assertEqual(stage.result(20), 3)
+
 
 if __name__ == "__main__":
     unittest.main()

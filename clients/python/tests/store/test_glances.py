@@ -12,7 +12,7 @@ from case import Case, STORES
 import shared_functions as f
 from cf.service import Flow
 from cf.store import Abandoned, Broken, connect, DurableService, Grouped, Memory, new_session, Put, RowView, Store, StoreError, tables, Unknown
-from cf.store import service as shared_service
+from cf.store import leader as leading
 from cf.store.glances import glance_of, read
 from cf.store.plans import text_of
 from cf.store.rows import FIRST, flow_of, Glance, Gone, RowQuery
@@ -371,14 +371,14 @@ class Glances(Case):
     def test_glances_of_many_are_kept_some_at_a_time(self):
         service, kept = DurableService(Memory(), 0, lease=1000), []
         self.services.append(service)
-        self.until(lambda: service._next_look)  # (its first beat keeps glances, too)
+        self.until(lambda: service.session in service.store.beats())  # (its first beat keeps glances, too)
         for name in "abc":
             service.request(name).promise()
-        with unittest.mock.patch.object(shared_service, "MOST_GLANCES", 2), unittest.mock.patch.object(
+        with unittest.mock.patch.object(leading, "MOST_GLANCES", 2), unittest.mock.patch.object(
             service.store, "keep_glances", lambda glances: kept.append([it.request for it in glances])
         ):
             for _ in range(4):
-                service._keep_glances()
+                service.leader._keep_glances()
         self.assertEqual([len(it) for it in kept], [2, 1])
         self.assertEqual({name for names in kept for name in names}, {*"abc"})
 

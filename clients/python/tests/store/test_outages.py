@@ -9,11 +9,11 @@ import time
 import unittest
 import unittest.mock
 
-from case import Case, STORES
+from case import Case, Hurried, STORES
 import shared_functions as f
 from cf.service.words import COMPLETE
 from cf.store.host import Host
-from cf.store import Broken, connect, DurableService, Functions, Memory, new_session, RowView, service as shared_service, StoreError, Unknown
+from cf.store import Broken, connect, DurableService, Functions, Memory, leader as leading, new_session, RowView, StoreError, Unknown
 
 
 class Hasty(Host):
@@ -44,16 +44,14 @@ class Outages(Case):
         function = functions.function("f")(lambda k: ran.append(k))
         for lands in (True, False):
             for left in (3, 60):
-                with self.subTest(lands=lands, left=left), unittest.mock.patch.object(shared_service, "PATIENCE", 0.05):
+                with self.subTest(lands=lands, left=left):
                     failing_store = Away()
-                    asks = DurableService(failing_store, 0, functions=functions)
+                    asks = DurableService(failing_store, 0, functions=functions, lease=1)
                     stages = [asks.request("r").supply(function, k) for k in range(3)]
                     failing_store.lands, failing_store.left = lands, left
                     with self.assertLogs("cf.store", "WARNING"):
                         works = DurableService(failing_store, 2, functions=functions, takes_all=True, lease=1)
-                        asks._lease = works._lease = 1
                         self.assertEqual([outlasting_stage.result(20) for outlasting_stage in stages], [None] * 3)
-                        shared_service.LOGGER.warning("at least one")
                     self.assertEqual(sorted(ran), [0, 1, 2])
                     self.assertEqual(failing_store.left, 0)
                     ran.clear()
@@ -71,7 +69,7 @@ class Outages(Case):
 
         failing_store, functions = Away(), Functions()
         function = functions.function("f")(lambda: setattr(failing_store, "is_away", True))
-        with unittest.mock.patch.object(shared_service, "PATIENCE", 0), self.assertLogs("cf.store", "WARNING") as logs:
+        with self.assertLogs("cf.store", "WARNING") as logs:
             service = DurableService(failing_store, 1, functions=functions)
             self.services.append(service)
             self.assertIsNone(service.request("r").supply(function).result(20))
@@ -148,8 +146,7 @@ class Outages(Case):
 
         for many in range(1, 8):
             store = Shut()
-            service = DurableService(store, 1, functions=functions, lease=1e6)
-            service._host = Hasty()
+            service = DurableService(store, 1, functions=functions, lease=1e6, host=Hasty())
             self.assertEqual(service.request("r").supply(shuts, many).result(20), many)
             service.shutdown()
 
@@ -168,10 +165,9 @@ class Outages(Case):
 
         store, functions = Silent(), Functions()
         waits = functions.function("waits")(lambda: goes.wait(20) and "done")
-        with unittest.mock.patch.object(shared_service, "PATIENCE", 0.01):
-            service = DurableService(store, 1, functions=functions)
-            service.request("r").supply(waits)
-            self.until(lambda: service.running())
+        service = DurableService(store, 1, functions=functions)
+        service.request("r").supply(waits)
+        self.until(lambda: service.running())
         silent.set()
         service.shutdown(wait=False)
         goes.set()
@@ -179,7 +175,7 @@ class Outages(Case):
         silent.clear()
         asks = DurableService(store, 0)
         self.services.append(asks)
-        self.until(lambda: not service._busy)
+        self.until(lambda: service.leader.is_over)
         self.assertEqual(asks.open("r")[0].result(0), "done")
         service.shutdown()
 
@@ -195,7 +191,7 @@ class Outages(Case):
 
         functions = Functions()
         last = functions.function("last")(silent.set)
-        with unittest.mock.patch.object(shared_service, "PATIENCE", 0.01):
+        with unittest.mock.patch.object(leading, "PATIENCE", 0.01):
             service = DurableService(Silent(), 1, functions=functions)
             with self.assertLogs("cf.store", "ERROR") as logs:
                 service.request("r").supply(last)
@@ -275,13 +271,13 @@ class Outages(Case):
                 return super().append_groups(puts) if meanwhile() else []
 
             def silent(self):
+                host.ahead += 61
                 raise Unknown("away")
 
         for at_fault in (False, True):
-            failing_store = Loses()
-            service = DurableService(failing_store, 0, functions=f.functions, lease=1e6)
-            with unittest.mock.patch.object(shared_service, "PATIENCE", 0.1):
-                outlasting = service.request("r")
+            failing_store, host = Loses(), Hurried()
+            service = DurableService(failing_store, 0, functions=f.functions, lease=1e6, host=host)
+            outlasting = service.request("r")
             answer, heard = outlasting.promise("answer"), threading.Event()
             answer.add_done_callback(lambda _: heard.set())
             other = RowView(failing_store, failing_store.find("r"), new_session())
@@ -317,20 +313,14 @@ class Outages(Case):
         asks = DurableService(failing_store, 0, functions=f.functions)
         self.services.append(asks)
         asks.request("r").promise("p").complete(1)
-        with unittest.mock.patch.object(shared_service, "PATIENCE", 0), self.assertLogs("cf.store", "WARNING"):
+        with self.assertLogs("cf.store", "WARNING"):
             works = DurableService(failing_store, 1, functions=f.functions, lease=0.5)
             self.services.append(works)
-            outlasting_stage = works.open("r")
-            outlasting_stage._view.definition(0)
+            outlasting = works.open("r")
             failing_store.left = 2
-            self.assertEqual(outlasting_stage[0].result(20), 1)
-            behind = asks.open("r")[0].then(f.inc)
-            outlasting_stage._catch_up()
-            outlasting_stage._view.definition(1)
+            self.assertEqual(outlasting[0].result(20), 1)
             failing_store.left = 1
-            works._serve(outlasting_stage)
-            self.assertEqual(behind.result(20), 2)
-            shared_service.LOGGER.warning("at least one")
+            self.assertEqual(asks.open("r")[0].then(f.inc).result(20), 2)
 
 
 if __name__ == "__main__":

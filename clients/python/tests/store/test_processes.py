@@ -22,8 +22,7 @@ class Processes(Case):
 
     def test_a_request_goes_on_elsewhere(self):
         """Begun here, worked on by two processes, and resumed by a third service."""
-        asking = self.service()
-        asking._workers = 0  # it only asks
+        asking = self.service(workers=0)
         worker = [self.worker() for _ in range(2)]
         elsewhere = asking.request("r")
         stages = [elsewhere.supply(f.slow, 0.01) for _ in range(12)]
@@ -35,8 +34,7 @@ class Processes(Case):
             self.assertEqual(process.wait(60), 0, process.stderr.read())
 
     def test_resume(self):
-        first = self.service()
-        first._workers = 0
+        first = self.service(workers=0)
         stage_elsewhere = first.request("r").supply(f.load, 5).then(f.number)
         time.sleep(0.2)
         self.assertFalse(stage_elsewhere.done())
@@ -67,8 +65,7 @@ class Processes(Case):
         return stage_elsewhere
 
     def test_once(self):
-        asking, path = self.service(), f"{self.folder.name}/mark"
-        asking._workers = 0
+        asking, path = self.service(workers=0), f"{self.folder.name}/mark"
         stage_elsewhere = self.killed(asking.request("r").supply(f.mark, path, 30), path)
         self.assertIsInstance(stage_elsewhere.exception(30), Abandoned)
         self.assertIn("may have run", str(stage_elsewhere.exception()))
@@ -76,17 +73,15 @@ class Processes(Case):
 
     def test_what_was_composed_goes_on_elsewhere(self):
         """The process is killed that composed and ran what came of it: another one sees the end of it."""
-        asking, path = self.service(), f"{self.folder.name}/mark"
-        asking._workers = 0
+        asking, path = self.service(workers=0), f"{self.folder.name}/mark"
         elsewhere = asking.request("r")
         order = elsewhere.promise()
         stage_elsewhere = order.compose(f.marking)
         order.complete(path)
-        self.assertIn("sorry, the worker that ran mark is gone", self.killed(stage_elsewhere, path, lambda: elsewhere._view.links).result(30))
+        self.assertIn("sorry, the worker that ran mark is gone", self.killed(stage_elsewhere, path, lambda: elsewhere._row().links).result(30))
 
     def test_again(self):
-        asking, path = self.service(), f"{self.folder.name}/mark"
-        asking._workers = 0
+        asking, path = self.service(workers=0), f"{self.folder.name}/mark"
         flow = Flow("job")
         last = flow.supply(f.mark, path, 1.5).again(2)
         elsewhere = asking.start(flow, name="r")

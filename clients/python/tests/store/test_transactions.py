@@ -14,8 +14,9 @@ import unittest.mock
 from case import Case, STORES
 import shared_functions as f
 from cf.service import Flow
-from cf.service.words import CLAIM
-from cf.store import connect, DurableService, Functions, Memory, Put, service as shared_service, sqlite as shared_sqlite, StoreError, Unknown
+from cf.service.words import ATTACH, CLAIM, FINISH
+from cf.store import leader as leading
+from cf.store import connect, DurableService, Functions, Memory, Put, sqlite as shared_sqlite, StoreError, Unknown
 
 
 class Effects(Memory):
@@ -52,7 +53,7 @@ class Effects(Memory):
 class Transactions(Case):
     def impatient(self):
         """A thread that waits for itself is told so before the test gives up."""
-        for of, name in ((shared_sqlite, "LONGEST_WAIT"), (shared_service, "PATIENCE")):
+        for of, name in ((shared_sqlite, "LONGEST_WAIT"), (leading, "PATIENCE")):
             patch = unittest.mock.patch.object(of, name, 5)
             patch.start()
             self.addCleanup(patch.stop)
@@ -219,7 +220,7 @@ class Transactions(Case):
                 pay = paying.function("pay", transactional=True)(pay)
                 transacting = paying.request("r")
                 self.assertIsInstance(transacting.supply(pay).exception(20), KeyError)
-                self.until(lambda: not transacting._view.claims())
+                self.until(lambda: not transacting._row().claims())
                 self.assertEqual((paid_store.effects, len(called)), ([], int(meanwhile)))
                 paying.shutdown(), other.shutdown()
 
@@ -279,11 +280,11 @@ class Transactions(Case):
                 raise refused.pop()
             return real()
 
-        with unittest.mock.patch.object(service.store, "transaction", transaction), unittest.mock.patch.object(type(service._host), "rest") as rests:
-            with self.assertLogs("cf.store", "WARNING") as logs:
-                self.assertEqual(service.request("r").supply(function).result(20), 7)
-        self.assertEqual([call.args for call in rests.mock_calls], [(service._stops, 0.5)] * 2)
-        self.assertEqual({it.getMessage() for it in logs.records}, {"request 'r', stage 0: it can only be read"})
+        with unittest.mock.patch.object(service.store, "transaction", transaction), self.assertLogs("cf.store", "WARNING") as logs:
+            self.assertEqual(service.request("r").supply(function).result(20), 7)
+        self.assertEqual(refused, [])
+        self.assertIn("'r'", logs.records[0].getMessage())
+        self.assertIn("it can only be read", logs.records[0].getMessage())
 
 
 class KilledTransactions(Case):
@@ -291,8 +292,7 @@ class KilledTransactions(Case):
 
     def test_in_the_engines_transaction(self):
         """A worker dies between the effect and the finish: the effect is undone, and the next try does it, once."""
-        paying, path = self.service(), f"{self.folder.name}/db"
-        paying._workers = 0
+        paying, path = self.service(workers=0), f"{self.folder.name}/db"
         db = sqlite3.connect(path, isolation_level=None)
         db.execute("create table paid (account text)")
         worker = self.worker()
@@ -314,7 +314,7 @@ class KilledTransactions(Case):
         """The connection drops around the commit: the effect stands exactly once, whether it had landed or not."""
         from cf.store import sqlite as store_of
 
-        path, real, notes = f"{self.folder.name}/db", store_of._Transaction.commit, []
+        path, real = f"{self.folder.name}/db", store_of._Transaction.commit
         db = sqlite3.connect(path, isolation_level=None)
         db.execute("create table paid (account text)")
         try:
@@ -331,12 +331,12 @@ class KilledTransactions(Case):
                 store_of._Transaction.commit = commit
                 name = f"lands {lands}"
                 with self.assertLogs("cf.store", "WARNING") as logged:
-                    paying = self.service(note=lambda *said: notes.append(said))
+                    paying = self.service()
                     self.assertEqual(paying.request(name).supply(f.pay, name).result(30), name)
                     end = time.monotonic() + 30  # the stage may be told before the worker has said what was cut
                     while not logged.records and time.monotonic() < end:
                         time.sleep(0.01)
-                self.assertEqual([said[3] >> 56 for said in notes if said[0] == "did" and said[1] == name], [7, 4, 5])
+                self.assertEqual([word >> 56 for word, _ in paying.store.read(name)], [ATTACH, CLAIM, FINISH])
         finally:
             store_of._Transaction.commit = real
         self.assertEqual(sorted(db.execute("select account from paid").fetchall()), [("lands False",), ("lands True",)])

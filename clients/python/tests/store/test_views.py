@@ -211,7 +211,7 @@ class Views(Case):
                 store.append = append
                 other.act(lambda view: [(COMPLETE << 56 | view.caller_number << 48, None)])
                 view.catch_up()
-                self.assertEqual(list(view.found_claims), [0] if lands else [])
+                self.assertEqual(view.claims(), {0: view.session} if lands else {})
                 done, _ = view.act(lambda view: [(FINISH << 56 | view.caller_number << 48, None)])
                 self.assertEqual((done[0].reply[0], view.caller_number, other.caller_number), (1, 0, 1) if lands else (2, 1, 0))
 
@@ -253,7 +253,7 @@ class Views(Case):
         self.assertEqual([word >> 48 & 0xFF for word, _ in store.read("r")], [0, 1, 0])
 
     def test_tokens_of_lost_puts(self):
-        """Whose place was taken is forgotten: a later word of the same token isn't that one."""
+        """Whose place was taken is forgotten."""
         store = Silent(False)
         view, other = self.view(store), self.view(store)
         view._patience, store.append = 0, lambda put: self.silent()
@@ -261,13 +261,10 @@ class Views(Case):
             self.claim(view)
         del store.append
         store.lands = None
-        (lost,) = view._in_doubt
+        self.assertEqual(len(view._in_doubt), 1)
         other.act(lambda view: [(COMPLETE << 56 | view.caller_number << 48, None)])
         view.catch_up()
         self.assertEqual(view._in_doubt, {})
-        store.append(Put("r", 1, [(CLAIM << 56, lost)], {}))
-        view.catch_up()
-        self.assertEqual(view.found_claims, {})
 
     def test_tokens_of_views(self):
         """Two views of one session give different tokens, by chance."""
@@ -460,29 +457,6 @@ class Watchers(unittest.TestCase):
         host.now = 7.0
         watcher.note_signs_of_life([5])
         self.assertEqual(self.gone_at(watcher, host, 5), 19)
-
-    def test_which_words_are_signs_of_life(self):
-        """Those that come behind what was seen, and not those of a row that is read for the first time."""
-        store, host = Memory(), ByHand()
-        asks, other, gone = DurableService(store, 0, lease=1000), new_session(), new_session()
-
-        def puts(session, name):
-            view = RowView(store, store.open(name, EMPTY), session, 60, None, host)
-            view.catch_up()
-            view.act(lambda view: [(ATTACH << 56 | view.caller_number << 48, b'{"name": "p"}')])
-
-        puts(gone, "old")
-        puts(other, "r")
-        request = asks.open("r")
-        asks.open("old")
-        self.assertFalse({other, gone} & asks._watcher._seen.keys())
-        puts(other, "r")
-        request._catch_up()
-        self.assertIn(other, asks._watcher._seen)
-        puts(gone, "r")
-        request.promise()
-        self.assertIn(gone, asks._watcher._seen)
-        asks.shutdown()
 
     def test_silence_isnt_absence(self):
         """While the store was silent nobody could say that he is there: nobody is thought gone by that."""

