@@ -3,17 +3,17 @@ import concurrent.futures
 import functools
 import random
 import threading
-from typing import TYPE_CHECKING, Any, Callable, List, NamedTuple, Optional, Sequence, Set, TypeVar
+from typing import TYPE_CHECKING, Any, Callable, List, NamedTuple, Optional, TypeVar
 
 from ..service.history import describe_all
-from ..service.words import ANSWER, CLAIM, name_of
+from ..service.words import name_of
+from ..store.followed import Call, Followed
 from ..store.functions import Functions
 from ..store.host import Host
 from ..store.request import DurableStage
 from ..store.rows import Gone as Dropped
 from ..store.rows import Timer
 from ..store.service import DurableService
-from ..store.view import DoneWord
 from .answers import OF_CALLS
 from .footprints import CHANGES, CHECKED, READS, USER, Thing
 from .marks import names_of
@@ -27,11 +27,10 @@ T = TypeVar("T")
 
 
 class Job(NamedTuple):
-    """What a thread of a process is to do: something for a request, or what a test says."""
+    """What a thread of a process is to do: to call a function, to lead, or what a test says, which has a name, too."""
 
     number: int
-    request: str
-    word: str  # the method of the service, or "calls"
+    name: str
     act: Callable[[], object]
 
 
@@ -50,13 +49,12 @@ class Process(DurableService):
         self.host: ProcessHost = ProcessHost(world, self, ahead)
         self.is_dead = False
         self.workers: int = workers
-        self.queue: List[Job] = []  # what its threads are to do
+        self.queue: List[Job] = []  # the functions that its threads are to call
         self.callers: List[Job] = []
-        self.jobs_made = 0
+        self.jobs_made = self.answers = 0
         self.due_now: List[Timer] = []  # what it is told of limits that have passed
-        self.stuck: Set[str] = set()  # the requests in which it couldn't do something
         self.takes_all: bool = takes_all
-        super().__init__(ProcessStore(world, self), workers, functions=functions, lease=lease, takes_all=takes_all, note=self._noted, host=self.host)
+        super().__init__(ProcessStore(world, self), workers, functions=functions, lease=lease, takes_all=takes_all, host=self.host)
         self._world = world
         self.lease: float = lease
 
@@ -67,8 +65,17 @@ class Process(DurableService):
             call: A function without arguments. It may put and wait. What it raises fails the order.
             name: What is told of it; by default the process's name."""
         self._world.touch(self.thing, CHANGES)
-        self.callers.append(Job(self.jobs_made, name or self.name, "calls", call))
+        self.callers.append(self.job(name or self.name, call))
+
+    def job(self, name: str, act: Callable[[], object]) -> Job:
+        """A new one."""
         self.jobs_made += 1
+        return Job(self.jobs_made - 1, name, act)
+
+    def lead(self) -> None:
+        """Does all orders that are to be done now."""
+        while self.leader.step() is None:
+            pass
 
     def now(self) -> float:
         """The seconds of its own clock, which is the world's and what it is ahead of that."""
@@ -82,22 +89,13 @@ class Process(DurableService):
 
     def works_on(self, name: str) -> bool:
         """Whether it works on a request."""
-        return self.takes_all or name in self._requests or name in self._left
-
-    def _note_signs_of_life(self, news: Sequence[DoneWord]) -> None:
-        """Words are no signs of life here: by one move a process reads a claim and takes for gone who has put it."""
-
-    def _noted(self, what: str, name: str, place: int, word: int, reply: Any) -> None:
-        if what == "did" and word >> 56 == CLAIM and not reply[ANSWER]:
-            self._world.granted.append((self.name, name, word >> 36 & 0xFFF))
-        if what == "did":
-            self._world.answered.append((self.name, name, place, word))
+        return self.takes_all or self.leader.followed(name) is not None
 
 
 class ProcessHost(Host):
     """Time, chance, locks and threads of a process, which are the search's."""
 
-    leaves = LEAVES
+    leaves, glances = LEAVES, False
 
     def __init__(self, world: "WorldStore", process: Process, ahead: float) -> None:
         self.world, self.process = world, process
@@ -117,14 +115,25 @@ class ProcessHost(Host):
     def rest(self, stops: threading.Event, seconds: float) -> None:
         """As `sleep`."""
 
+    def wait(self, change: threading.Condition, seconds: float) -> None:
+        """Another thread of the process gets an answer of the store, if it waits for one, or else the time passes."""
+        flight = self.world.current()
+        if flight is None or not any(it is not flight and it.wait is not None and len(it.wait.ways) > 1 for it in self.world.flights(self.process)):
+            self.clock += seconds
+            return
+        change.release()
+        answers = self.process.answers
+        self.world.run.wait_for("another thread", (self.process.thing,), lambda: self.process.answers != answers, None)
+        change.acquire()
+
     def number(self, bits: int) -> int:
         return self._random.getrandbits(bits)
 
     def lock(self) -> "WorldLock":
         return WorldLock(self.world)
 
-    def pool(self, workers: int, name: str) -> "WorldPool":
-        return WorldPool(self.process)
+    def pool(self, workers: int, name: str) -> concurrent.futures.Executor:
+        return AtOnce() if name.endswith("_shows") else WorldPool(self.process)
 
     def pump(self, run: Callable[[], None], name: str) -> threading.Thread:
         return NoThread()
@@ -134,7 +143,10 @@ class ProcessHost(Host):
         if flight is None:
             return known.call(*args, **kwargs)
         run = self.world.run
-        run.wait_for(f"calls {known.name}", (), _always, None, OF_CALLS, lambda: (0,))
+        if flight.is_fresh:
+            flight.is_fresh = False  # (it begins with that)
+        else:
+            run.wait_for(f"calls {known.name}", (), _always, None, OF_CALLS, lambda: (0,))
         names = names_of(known.call)
         things = [USER] if names is None else [("user", name) for name in names]
         if names is not None and run.checks:
@@ -150,8 +162,7 @@ class ProcessHost(Host):
             flight.touches = before
 
     def warn(self, text: str, request: str) -> None:
-        if request:
-            self.process.stuck.add(request)
+        """What can't be done now is done later."""
 
     def report_failure(self, text: str, error: BaseException) -> None:
         """Functions may raise."""
@@ -224,6 +235,9 @@ class WorldLock:
         self._owner: Any = None
         self._many = 0
 
+    def _is_owned(self) -> bool:
+        return self._owner is (self._world.current() or self._world)
+
     def acquire(self, blocking: bool = True) -> bool:
         """As `threading.RLock.acquire`."""
         me: Any = self._world.current() or self._world
@@ -254,15 +268,25 @@ class WorldPool(concurrent.futures.Executor):
         self._process = process
 
     def submit(self, fn: Callable[..., Any], /, *args: Any, **kwargs: Any) -> Any:
-        """Its only caller hands over a request's name, and a method with what that is called with."""
-        process = self._process
-        word = str(args[1].__name__)
-        process.queue.append(Job(process.jobs_made, str(args[0]), word, lambda: fn(*args, **kwargs)))
-        process.jobs_made += 1
+        """Its only caller hands over a request, an order and a call, or what puts a transactional function."""
+        request: Followed = args[0]
+        if isinstance(args[2], Call) and args[2].known.is_transactional:
+            fn(*args)  # (it is called later)
+        else:
+            name = request.name_of_function(args[1].stage if isinstance(args[2], Call) else args[3])
+            self._process.queue.append(self._process.job(name, lambda: fn(*args, **kwargs)))
         return concurrent.futures.Future()
 
     def shutdown(self, wait: bool = True, *, cancel_futures: bool = False) -> None:
         """Threads take nothing more: the service says so."""
+
+
+class AtOnce(concurrent.futures.Executor):
+    """Calls those who wait for a stage."""
+
+    def submit(self, fn: Callable[..., Any], /, *args: Any, **kwargs: Any) -> Any:
+        fn(*args, **kwargs)
+        return concurrent.futures.Future()
 
 
 class NoThread(threading.Thread):

@@ -1,12 +1,12 @@
 """The rows of a world's store: what stands, what is on its way, and a store of each process that goes through the
 search."""
 import contextlib
-from typing import TYPE_CHECKING, Any, Callable, ContextManager, Dict, List, Optional, Sequence, Tuple, TypeVar
+from typing import TYPE_CHECKING, Any, Callable, ContextManager, Dict, List, NamedTuple, Optional, Sequence, Tuple, TypeVar
 
 from ..service.history import describe_all
-from ..service.words import ATTACH, CANCEL, CANCELLED, CLAIM, COMPLETE, FAIL, FAIL_AS, FINISH, LINKS, THROWN, THROWS, TIMED_OUT, VALUE
+from ..service.words import ANSWER, ATTACH, CANCEL, CANCELLED, CLAIM, COMPLETE, FAIL, FAIL_AS, FINISH, LINKS, THROWN, THROWS, TIMED_OUT, VALUE
 from ..store.codec import Json
-from ..store.rows import Entry, Glance, ListedRequest, Memory, Opened, Put, Store, Timer, Transaction
+from ..store.rows import COUNT_BITS, Entry, Glance, ListedRequest, Memory, Opened, Put, Store, Timer, Transaction
 from ..store.view import RowView
 from .answers import OF_PUTS, OF_READS, OF_WRITES
 from .footprints import CHANGES, READS, Thing
@@ -21,6 +21,15 @@ DONE = {CLAIM: "is claimed", COMPLETE: "is completed", FAIL: "is failed", CANCEL
 FINISHED = {THROWS: "has raised", LINKS: "is linked"}
 
 
+class Grant(NamedTuple):
+    """A claim that was granted."""
+
+    opened: Opened
+    place: int
+    stage: int
+    session: int
+
+
 class Rows:
     """What stands. Each call touches what it reads or changes."""
 
@@ -31,6 +40,7 @@ class Rows:
         self.effects: List[Any] = []  # of transactional functions
         self.told: List[str] = []  # what came to stand in this move
         self.timers: Dict[Tuple[str, int], Tuple[int, Timer]] = {}  # with the number of each
+        self.granted: List[Grant] = []
         self._touch, self._timers_made = touch, 0
 
     def view(self, name: str) -> Optional[RowView]:
@@ -73,6 +83,8 @@ class Rows:
         if stands is None:
             view = self.views[put.request]
             for done in view.catch_up():
+                if done.word >> 56 == CLAIM and not done.reply[ANSWER]:
+                    self.granted.append(Grant(view.opened, done.place, done.word >> 36 & 0xFFF, done.token >> COUNT_BITS))
                 self.told += [f"{view.definition(stage)['name']} {ended(view, stage)}" for stage in done.settled]
         else:
             self.told.append("another's word stands there")

@@ -1,18 +1,18 @@
 """A store of a world, its processes, and their moves.
 
-    job p n       thread n of process p begins: it works on a request, or does what a test says
+    job p n       thread n of process p begins: it calls a function, or does what a test says
     ask p n m k   what it asked of the store is answered in way k, or a function is called, and it goes on; it is the
                   mth time. What a test has a process call goes on in a move of its own once something was changed
     go p n        it goes on with what it waited for
-    look p        the process looks what is new, and one of its threads begins with that
+    look p        the process looks what is new, and a thread of it does what its machine orders then
     due p r s n   the process finds that the limit of stage s of request r is over, which was the nth
-    gone p q      the process takes q for gone, and one of its threads abandons what q has claimed
+    gone p q      the process takes q for gone
     kill p        the process is killed
     land n        the nth put that was on its way comes to the store
     spare         nobody is killed any more, or taken for gone while it is there
 
-A process looks only if that leads to something. Its look and the first read that follows are one move, since nobody can
-see anything between them. Footprints have the rows that a move reads or changes in the store. Each move of a process
+A process looks only if that leads to something. Its look and the reads that follow are one move, since nobody can see
+anything between them. Footprints have the rows that a move reads or changes in the store. Each move of a process
 also changes the process itself, so the search tries both orders of any two of its moves.
 """
 import contextlib
@@ -22,13 +22,13 @@ from typing import TYPE_CHECKING, Any, Callable, List, Optional, Sequence, Tuple
 from ..service.history import History
 from ..store.codec import Json
 from ..store.functions import Functions
-from ..store.rows import Put, Timer, Unknown
-from ..store.service import PATIENCE
+from ..store.rows import COUNT_BITS, Opened, Put, Timer, Unknown
+from ..store.leader import PATIENCE
 from ..store.view import RowView
 from .answers import OF_CALLS, OF_READS, Answer, Bounds
 from .carriers import CARRIERS, RunEnded
 from .footprints import CHANGES, READS, USER, Move, Thing
-from .processes import Job, Process, WorldStage
+from .processes import Process, WorldStage
 from .rows import Rows, ended, outcome
 from .state import Flight
 
@@ -38,23 +38,19 @@ if TYPE_CHECKING:
 T = TypeVar("T")
 KILLS: Thing = ("kills",)
 FAULTS: Thing = ("faults",)
-LOOKS = 5  # at beats, until a silent process is taken for gone
+LOOKS = 6  # at beats, until a silent process is taken for gone
 
 
 class WorldStore:
     """Rows in memory that processes of a world share. `World.store` gives it.
 
-    Attributes:
-        granted: The granted claims whose answers came: the process's name, the request's and the stage.
-        answered: The words that a process knows to stand: the process's name, the request's, place and word."""
+    What is granted and answered is told by what processes have seen."""
 
     def __init__(self, run: "Run", bounds: Bounds) -> None:
         self.run: "Run" = run
         self.bounds: Bounds = bounds
         self.processes: List[Process] = []
         self.rows: Rows = Rows(self.touch)
-        self.granted: List[Tuple[str, str, int]] = []
-        self.answered: List[Tuple[str, str, int, int]] = []
         self._flying: List[Tuple[Put, Callable[[], object]]] = []  # puts that are or were on their way, with acts
         self._landed: List[int] = []
         self._dead: List[Flight] = []
@@ -103,6 +99,29 @@ class WorldStore:
         self.touch(("effects",), READS)
         return self.rows.effects
 
+    @property
+    def granted(self) -> List[Tuple[str, str, int]]:
+        """The granted claims whose answers came: the process's name, the request's and the stage."""
+        its = {it.session: it for it in self.processes}
+        seen = [(its[it.session], it) for it in self.rows.granted if it.session in its]
+        return [(by.name, it.opened.name, it.stage) for by, it in seen if self._has_seen(by, it.opened, it.place)]
+
+    @staticmethod
+    def _has_seen(process: Process, opened: Opened, place: int) -> bool:
+        request = process.leader.followed(opened.name)
+        return request is not None and request.number == opened.number and place <= request.words
+
+    @property
+    def answered(self) -> List[Tuple[str, str, int, int]]:
+        """The words that a process knows to stand: the process's name, the request's, place and word."""
+        told = []
+        for process in self.processes:
+            for name in self.rows.names:
+                request = process.leader.followed(name)
+                entries = [] if request is None else request.entries
+                told += [(process.name, name, k, word) for k, (word, token) in enumerate(entries, 1) if token >> COUNT_BITS == process.session]
+        return told
+
     def outcomes(self) -> List[str]:
         """The outcome of each stage of each request, by all words in the store, for comparing the ends of orders."""
         told = []
@@ -150,9 +169,7 @@ class WorldStore:
         flight = self.flight_of(process)
         if process.is_dead:
             raise RunEnded
-        if flight is None or flight.is_fresh and answers is OF_READS:
-            if flight is not None:
-                flight.is_fresh = False
+        if flight is None or answers is OF_READS and (flight.is_fresh or not flight.is_caller or len(self._possible(answers)) == 1):
             return act()
         flight.is_fresh = False
         chosen: Answer = self.run.wait_for(text, (), _always, None, answers, lambda: self._possible(answers))
@@ -171,8 +188,10 @@ class WorldStore:
                 process.host.clock += PATIENCE + 1
             raise Unknown("no answer")
         finally:
+            process.answers += 1
             if flight.is_caller and chosen.stands and answers is not OF_READS:  # a test's own lines follow
                 self.run.wait_for("goes on", (), _always, None, OF_CALLS, lambda: (0,))
+                flight.is_fresh = True
 
     def _possible(self, answers: Sequence[Answer]) -> List[int]:
         return [k for k, answer in enumerate(answers) if self.bounds.allows(answer.costs)]
@@ -188,21 +207,20 @@ class WorldStore:
             keys += self._moves_of(process)
         keys += self._notice_moves(free)
         keys += [("land", number) for number, (put, _) in enumerate(self._flying) if self._may_land(number, put)]
-        slow: List[Move] = [move for other in living if self._flights(other) for move in self._takeover_moves(other, free)]
+        busy = [it for it in living if self.flights(it) or it.queue or it.leader.is_unanswered]
+        slow: List[Move] = [move for other in busy for move in self._takeover_moves(other, free)]
         slow = slow if self.bounds.slow > 0 else []
-        kills: List[Move] = [("kill", it.key) for it in living if self.bounds.killed > 0 and self._flights(it)]
+        kills: List[Move] = [("kill", it.key) for it in busy if self.bounds.killed > 0]
         if (slow or kills) and (self.run.settings.is_reduced or not (keys or others)):
             keys.append(("spare",))
         return keys + slow + kills
 
     def _moves_of(self, process: Process) -> List[Move]:
         keys: List[Move] = [("job", process.key, job.number) for job in process.callers]
-        if self._is_free(process):
-            job = self._next_job(process)
-            if job is not None:
-                keys.append(("job", process.key, job.number))
-            elif any(self._matters(process, name) for name in self.rows.names) or process.stuck:
-                keys.append(("look", process.key))
+        if process.queue and self._calling(process) < max(process.workers, 1):
+            keys.append(("job", process.key, process.queue[0].number))
+        if self._is_free(process) and (process.leader.is_unanswered or any(self._matters(process, name) for name in self.rows.names)):
+            keys.append(("look", process.key))
         return keys
 
     def _notice_moves(self, free: List[Process]) -> List[Move]:
@@ -223,32 +241,32 @@ class WorldStore:
         view = self.rows.view(put.request)
         return number not in self._landed and view is not None and view.opened.number == put.number and view.words_seen == put.at
 
-    def _flights(self, process: Process) -> List[Flight]:
+    def flights(self, process: Process) -> List[Flight]:
+        """What its threads do."""
         return [flight for flight in self.run.flights.values() if flight.process is process]
 
-    def _is_free(self, process: Process) -> bool:
-        """Whether a thread of its pool is free."""
-        busy = sum(not flight.is_caller for flight in self._flights(process))
-        return busy < max(process.workers, 1) and not process._stops.is_set()
+    def _calling(self, process: Process) -> int:
+        """How many of its threads call functions."""
+        return sum(not (flight.is_caller or flight.is_leading) for flight in self.flights(process))
 
-    def _next_job(self, process: Process) -> Optional[Job]:
-        return next((job for job in process.queue if job.word == "_fire" or job.word == "_work" and self._matters(process, job.request)), None)
+    def _is_free(self, process: Process) -> bool:
+        """Whether none of its threads leads."""
+        return not process.leader.is_stopping and not any(flight.is_leading for flight in self.flights(process))
 
     def _matters(self, process: Process, name: str) -> bool:
         """Whether a look at a request gives a process something to do or to show."""
-        view, request = self.rows.view(name), process._requests.get(name) or process._left.get(name)
-        if view is None or not process.works_on(name) or name in process.broken:
+        view, request = self.rows.view(name), process.leader.followed(name)
+        if view is None or not process.works_on(name) or request is not None and (request.is_asked or request.why is not None):
             return False
         is_open = name in self.rows.memory.ends()
-        if is_open and process.workers and any(self._knows(process, view, stage) for stage in view.ready):
+        is_idle = self._calling(process) + len(process.queue) < process.workers
+        if is_open and is_idle and any(self._knows(process, view, stage) for stage in view.ready):
             return True
         if request is None:
             return False
-        shows = any(
-            isinstance(stage, WorldStage) and not stage.is_shown() and view.is_settled(number) for number, stage in list(request._stages.items())
-        )
+        shows = any(stage < len(view.forms) and view.is_settled(stage) for stage in list(request.waiters))
         closes = is_open and bool(view.plan.rows) and view.is_done()
-        return shows or closes or is_open and self._relays(view) or bool(request._view.found_claims)
+        return shows or closes or is_open and self._relays(view)
 
     def _knows(self, process: Process, view: RowView, stage: int) -> bool:
         said = view.called_definition(stage)
@@ -270,7 +288,7 @@ class WorldStore:
 
     def _is_due(self, process: Process, timer: Timer) -> bool:
         view = self.rows.view(timer.request)
-        return process.works_on(timer.request) and view is not None and timer[:3] not in process._firing and not view.is_settled(timer.stage)
+        return process.works_on(timer.request) and view is not None and not process.leader.is_firing(timer) and not view.is_settled(timer.stage)
 
     def _has_claim(self, process: Process, other: Process) -> bool:
         """Whether a process works on a request in which the other one has a claim."""
@@ -289,18 +307,16 @@ class WorldStore:
         for jobs in (process.queue, process.callers):
             for job in [job for job in jobs if job.number == number]:
                 jobs.remove(job)
-                self._begin(process, job)
+                flight = Flight(job.name if jobs is process.callers else process.name, lambda: self.run._raised_by(job.act, job.name))
+                flight.is_caller, flight.is_fresh = jobs is process.callers, jobs is process.queue
+                self._begin(process, number, flight)
 
-    def _begin(self, process: Process, job: Job) -> None:
-        is_caller = job.word == "calls"
-        name = job.request if is_caller else process.name
-        flight = Flight(name, lambda: self.run._raised_by(job.act, name))
-        flight.process, flight.is_caller, flight.touches = process, is_caller, [process.thing]
-        flight.is_fresh = not is_caller
-        if is_caller:
+    def _begin(self, process: Process, number: int, flight: Flight) -> None:
+        flight.process, flight.touches = process, [process.thing]
+        if flight.is_caller:
             flight.touches.append(USER)
             self.touch(USER, CHANGES)
-        thing = (process.key, job.number)
+        thing = (process.key, number)
         self.run.flights[thing] = flight
         self.run._carry(flight)
         if flight.word == "end":
@@ -312,31 +328,29 @@ class WorldStore:
         self.run._do_choose(process.key, number, way)
 
     def _do_look(self, process: Process) -> None:
-        process.stuck.clear()
-        self._round(process, self.processes)
-        self._begin_next(process)
+        self._pass(process, self.processes)
+        self._lead(process)
 
-    def _begin_next(self, process: Process) -> None:
-        job = self._next_job(process) or next((job for job in process.queue if job.word == "_work"), None)
-        if job is not None:
-            process.queue.remove(job)
-            self._begin(process, job)
+    def _lead(self, process: Process) -> None:
+        """A thread of a process looks what is new, and does what its machine orders then."""
+        job = process.job(process.name, process.lead)
+        flight = Flight(process.name, lambda: self.run._raised_by(job.act, job.name))
+        flight.is_leading = flight.is_fresh = True
+        self._begin(process, job.number, flight)
 
-    def _round(self, process: Process, beating: Sequence[Process]) -> None:
-        """Lets some time pass, lets living processes beat, and has a process look at the store."""
+    def _pass(self, process: Process, beating: Sequence[Process]) -> None:
+        """Lets some time pass, and living processes beat."""
         process.host.clock += process.lease / 4
         for other in beating:
             if not other.is_dead:
                 self.rows.memory.beat(other.session)
-        process._round()
 
     def _do_due(self, process: Process, request: int, stage: int, _: int) -> None:
         timer = self.rows.timers[self.rows.names[request], stage][1]
         self.touch(("row", timer.request), READS)
         process.due_now[:] = [timer]
-        self._round(process, self.processes)
+        self._do_look(process)
         process.due_now.clear()
-        self._begin_next(process)
 
     def _do_gone(self, process: Process, number: int) -> None:
         other = self.processes[number]
@@ -345,13 +359,9 @@ class WorldStore:
             self.touch(KILLS, CHANGES)
             self.bounds = self.bounds.minus(("slow",))
         for _ in range(LOOKS):
-            process.host.clock += process.lease / 4
-            for each in self.processes:
-                if each is not other and not each.is_dead:
-                    self.rows.memory.beat(each.session)
-            process._beat()
-        self._round(process, [each for each in self.processes if each is not other])
-        self._begin_next(process)
+            self._pass(process, [each for each in self.processes if each is not other])
+            process.leader.beat()
+        self._lead(process)
 
     def _do_kill(self, process: Process) -> None:
         self.touch(KILLS, CHANGES)
@@ -379,8 +389,10 @@ class WorldStore:
             return "nobody is killed any more"
         process = self.processes[int(key[1][1:])]
         if word == "job":
-            job = next(job for job in (*process.callers, *process.queue) if job.number == key[2])
-            return f"{job.request} begins" if job.word == "calls" else f"{process.name} works on {job.request}"
+            called = next((job.name for job in process.queue if job.number == key[2]), None)
+            if called is not None:
+                return f"{process.name} calls {called}"
+            return f"{next(job.name for job in process.callers if job.number == key[2])} begins"
         if word == "ask":
             flight = self.run.flights[key[1:3]]
             assert flight.wait is not None

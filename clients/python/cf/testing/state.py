@@ -60,7 +60,8 @@ class Flight:
         self.touches: List[Thing] = [USER]  # with each move
         self.process: Optional[object] = None  # of a store, of which it is a thread
         self.asked = 0  # how often it asked the store for something, or was about to call a function
-        self.is_caller = self.is_fresh = False  # what a test has it call; it hasn't asked the store for anything yet
+        self.is_caller = self.is_fresh = False  # what a test has it call; what it reads is part of its move
+        self.is_leading = False  # it does what its process's machine orders, and calls no function
 
 
 class Tail:

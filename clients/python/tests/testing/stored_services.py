@@ -73,7 +73,7 @@ def books_in_transaction(world):
 
 def told_unanswered(world, asks_again=False):
     told, functions = [], Functions()
-    store, shop = shop_and_workers(world, functions, 0, silent=1)
+    store, shop = shop_and_workers(world, functions, 0, silent=1, killed=1)
     approval = shop.request("order 17").promise("approval")
 
     def approve():
@@ -106,7 +106,7 @@ def opened_twice(world, same_name=False):
 
     flow = Flow("order")
     flow.supply(charge)
-    shop = world.store(silent=1).process("the shop", functions)
+    shop = world.store(silent=1).worker("the shop", functions)
 
     def order():
         for attempt in (1, 2):
