@@ -167,7 +167,7 @@ class Judge:
         return callers
 
     def reply_told(self, place, word, reply):
-        return reply_text(event_of(word), reply)
+        return "unknown" if reply is None else reply_text(event_of(word), reply)
 
     def saw(self, name, own, entries, states, place, stage, outcome):
         if place > len(entries):

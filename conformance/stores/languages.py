@@ -47,7 +47,7 @@ class Client(mixed.Client):
         super().shown(said, ["value", "another"] if told[0] == "value" and spoils("shows") else told)
 
     def attached(self, request, rng):
-        many, call = len(request._view.forms), CALLS[rng.choice(ONE)]
+        many, call = len(request._followed.forms), CALLS[rng.choice(ONE)]
         one, other = (request[rng.randrange(many)] if many else None for _ in range(2))
         pick = rng.random()
         if one is None or pick < 0.2:

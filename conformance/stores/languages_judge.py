@@ -66,13 +66,13 @@ class LanguagesJudge(MixedJudge):
             self.may[label_of(said["fn"], said["version"], args)][session] += 1
             self.count["stages run in another language"] += self.languages.get(session) != self.languages.get(self.came[stage][1], "python")
 
-    def finish(self, stage, tag, place, reply):
+    def finish(self, stage, tag, place, named, reply):
         if stage not in self.open or reply == "notyours":
             return
         _, said, args, passes = self.open.pop(stage)
         self.count["late finishes"] += reply == "late"
         value, error = (None, passes) if passes else RESULTS[said["fn"], said["version"]](*args)
-        found, wanted = self.thing(place) if tag else None, error or value
+        found, wanted = self.thing(named) if tag else None, error or value
         if tag == 2:
             found = ANY if wanted is ANY else {"error": found["error"], "text": found["text"]}
         if found != wanted or (tag == 2) != bool(error):

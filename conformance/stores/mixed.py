@@ -28,6 +28,8 @@ from process import Process, sure
 from cf.service import RequestFull
 from cf.store import Broken, DurableService, StoreError, Unknown, connect
 from cf.store import service as shared_service
+from cf.store.leader import Leader
+from cf.store.rows import COUNT_BITS
 
 WINDOW = int(os.environ.get("WINDOW", "8"))
 GONE = float(os.environ.get("GONE", "0.7"))
@@ -38,15 +40,31 @@ MORE = 8  # stages that are attached to a request at most, more or less
 TOLD = (Unknown, StoreError, KeyError, RequestFull, InvalidStateError)  # what a call may be answered while others drop the request
 
 
-class NotedView(shared_service.RowView):
-    """A view whose notes tell the request's number, and which view of the process it is."""
+class NotingLeader(Leader):
+    """Writes down which of its words it has seen stand, and which outcomes it shows, with the request's number."""
 
-    count = 0
+    note = None
 
-    def __init__(self, store, opened, session, patience, note, host, is_timed=False):
-        NotedView.count += 1
-        head = (opened.name, opened.number, session, NotedView.count)
-        super().__init__(store, opened, session, patience, lambda kind, name, *rest: note(kind, *head, *rest), host, is_timed)
+    def _take_in(self, order, request, entries):
+        at = request.words
+        super()._take_in(order, request, entries)
+        for place, (word, token) in enumerate(request.entries[at:], at + 1):
+            if token >> COUNT_BITS == self.session:
+                self.note("did", *self.head(request), place, word, None)
+
+    def _due_of(self, request, stages):
+        due = super()._due_of(request, stages)
+        for it in due:
+            self.note("saw", *self.head(request), request.words, it.stage, self._machine.stage(request.number, it.stage)[1])
+        return due
+
+    def head(self, request):
+        return request.name, request.number, self.session, f"{self.session} {request.number}"
+
+
+def forms(request):
+    """How many stages a request has."""
+    return len(request._followed.forms)
 
 
 class Errors(logging.Handler):
@@ -69,7 +87,7 @@ class Client(Process):
         self.hang = open(f"{folder}/hang-{os.getpid()}", "w")
         self.arm()
         stores = [self.connected(address) for _ in range(1 + (self.rng.random() < 0.4))]
-        shared_service.RowView, mixed_functions.note = NotedView, self.note
+        shared_service.Leader, NotingLeader.note, mixed_functions.note = NotingLeader, staticmethod(self.note), self.note
         self.services = [
             DurableService(
                 store,
@@ -78,7 +96,6 @@ class Client(Process):
                 lease=GONE,
                 takes_all=not k or self.rng.random() < 0.5,
                 groups=self.rng.random() < 0.3,
-                note=self.note,
             )
             for k, store in enumerate(stores)
         ]
@@ -138,15 +155,14 @@ class Client(Process):
 
     @staticmethod
     def number_of(request):
-        return request._view.opened.number
+        return request.number
 
     @staticmethod
     def open_stages(request):
-        desk = request._view
-        return [k for k in range(len(desk.forms)) if not desk.is_settled(k)]
+        return [k for k in range(forms(request)) if request._service.leader.outcome(request._followed, k) is None]
 
     def promises(self, request, name="promise"):
-        return [k for k in self.open_stages(request) if request._view.definition(k)["name"] == name]
+        return [k for k in self.open_stages(request) if request._definition(k)["name"] == name]
 
     # What a user does.
 
@@ -176,13 +192,13 @@ class Client(Process):
         """Attaches a stage. Where a flow's request is closed behind that, its row says whether the stage was settled by then: what this
         process reads of it may be stale, while a listing isn't."""
         stage, name, store = self.attached(request, rng), request.name, self.services[0].store
-        if request._view.plan.rows and name not in store.ends():
+        if request._followed.planned and name not in store.ends():
             for words in [it.words for it in store.listing() if it.name == name and it.closed is not None]:
                 self.note("closed behind", name, self.number_of(request), stage.number, words)
 
     def attached(self, request, rng):
         """A stage more, with or without further tries: what it is behind stands in any place."""
-        many, where = len(request._view.forms), f"{request.name}.{self.token()}"
+        many, where = forms(request), f"{request.name}.{self.token()}"
         call = functools.partial(functions.find(rng.choice(self.kinds), 1).call, where=where)
         one, other = (request[rng.randrange(many)] if many else None for _ in range(2))
         pick = rng.random()
@@ -233,13 +249,13 @@ class Client(Process):
             self.set_timer(request, rng.choice(left), rng)
         elif what != "attach" and promises:
             self.settle(request, rng.choice(promises), rng)
-        elif len(request._view.forms) < len(request._view.plan.rows) + MORE:
+        elif forms(request) < request._followed.planned + MORE:
             self.attach(request, rng)
 
     def step(self, number):
         rng = self.rng
         request = self.opened(number, rng)
-        stages, left, name = range(len(request._view.forms)), self.open_stages(request), request.name
+        stages, left, name = range(forms(request)), self.open_stages(request), request.name
         if stages and not left:
             self.settled(number, request)
             return
@@ -247,7 +263,7 @@ class Client(Process):
             if (name, self.number_of(request), stage) not in self.timed:
                 self.set_timer(request, stage, rng)
         pick, promises = rng.random(), self.promises(request)
-        may_attach = len(stages) < len(request._view.plan.rows) + MORE
+        may_attach = len(stages) < request._followed.planned + MORE
         if not stages or pick < 0.15 and may_attach:
             self.attach(request, rng)
         elif pick < 0.5 and promises:
@@ -269,7 +285,7 @@ class Client(Process):
     def settled(self, number, request):
         """All is settled: it is gone on with, or its name is begun anew, or it is left to be."""
         pick, name = self.rng.random(), request.name
-        if len(request._view.forms) < len(request._view.plan.rows) + MORE and pick < 0.5:
+        if forms(request) < request._followed.planned + MORE and pick < 0.5:
             if name not in self.store.ends():
                 self.note("opens", name, self.number_of(request))
             self.attach(request, self.rng)
@@ -337,8 +353,8 @@ class Client(Process):
         name, rng = listed.name, self.rng
         request = self.services[0].open(name)
         number, left = self.number_of(request), self.open_stages(request)
-        if left and listed.closed is not None and (not request._view.plan.rows or self.waited(alarms, (name, number), CLOSED)):
-            if request._view.plan.rows:
+        if left and listed.closed is not None and (not request._followed.planned or self.waited(alarms, (name, number), CLOSED)):
+            if request._followed.planned:
                 self.note("closed", name, number, listed.words)
             self.store.reopen(name)  # (others may have attached to it while it was ended)
         for stage in self.promises(request):
@@ -350,7 +366,7 @@ class Client(Process):
                 self.set_timer(request, stage, rng, 0.2)
             elif key not in self.timed:
                 self.set_timer(request, stage, rng)
-        if not left and listed.closed is None and not request._view.plan.rows:
+        if not left and listed.closed is None and not request._followed.planned:
             request.end()
         return len(left)
 

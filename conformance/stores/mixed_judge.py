@@ -212,8 +212,8 @@ class MixedJudge(Judge):
         """One word, once the plain graph has done it."""
         kind, stage, tag, low, graph = word >> 56, word >> 36 & 0xFFF, word >> 32 & 0xF, word & 0xFFFFFFFF, self.graph
         names = kind in (COMPLETE, FINISH) and tag == 1 or kind == FAIL or kind == FAIL_AS and low != 0 or kind == FINISH and tag == 2
-        if names and (low != place or place not in payloads):
-            self.wrong.append(f"{name}: place {place} names {low}" if low != place else f"{name}: no payload at {place}")
+        if names and (low > place or low not in payloads):  # (what is passed on is named where it stands)
+            self.wrong.append(f"{name}: place {place} names {low}" if low > place else f"{name}: no payload at {low}")
             return
         self.count["payloads"] += names
         if kind == ATTACH:
@@ -225,9 +225,9 @@ class MixedJudge(Judge):
             self.count["claims granted"] += 1
             self.claim(stage, token >> 23, reply)
         if kind == FINISH:
-            self.finish(stage, tag, place, reply)
+            self.finish(stage, tag, place, low, reply)
         if kind in (COMPLETE, FAIL, FAIL_AS, CANCEL):
-            self.by_hand(kind, stage, place, reply, token >> 23)
+            self.by_hand(kind, stage, place, low, reply, token >> 23)
         if reply == "notyours":
             self.wrong.append(f"{name}: place {place} finishes what another claimed")
         for k in range(graph.stages):
@@ -316,7 +316,7 @@ class MixedJudge(Judge):
                 for kind in self.kinds_of(stage) if stage < len(self.stages) else ():
                     self.count[f"{what} a {kind} stage"] += 1
 
-    def finish(self, stage, tag, place, reply):
+    def finish(self, stage, tag, place, named, reply):
         if stage not in self.open or reply == "notyours":
             return
         session, said, args, passes = self.open.pop(stage)
@@ -335,18 +335,20 @@ class MixedJudge(Judge):
                 self.misfit(place, f"{where} gives nothing")
             return
         wanted = passes or ({"error": "ValueError", "text": f"{where} raises"} if raises(where) else given_by(where, args))
-        found = self.thing(place)
+        if reply == "late" and said.get("fn") == "inside":  # (of one that isn't done any more nothing is said)
+            return
+        found = self.thing(named)
         if tag == 2:
             found = {"error": found["error"], "text": found["text"]}
         if found != wanted or (tag == 2) != bool(passes or raises(where)):
             self.misfit(place, f"{where} came to {found}, and had to come to {wanted}")
 
-    def by_hand(self, kind, stage, place, reply, session):
+    def by_hand(self, kind, stage, place, named, reply, session):
         """A word that settles a stage without a function: somebody has to have meant it."""
         if kind == CANCEL:
             return
         fails = kind in (FAIL, FAIL_AS)
-        said, given = self.stages[stage], self.thing(place if fails or self.entries[place - 1][0] >> 32 & 0xF else None)
+        said, given = self.stages[stage], self.thing(named if fails or self.entries[place - 1][0] >> 32 & 0xF else None)
         text = given["text"] if fails else ""
         is_relay = said["name"].startswith("what ")
         if kind == FAIL and given["error"] == "Abandoned" and "may have run" in text and not is_relay:
@@ -419,7 +421,7 @@ class MixedJudge(Judge):
             self.count["histories"] += 1
             entries = self.entries[:many]
             said = [None] + [
-                self.thing(place) if word >> 56 in (COMPLETE, FINISH) and word >> 32 & 0xF == 1 else None
+                self.thing(place) if word >> 56 in (COMPLETE, FINISH) and word >> 32 & 0xF == 1 and word & 0xFFFFFFFF == place else None
                 for place, (word, _) in enumerate(entries, 1)
             ]
             if len(entries) < many or zlib.crc32(json.dumps([word for word, _ in entries]).encode()) != words:

@@ -23,8 +23,8 @@ class Behind(Client):
         for service in self.services:
             service.shutdown()
         self.address, self.settles = address, True
-        self.services = [DurableService(connect(address), 0, functions=functions, note=self.note)]
-        self.other = DurableService(connect(address), 1, functions=functions, takes_all=True, note=self.note)
+        self.services = [DurableService(connect(address), 0, functions=functions)]
+        self.other = DurableService(connect(address), 1, functions=functions, takes_all=True)
 
     def attached(self, request, rng):
         stage = request.promise()
