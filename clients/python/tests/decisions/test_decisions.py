@@ -36,9 +36,7 @@ FORM = {"promise": "source", "either": "applyEither", "again": "exceptionally"}
 ERRORS = ("Abandoned", "StoreError", "CancelledError")  # kinds that the client makes
 WORDS = {CLAIM: "claim", COMPLETE: "complete", CANCEL: "cancel", FAIL: "fail", FINISH: "finish", FAIL_AS: "time out", ATTACH: "attach"}
 
-LEFT_OUT = {
-    "an act without an answer for a minute may stand": "its put goes on behind the minute for which its user waits",
-}
+LEFT_OUT = {"an act without an answer for a minute may stand": "its put goes on behind the minute for which its user waits"}
 KINDS = {"complete": ActKind.COMPLETE, "fail": ActKind.FAIL, "cancel": ActKind.CANCEL_IDLE, "abandon": ActKind.CANCEL}
 
 
