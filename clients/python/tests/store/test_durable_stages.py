@@ -378,6 +378,8 @@ class DurableStages(Case):
                     time.sleep(0.05)
                 return super().append_groups(puts)
 
+        # (a job in the background begins with the signal ignored)
+        self.addCleanup(signal.signal, signal.SIGINT, signal.signal(signal.SIGINT, signal.default_int_handler))
         service = DurableService(Slow(), 0, functions=f.functions)
         self.services.append(service)
         durable = service.request("r")
