@@ -169,8 +169,8 @@ int main(void) {
   takes("a put of it", plan_put(&view), 0);
   takes("more room for it", cf_row_grow(&view, ROOM), 22104);
   takes("a host", cf_host_new(&open_host, &host), 936);
-  takes("a request that it follows", cf_host_follow(&host, 1), 1040);
-  takes("its beats and news", look(&host), 2512);
+  takes("a request that it follows", cf_host_follow(&host, 1), 1080);
+  takes("its beats and news", look(&host), 2592);
   takes("a request's opening", begin(&host, &plan), 28690);
   takes("an act", cf_host_act(&host, 0, 1, &complete, &ticket), 256);
   takes("a host's work", work(&host), 8492);
